@@ -1,0 +1,106 @@
+ghost use Rattle.std.specs.Prelude.{◌≡◌, ◌↔◌, ◌++◌, ◌∷◌, ◌<◌, List, [], length, IsTrue, OnOk, OnErr, IfOk, option_copied, slice_get};
+
+use crate::copied::{Copied, Same};
+use crate::want::Want;
+use std::alloc::Global;
+use std::marker::Model;
+
+/// A list that contracts see as the list of its elements.
+#[derive(Drop)]
+pub struct Items<T: Drop> {
+    alloc: Global,
+    items: Vec<T, Global>,
+}
+
+impl<T: Drop> Model for Items<T> {
+    ghost Value = { List T };
+
+    ghost view = { λ list. list.items.items };
+}
+
+impl<T: Drop> Items<T> {
+    /// The empty list, which takes no memory.
+    pub fn new(alloc: Global) -> Self
+        ensures { result ≡ [] }
+    {
+        Items {
+            alloc,
+            items: Vec::new(alloc),
+        }
+    }
+
+    /// The list of the elements of `items`, which it takes over as they stand.
+    pub fn from_vec(alloc: Global, items: Vec<T, Global>) -> Self
+        ensures { result ≡ items.items }
+    {
+        Items { alloc, items }
+    }
+
+    /// Adds one element at the end. Without memory for it the list stays as it was.
+    pub fn push(&mut self, item: T) -> Result<(), Want>
+        ensures ok { OnOk result (self.new ≡ self.old ++ item ∷ []) }
+        ensures err { OnErr result (self.new ≡ self.old) }
+    {
+        self.items.push(item)?;
+        Ok(())
+    }
+
+    pub fn len(&self) -> usize
+        ensures { result ≡ length self.now }
+    {
+        self.items.len()
+    }
+
+    pub fn is_empty(&self) -> bool
+        ensures { IsTrue result ↔ (self.now ≡ []) }
+    {
+        self.items.is_empty()
+    }
+
+    pub fn as_slice(&self) -> &[T]
+        ensures { result.now ≡ self.now }
+    {
+        self.items.as_slice()
+    }
+
+    pub fn get(&self, place: usize) -> Option<&T>
+        ensures { option_copied result ≡ slice_get self.now place }
+    {
+        self.items.get(place)
+    }
+
+    /// The elements as a vector.
+    pub fn into_vec(self) -> Vec<T, Global>
+        ensures { result.items ≡ self }
+    {
+        let Items { alloc: _, items } = self;
+        items
+    }
+}
+
+impl<T: Copied> Copied for Items<T> {
+    fn copied(&self) -> Result<Self, Want> {
+        let mut copy = Vec::with_capacity(self.alloc, self.items.len())?;
+        for item in &self.items {
+            copy.push(item.copied()?)?;
+        }
+        Ok(Items {
+            alloc: self.alloc,
+            items: copy,
+        })
+    }
+}
+
+impl<T: Same + Drop> Same for Items<T> {
+    fn is_same(&self, other: &Self) -> bool {
+        if self.items.len() != other.items.len() {
+            return false;
+        }
+        for (place, mine) in self.items.iter().enumerate() {
+            if !mine.is_same(&other.items[place]) {
+                return false;
+            }
+        }
+        true
+    }
+}

@@ -1,0 +1,20 @@
+//! Small list types that contracts see as plain lists, and the two things that every type of the
+//! project can do: be copied (which may want memory) and be compared.
+#![tactic(auto)]
+
+pub mod bytes;
+pub mod copied;
+pub mod items;
+#[cfg(test)]
+mod tests;
+pub mod text;
+pub mod want;
+
+pub use bytes::Bytes;
+pub use copied::{Copied, Same};
+pub use items::Items;
+pub use text::Text;
+pub use want::Want;
+
+/// A list of numbers, as a master's vector of pre-order numbers.
+pub type Vector = Items<u64>;
