@@ -56,7 +56,7 @@ impl Bytes {
 }
 
 impl Copied for Bytes {
-    fn copied(&self) -> Result<Self, Want> {
+    fn copy(&self) -> Result<Self, Want> {
         Ok(Bytes {
             shared: Arc::try_clone(&self.shared)?,
         })

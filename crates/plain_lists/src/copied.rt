@@ -5,8 +5,8 @@ use crate::want::Want;
 /// A value that can be copied where there is memory for it.
 pub trait Copied: Drop {
     /// An equal value.
-    fn copied(&self) -> Result<Self, Want>
-        ensures { IfOk result (λ copy. copy ≡ self.now) };
+    fn copy(&self) -> Result<Self, Want>
+        ensures { IfOk result (λ made. made ≡ self.now) };
 }
 
 /// A value that can be compared with another of its type.
@@ -17,19 +17,19 @@ pub trait Same {
 }
 
 impl Copied for u8 {
-    fn copied(&self) -> Result<u8, Want> {
+    fn copy(&self) -> Result<u8, Want> {
         Ok(*self)
     }
 }
 
 impl Copied for u32 {
-    fn copied(&self) -> Result<u32, Want> {
+    fn copy(&self) -> Result<u32, Want> {
         Ok(*self)
     }
 }
 
 impl Copied for u64 {
-    fn copied(&self) -> Result<u64, Want> {
+    fn copy(&self) -> Result<u64, Want> {
         Ok(*self)
     }
 }

@@ -79,10 +79,10 @@ impl<T: Drop> Items<T> {
 }
 
 impl<T: Copied> Copied for Items<T> {
-    fn copied(&self) -> Result<Self, Want> {
+    fn copy(&self) -> Result<Self, Want> {
         let mut copy = Vec::with_capacity(self.alloc, self.items.len())?;
         for item in &self.items {
-            copy.push(item.copied()?)?;
+            copy.push(item.copy()?)?;
         }
         Ok(Items {
             alloc: self.alloc,

@@ -37,7 +37,7 @@ impl Text {
 }
 
 impl Copied for Text {
-    fn copied(&self) -> Result<Self, Want> {
+    fn copy(&self) -> Result<Self, Want> {
         Text::from_str(self.alloc, self.text.as_str())
     }
 }
