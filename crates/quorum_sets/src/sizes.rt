@@ -1,0 +1,40 @@
+ghost use Rattle.std.specs.Prelude.{◌≡◌, ◌↔◌, ◌≤◌, IfOk, IsOk};
+ghost use Rattle.quorum_sets.specs.Quorum.{IsGroup, group_size, quorum_size};
+
+use thiserror::Error;
+
+/// The sizes of a group: `f` masters may be intruded and `k` more may be away, `n = 3f + 2k + 1` is their
+/// number and `q = 2f + k + 1` a quorum.
+#[derive(Clone, Copy, Debug)]
+pub struct Sizes {
+    pub n: u32,
+    pub f: u32,
+    pub k: u32,
+    pub q: u32,
+    pub ghost group: { IsGroup f k },
+    pub ghost all: { n ≡ group_size f k },
+    pub ghost quorum: { q ≡ quorum_size f k },
+}
+
+/// `f` is 0 or above 3, or `k` is above 2.
+#[derive(Clone, Copy, Debug, PartialEq, Eq, Error)]
+#[error("f must be 1 to 3 and k 0 to 2")]
+pub struct BadSizes;
+
+impl Sizes {
+    pub fn new(f: u32, k: u32) -> Result<Sizes, BadSizes>
+        ensures made { IsOk result ↔ IsGroup f k }
+        ensures intruded { IfOk result (λ sizes. sizes.f ≡ f) }
+        ensures away { IfOk result (λ sizes. sizes.k ≡ k) }
+    {
+        if f == 0 || f > 3 || k > 2 {
+            return Err(BadSizes);
+        }
+        Ok(Sizes {
+            n: 3 * f + 2 * k + 1,
+            f,
+            k,
+            q: 2 * f + k + 1,
+        })
+    }
+}
