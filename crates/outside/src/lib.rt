@@ -1,0 +1,18 @@
+//! What the program reaches outside itself, as traits: files to load and sinks to put bytes to. Each
+//! counts its faults, so that a caller's contract can say that a fault is answered only where one
+//! came. There are implementations over memory, for tests, and over the real system.
+#![tactic(auto)]
+
+pub mod files;
+pub mod memory_files;
+pub mod memory_sinks;
+pub mod real;
+pub mod sinks;
+#[cfg(test)]
+mod tests;
+
+pub use files::{Files, LoadAnswer};
+pub use memory_files::{MemoryFiles, SteadyFiles};
+pub use memory_sinks::{MemorySink, SteadySink};
+pub use real::{RealErr, RealFiles, RealOut};
+pub use sinks::{PutAnswer, Sink};

@@ -1,0 +1,58 @@
+use crate::{
+    Files, LoadAnswer, MemoryFiles, MemorySink, PutAnswer, RealErr, RealFiles, RealOut, Sink,
+    SteadyFiles, SteadySink,
+};
+use std::test::Fail;
+use std::{fs, io};
+
+#[test]
+fn files_in_memory_fail_as_listed(rt: HostRuntime) -> Result<(), Fail> {
+    let alloc = rt.alloc();
+    let listed = vec![in alloc; (String::from_str(alloc, "a")?, vec![in alloc; 7u8, 8]?)]?;
+    let mut files = MemoryFiles::make(alloc, listed, vec![in alloc; 2]?);
+    assert_eq!(rt; files.load("a", 2)?.as_slice(), [7, 8].as_slice());
+    assert_eq!(rt; files.load("a", 2).err(), Some(LoadAnswer::Failed));
+    assert_eq!(rt; files.load("a", 1).err(), Some(LoadAnswer::TooLong));
+    assert_eq!(rt; files.load("b", 9).err(), Some(LoadAnswer::Failed));
+    let mut steady = SteadyFiles::make(alloc, Vec::new(alloc));
+    assert_eq!(rt; steady.load("b", 0)?.len(), 0);
+    Ok(())
+}
+
+#[test]
+fn sinks_in_memory_fail_as_listed(rt: HostRuntime) -> Result<(), Fail> {
+    let mut sink = MemorySink::make(rt.alloc(), vec![in rt.alloc(); 2]?);
+    sink.put(&[1, 2])?;
+    assert_eq!(rt; sink.put(&[3]), Err(PutAnswer::Failed));
+    sink.put(&[4])?;
+    assert_eq!(rt; sink.bytes(), [1, 2, 4].as_slice());
+    let mut steady = SteadySink::make(rt.alloc());
+    steady.put(&[5])?;
+    assert_eq!(rt; steady.bytes(), [5].as_slice());
+    Ok(())
+}
+
+#[test]
+fn a_real_file_is_loaded(rt: HostRuntime) -> Result<(), Fail> {
+    let name = "outside_test_file.bin";
+    fs::write(&rt, name, [9u8, 10].as_slice())?;
+    let mut files = RealFiles::make(rt.alloc(), rt.clone()?);
+    let whole = files.load(name, 2);
+    let long = files.load(name, 1);
+    fs::remove_file(&rt, name)?;
+    assert_eq!(rt; whole?.as_slice(), [9, 10].as_slice());
+    assert_eq!(rt; long.err(), Some(LoadAnswer::TooLong));
+    assert_eq!(rt; files.load(name, 2).err(), Some(LoadAnswer::Failed));
+    Ok(())
+}
+
+#[test]
+fn real_output_is_put(rt: HostRuntime) -> Result<(), Fail> {
+    let mut out = RealOut::make(io::writer(&rt));
+    out.put(b"to standard output\n")?;
+    let mut err = RealErr::make(rt.stderr());
+    err.put(b"to standard error\n")?;
+    let mut short = RealOut::make(io::Cursor::new([0u8; 1]));
+    assert_eq!(rt; short.put(&[1, 2]), Err(PutAnswer::Failed));
+    Ok(())
+}
