@@ -1,0 +1,78 @@
+ghost use Rattle.std.specs.Prelude.{◌≡◌, ◌↔◌, IsTrue, IfOk};
+
+use crate::ordering::{Certificate, Mark, Rows};
+use crate::signed::Signed;
+use plain_lists::{Copied, Items, Same, Want};
+
+/// What a master brings into view `v`: its stable number with the marks that show it, and a certificate for each later number that it knows prepared (PBFT's VIEW-CHANGE).
+#[derive(Drop)]
+pub struct Report {
+    pub v: u64,
+    pub base: u64,
+    pub marks: Items<Signed<Mark>>,
+    pub certificates: Items<Certificate>,
+}
+
+impl Copied for Report {
+    fn copy(&self) -> Result<Self, Want> {
+        Ok(Report {
+            v: self.v,
+            base: self.base,
+            marks: self.marks.copy()?,
+            certificates: self.certificates.copy()?,
+        })
+    }
+}
+
+impl Same for Report {
+    fn is_same(&self, other: &Self) -> bool {
+        self.v == other.v
+            && self.base == other.base
+            && self.marks.is_same(&other.marks)
+            && self.certificates.is_same(&other.certificates)
+    }
+}
+
+/// The leader opens view `v` with the reports of a quorum (PBFT's NEW-VIEW).
+#[derive(Drop)]
+pub struct NewView {
+    pub v: u64,
+    pub reports: Items<Signed<Report>>,
+}
+
+impl Copied for NewView {
+    fn copy(&self) -> Result<Self, Want> {
+        Ok(NewView {
+            v: self.v,
+            reports: self.reports.copy()?,
+        })
+    }
+}
+
+impl Same for NewView {
+    fn is_same(&self, other: &Self) -> bool {
+        self.v == other.v && self.reports.is_same(&other.reports)
+    }
+}
+
+/// What a view offers first: the rows of the numbers after `base`, in order.
+#[derive(Drop)]
+pub struct Plan {
+    pub base: u64,
+    pub rows: Items<Rows>,
+}
+
+impl Copied for Plan {
+    fn copy(&self) -> Result<Self, Want> {
+        Ok(Plan {
+            base: self.base,
+            rows: self.rows.copy()?,
+        })
+    }
+}
+
+impl Same for Plan {
+    fn is_same(&self, other: &Self) -> bool {
+        self.base == other.base && self.rows.is_same(&other.rows)
+    }
+}
