@@ -1,0 +1,4 @@
+pub mod Texts
+pub mod Spelling
+pub mod Digests
+pub mod Parts
