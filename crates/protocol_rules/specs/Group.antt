@@ -1,0 +1,41 @@
+-- The sizes that the rules are stated over, as plain numbers, and this project's own limits.
+use Rattle.std.specs.Prelude.{ℕ, ◌+◌, ◌%◌, Bool, nat_eq}
+use Rattle.std.specs.List.{list_any}
+use Rattle.quorum_sets.specs.Masters.{numbers_below}
+use Rattle.quorum_sets.specs.declared.sizes.Sizes.{Sizes}
+
+pub record Group : Type 0 where
+  pub n : ℕ
+  pub f : ℕ
+  pub k : ℕ
+  pub q : ℕ
+  pub clients : ℕ
+
+-- the group of these sizes with so many clients
+abbrev pub group_of : Sizes → ℕ → Group
+group_of sizes clients = record { n = sizes.n; f = sizes.f; k = sizes.k; q = sizes.q; clients = clients }
+
+-- pre-order numbers of a master, and global numbers, go from 1 to this
+unfoldable pub most_number : ℕ
+most_number = 4096
+
+-- numbers are offered no further than this above the stable one
+unfoldable pub window : ℕ
+window = 16
+
+-- views go from 0 to this
+unfoldable pub most_view : ℕ
+most_view = 255
+
+-- marks are said for each number that is a multiple of this
+unfoldable pub mark_step : ℕ
+mark_step = 8
+
+-- the master that leads a view
+abbrev pub leader_of : Group → ℕ → ℕ
+leader_of g v = v % g.n
+
+-- The doors of client c are the f + k + 1 masters from c mod n on: at least one of them is correct and there.
+-- (In the manner of Spire; that these masters alone introduce the client's updates is this project's own.)
+abbrev pub is_door : Group → ℕ → ℕ → Bool
+is_door g c master = list_any (λ x. nat_eq ((c + x) % g.n) master) (numbers_below (g.f + g.k + 1))

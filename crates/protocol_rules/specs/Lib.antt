@@ -1,0 +1,4 @@
+pub mod Words
+pub mod Group
+pub mod Places
+pub mod Preorder
