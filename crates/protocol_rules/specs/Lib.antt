@@ -2,3 +2,12 @@ pub mod Words
 pub mod Group
 pub mod Places
 pub mod Preorder
+pub mod Matrix
+pub mod Plans
+pub mod Facts
+pub mod Order
+pub mod Execution
+pub mod Views
+pub mod Measures
+pub mod Reconcile
+pub mod Master

@@ -1,7 +1,7 @@
 -- When a part is in its place: its signer may say such a word, its numbers are within their limits, and the lists
 -- in it have the members that its kind calls for. (This project's own limits; that a report shows its marks and
 -- certificates, and a new view its reports, is PBFT's.)
-use Rattle.std.specs.Prelude.{ℕ, ◌+◌, ◌%◌, Bool, true, false, ◌&&◌, List, length, nat_eq, nat_le, nat_lt, if◌then◌else◌}
+use Rattle.std.specs.Prelude.{ℕ, ℤ, pos, negsuc, ◌-◌, ◌^◌, ◌+◌, ◌%◌, Bool, true, false, ◌&&◌, List, length, nat_eq, nat_le, nat_lt, if◌then◌else◌}
 use Rattle.std.specs.List.{list_all}
 use Rattle.std.specs.Str.{bytes_eq}
 use Rattle.message_types.specs.declared.signed.Signed.{Signed}
@@ -9,6 +9,9 @@ use Rattle.message_types.specs.declared.ordering.Certificate.{Certificate}
 use Rattle.message_types.specs.declared.views.Report.{Report}
 use Rattle.message_types.specs.declared.reconciling.Give.{Give}
 use Rattle.message_types.specs.declared.body.Body.{Body}
+use Rattle.std.specs.Int.Signed.{le_z}
+use Rattle.message_types.specs.declared.updates.Op.{Op}
+use Rattle.message_types.specs.declared.updates.Op.TheVariants as op
 use Rattle.message_types.specs.declared.body.Body.TheVariants as body
 use Rattle.message_types.specs.Digests.{digest_of_update, digest_of_rows}
 use Rattle.protocol_rules.specs.Group.{Group, most_number, most_view, window, mark_step, leader_of}
@@ -47,6 +50,21 @@ give_in_place g b =
     && list_all (λ a. nat_eq a.body.j b.request.signer && nat_eq a.body.k b.request.body.k
     && bytes_eq a.body.digest (digest_of_update b.request.body.update.body)) b.acks
 
+-- a number that its 32 or 64 bits hold: of Rust's own numbers this is always so
+abbrev pub in_32_bits : ℕ → Bool
+in_32_bits x = nat_lt x (2 ^ 32)
+
+abbrev pub in_64_bits : ℕ → Bool
+in_64_bits x = nat_lt x (2 ^ 64)
+
+abbrev pub in_signed_64_bits : ℤ → Bool
+in_signed_64_bits z = le_z (negsuc (2 ^ 63 - 1)) z && le_z z (pos (2 ^ 63 - 1))
+
+abbrev pub op_in_place : Op → Bool
+op_in_place (op.Reading point value) = in_32_bits point && in_signed_64_bits value
+op_in_place (op.Set point value) = in_32_bits point && in_signed_64_bits value
+op_in_place (op.Ack alarm) = in_32_bits alarm
+
 -- what a master's word asks for besides its signer
 abbrev pub word_in_place : Group → ℕ → Body → Bool
 word_in_place g signer (body.Update b) = false
@@ -78,6 +96,6 @@ word_in_place g signer (body.Mark b) = is_number b.s && nat_eq (b.s % mark_step)
 -- an update is its client's, whose actor number is n + client; all other words are masters'
 abbrev pub in_place : Group → Signed Body → Bool
 in_place g f = elim f.body [
-  | body.Update b ↦ nat_lt b.client g.clients && nat_eq f.signer (g.n + b.client)
+  | body.Update b ↦ nat_lt b.client g.clients && nat_eq f.signer (g.n + b.client) && in_64_bits b.t && op_in_place b.op
   | _ ↦ nat_lt f.signer g.n && word_in_place g f.signer f.body
 ]

@@ -13,7 +13,7 @@ use Rattle.message_types.specs.declared.body.Body.TheVariants as body
 use Rattle.message_types.specs.Digests.{digest_of_update}
 use Rattle.quorum_sets.specs.Masters.{numbers_below}
 use Rattle.quorum_sets.specs.Quorum.{has_quorum}
-use Rattle.protocol_rules.specs.Words.{first_met, run_from, numbers_from}
+use Rattle.protocol_rules.specs.Words.{first_met, run_from, numbers_from, first_of_list}
 use Rattle.protocol_rules.specs.Group.{Group, most_number, is_door}
 
 -- the update of a frame that is request k of master j
@@ -63,11 +63,6 @@ update_of c t f = elim f.body [
   | body.Update b ↦ if nat_eq b.client c && nat_eq b.t t then Some record { signer = f.signer; body = b; sig = f.sig } else None
   | _ ↦ None
 ]
-
--- the first of several values
-abbrev pub first_of_list : {X : Type 0} → List X → Option X
-first_of_list [] = None
-first_of_list (x ∷ rest) = Some x
 
 -- A door's next request for a client: of the update whose t is one more than the requests said for the client, once that
 -- update was taken as a frame of its own; its number is one more than the requests said.

@@ -1,5 +1,5 @@
 -- Words on lists and numbers that the rules are made of.
-use Rattle.std.specs.Prelude.{ℕ, zero, suc, Bool, List, [], ◌∷◌, ◌++◌, Option, Some, None, if◌then◌else◌}
+use Rattle.std.specs.Prelude.{ℕ, zero, suc, Bool, List, [], ◌∷◌, ◌++◌, Option, Some, None, max, nat_eq, nat_le, if◌then◌else◌}
 
 -- the first value, where there is one, else the second
 abbrev pub or_else : {X : Type 0} → Option X → Option X → Option X
@@ -26,3 +26,42 @@ run_from f start (suc most) = elim (f start) [ None ↦ [] | Some x ↦ x ∷ ru
 unfoldable pub numbers_from : ℕ → ℕ → List ℕ
 numbers_from start zero = []
 numbers_from start (suc count) = start ∷ numbers_from (suc start) count
+
+-- the first of the values that none beats: a later value takes over only where it beats all before
+abbrev pub best_from : {X : Type 0} → (X → X → Bool) → X → List X → X
+best_from beats best [] = best
+best_from beats best (x ∷ rest) = best_from beats (if beats x best then x else best) rest
+
+unfoldable pub best_by : {X : Type 0} → (X → X → Bool) → List X → Option X
+best_by beats [] = None
+best_by beats (x ∷ rest) = Some (best_from beats x rest)
+
+-- the greatest of the numbers, 0 where there are none
+abbrev pub greatest_of : List ℕ → ℕ
+greatest_of [] = 0
+greatest_of (x ∷ rest) = max x (greatest_of rest)
+
+-- what `f` gives at the highest number below `bound` of which it gives something
+unfoldable pub last_below : {X : Type 0} → (ℕ → Option X) → ℕ → Option X
+last_below f zero = None
+last_below f (suc bound) = or_else (f bound) (last_below f bound)
+
+-- the first of several values
+abbrev pub first_of_list : {X : Type 0} → List X → Option X
+first_of_list [] = None
+first_of_list (x ∷ rest) = Some x
+
+-- the numbers in rising order
+abbrev pub put_in_order : ℕ → List ℕ → List ℕ
+put_in_order x [] = x ∷ []
+put_in_order x (y ∷ rest) = if nat_le x y then x ∷ y ∷ rest else y ∷ put_in_order x rest
+
+unfoldable pub in_order : List ℕ → List ℕ
+in_order [] = []
+in_order (x ∷ rest) = put_in_order x (in_order rest)
+
+-- numbers in order, those that are equal once
+unfoldable pub each_once : List ℕ → List ℕ
+each_once [] = []
+each_once (x ∷ []) = x ∷ []
+each_once (x ∷ y ∷ rest) = if nat_eq x y then each_once (y ∷ rest) else x ∷ each_once (y ∷ rest)

@@ -2,3 +2,7 @@
 //! and executed where a list of signed words is known, and what a correct master says. The crates that keep
 //! running state are each proved equal to them.
 #![tactic(auto)]
+
+pub mod facts;
+
+pub use facts::OrderFact;
