@@ -1,0 +1,10 @@
+//! The measured points of a plant: what each one is, and its value.
+#![tactic(auto)]
+
+pub mod point;
+pub mod points;
+#[cfg(test)]
+mod tests;
+
+pub use point::{Area, DeviceSizes, Point};
+pub use points::{PointRefusal, Points};
