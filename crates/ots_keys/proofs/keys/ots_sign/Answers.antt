@@ -1,0 +1,16 @@
+use Rattle.std.proofs.Common.{refl}
+use Rattle.ots_keys.specs.Keys.{signature}
+use Rattle.ots_keys.proofs.keys.ots_sign.Goals as goal
+
+pub returns : goal.returns
+unfolding signature
+returns c =
+    rw (
+      c.in_ok-put_elements.ensures,
+      c.in_ok-put_bytes.ensures.ok,
+      c.in_ok-put_u32.ensures.ok,
+      c.in_ok-sig.ensures.items,
+      c.type_code.ensures,
+      c.hash_parts-hash.ensures,
+      c.randomizer-c.ensures,
+    ) refl

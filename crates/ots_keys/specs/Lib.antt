@@ -1,0 +1,4 @@
+pub mod Parameters
+pub mod Digits
+pub mod Hash
+pub mod Keys
