@@ -1,0 +1,4 @@
+pub mod Events
+pub mod Setup
+pub mod Legal
+pub mod Audit

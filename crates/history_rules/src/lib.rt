@@ -1,0 +1,3 @@
+//! Histories as definitions, in `specs/`: the entries of all actors in one list, what each actor knew at each of
+//! its entries, which histories are legal, and what an audit finds in one.
+#![tactic(auto)]
