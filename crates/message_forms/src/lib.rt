@@ -1,0 +1,17 @@
+//! The one spelling of each signed word: `write_frame` and `read_frame`, and the texts and digests of bodies,
+//! updates and rows. All formats are this project's own; `message_types` says which bytes spell a word.
+#![tactic(auto)]
+
+mod batch;
+mod digests;
+mod refusal;
+
+pub use crate::batch::batch_text;
+pub use crate::digests::{rows_digest, update_digest};
+pub use crate::refusal::FormRefusal;
+pub use message_types::{
+    AskOrder, AskUpdate, Body, Certificate, Commit, Frame, FrameList, Give, GiveOrdered, Mark,
+    NewView, Notice, NoticeKind, Op, Order, Ping, Plan, PoAck, PoRequest, PoSummary, Pong,
+    PrePrepare, Prepare, Report, Rows, Rtt, Signed, Suspect, TatBound, TatReport, Update, Voucher,
+};
+pub use plain_lists::Want;
