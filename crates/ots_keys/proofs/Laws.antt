@@ -34,7 +34,7 @@ unfolding secret
 length-signed_element ots id q seed hash i = length-chain id q i 0 _ _ (length-hash_under _ _ _ _)
 
 -- n pieces of 32 bytes
-length-joined : (f : ℕ → List ℕ) → ((i : ℕ) → length (f i) ≡ 32) → (n : ℕ) → length (joined f n) ≡ 32 * n
+pub length-joined : (f : ℕ → List ℕ) → ((i : ℕ) → length (f i) ≡ 32) → (n : ℕ) → length (joined f n) ≡ 32 * n
 length-joined f h zero = refl
 length-joined f h (suc n) =
     let before = length-joined f h n in
@@ -54,7 +54,7 @@ length-signature ots id q seed message =
     omega (arith, whole, front, elements, c_len, length-u32_bytes (type_code ots))
 
 -- piece i of pieces of 32 bytes
-joined-at : (f : ℕ → List ℕ) → ((i : ℕ) → length (f i) ≡ 32) → (n i : ℕ) → i < n → take 32 (drop (32 * i) (joined f n)) ≡ f i
+pub joined-at : (f : ℕ → List ℕ) → ((i : ℕ) → length (f i) ≡ 32) → (n i : ℕ) → i < n → take 32 (drop (32 * i) (joined f n)) ≡ f i
 joined-at f h zero i lt = absurd (omega arith)
 joined-at f h (suc n) i lt = elim (cases_lt i n) [
   | inl before ↦

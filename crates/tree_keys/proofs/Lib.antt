@@ -1,0 +1,5 @@
+pub mod Heights
+pub mod Parts
+pub mod KeyLaws
+pub mod NodeLaws
+pub mod Laws

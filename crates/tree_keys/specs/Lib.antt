@@ -1,0 +1,4 @@
+pub mod Nodes
+pub mod PublicKeys
+pub mod Trees
+pub mod Built

@@ -1,0 +1,15 @@
+//! LMS, the many-time signatures of RFC 8554, section 5: a tree over one-time keys.
+//!
+//! `specs/Nodes.antt`, `specs/PublicKeys.antt` and `specs/Trees.antt` are the RFC's formulas, which
+//! every contract cites.
+#![tactic(auto)]
+
+mod nodes;
+mod public_key;
+mod tree;
+
+pub use crate::public_key::{PublicKey, tree_verify};
+pub use crate::tree::{Tree, TreeAnswer};
+
+#[cfg(test)]
+mod tests;
