@@ -114,6 +114,13 @@ impl Alarms {
     pub fn find(&self, name: &str) -> Option<u32>
         ensures { result ≡ alarm_named self.now.rules name.now }
     {
+        self.find_bytes(name.as_bytes())
+    }
+
+    /// The same for a name that is given as bytes.
+    pub fn find_bytes(&self, name: &[u8]) -> Option<u32>
+        ensures { result ≡ alarm_named self.now.rules name.now }
+    {
         let place = place_of(self.rules.as_slice(), name)?;
         Some(place as u32)
     }
@@ -140,11 +147,11 @@ fn change_of(
 }
 
 /// The place of the first alarm of that name.
-fn place_of(rules: &[AlarmRule], name: &str) -> Option<usize>
+fn place_of(rules: &[AlarmRule], name: &[u8]) -> Option<usize>
     ensures place { result ≡ alarm_named rules.now name.now }
     ensures within { IfSome result (λ place. place < length rules.now) }
 {
-    rules.iter().position(|rule| rule.name.as_str() == name)
+    rules.iter().position(|rule| rule.name.as_str().as_bytes() == name)
 }
 
 /// As many states of a quiet alarm as there are rules.

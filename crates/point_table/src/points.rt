@@ -102,17 +102,24 @@ impl Points {
     pub fn find(&self, name: &str) -> Option<u32>
         ensures { result ≡ point_named self.now.points name.now }
     {
+        self.find_bytes(name.as_bytes())
+    }
+
+    /// The same for a name that is given as bytes.
+    pub fn find_bytes(&self, name: &[u8]) -> Option<u32>
+        ensures { result ≡ point_named self.now.points name.now }
+    {
         let place = place_of(self.points.as_slice(), name)?;
         Some(place as u32)
     }
 }
 
 /// The place of the first point of that name.
-fn place_of(points: &[Point], name: &str) -> Option<usize>
+fn place_of(points: &[Point], name: &[u8]) -> Option<usize>
     ensures place { result ≡ point_named points.now name.now }
     ensures within { IfSome result (λ place. place < length points.now) }
 {
-    points.iter().position(|point| point.name.as_str() == name)
+    points.iter().position(|point| point.name.as_str().as_bytes() == name)
 }
 
 /// The points' start values.

@@ -1,0 +1,9 @@
+pub mod Comparing
+pub mod Formula
+pub mod Tokens
+pub mod Code
+pub mod Part
+pub mod Desk
+pub mod Numbers
+pub mod Reading
+pub mod Answers
