@@ -8,7 +8,7 @@ mod nodes;
 mod public_key;
 mod tree;
 
-pub use crate::public_key::{PublicKey, tree_verify};
+pub use crate::public_key::{PublicKey, number_of, tree_verify};
 pub use crate::tree::{Tree, TreeAnswer};
 
 #[cfg(test)]

@@ -81,6 +81,32 @@ impl Tree {
         })
     }
 
+    pub fn height(&self) -> u32
+        ensures { result ≡ self.now.height }
+    {
+        self.height
+    }
+
+    /// The type of the one-time keys.
+    pub fn ots(&self) -> Ots
+        ensures { result ≡ self.now.ots }
+    {
+        self.ots
+    }
+
+    /// The identifier I.
+    pub fn id(&self) -> &[u8; 16]
+        ensures { result.now ≡ self.now.id }
+    {
+        &self.id
+    }
+
+    pub fn seed(&self) -> &[u8; 32]
+        ensures { result.now ≡ self.now.seed }
+    {
+        &self.seed
+    }
+
     // The hash of node `r`.
     fn node(&self, r: u32) -> &[u8; 32]
         requires low { 1 ≤ r }

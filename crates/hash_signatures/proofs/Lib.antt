@@ -1,0 +1,4 @@
+pub mod LeadLaws
+pub mod Children
+pub mod Descending
+pub mod KeyLaws

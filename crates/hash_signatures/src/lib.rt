@@ -1,0 +1,17 @@
+//! HSS, the hierarchical signatures of RFC 8554, section 6, and a key that signs in order.
+//!
+//! `specs/Verification.antt` and `specs/Signatures.antt` are the RFC's formulas, which every contract
+//! cites.
+#![tactic(auto)]
+
+mod descent;
+mod key_state;
+mod path;
+mod verification;
+
+pub use crate::key_state::{KeyAnswer, KeyState, SignAnswer};
+pub use crate::verification::verify;
+pub use ots_keys::Ots;
+
+#[cfg(test)]
+mod tests;
