@@ -1,0 +1,11 @@
+pub mod Choice
+pub mod Steps
+pub mod Quorums
+pub mod Runs
+pub mod Certified
+pub mod Introductions
+pub mod Doors
+pub mod Ranges
+pub mod Others
+pub mod Settled
+pub mod Beginning

@@ -1,0 +1,4 @@
+pub mod Taken
+pub mod Index
+pub mod Counted
+pub mod Held

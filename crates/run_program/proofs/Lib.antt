@@ -1,0 +1,2 @@
+pub mod ScriptSteps
+pub mod Pieces

@@ -1,0 +1,4 @@
+pub mod Script
+pub mod Words
+pub mod Read
+pub mod Output
