@@ -96,6 +96,6 @@ word_in_place g signer (body.Mark b) = is_number b.s && nat_eq (b.s % mark_step)
 -- an update is its client's, whose actor number is n + client; all other words are masters'
 abbrev pub in_place : Group → Signed Body → Bool
 in_place g f = elim f.body [
-  | body.Update b ↦ nat_lt b.client g.clients && nat_eq f.signer (g.n + b.client) && in_64_bits b.t && op_in_place b.op
+  | body.Update b ↦ nat_lt b.client g.clients && in_32_bits b.client && nat_eq f.signer (g.n + b.client) && in_64_bits b.t && op_in_place b.op
   | _ ↦ nat_lt f.signer g.n && word_in_place g f.signer f.body
 ]

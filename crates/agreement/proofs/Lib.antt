@@ -1,0 +1,16 @@
+pub mod Lists
+pub mod Quorums
+pub mod Places
+pub mod Known
+pub mod Spoken
+pub mod Inside
+pub mod Origin
+pub mod Good
+pub mod Texts
+pub mod Once
+pub mod Requests
+pub mod Executed
+pub mod Grows
+pub mod Planned
+pub mod Agreed
+pub mod Executions

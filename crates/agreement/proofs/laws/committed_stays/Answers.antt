@@ -1,0 +1,5 @@
+use Rattle.agreement.proofs.Executions.{committed_stays}
+use Rattle.agreement.proofs.laws.committed_stays.Goals as goal
+
+pub returns : goal.returns
+returns c = committed_stays

@@ -1,0 +1,5 @@
+use Rattle.agreement.proofs.Executions.{executed_were_said}
+use Rattle.agreement.proofs.laws.executed_were_said.Goals as goal
+
+pub returns : goal.returns
+returns c = executed_were_said

@@ -1,0 +1,5 @@
+use Rattle.agreement.proofs.Executions.{executions_agree}
+use Rattle.agreement.proofs.laws.executions_agree.Goals as goal
+
+pub returns : goal.returns
+returns c = executions_agree

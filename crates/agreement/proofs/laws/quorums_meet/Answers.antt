@@ -1,0 +1,5 @@
+use Rattle.agreement.proofs.Quorums.{meet_at}
+use Rattle.agreement.proofs.laws.quorums_meet.Goals as goal
+
+pub returns : goal.returns
+returns c = λ g first second intruded sizes p q few. meet_at g first second intruded sizes p q few

@@ -1,0 +1,112 @@
+-- The laws of agreement, as statements over every setup and history. (What the correct masters of a group keep while at
+-- most f of it are intruded: Prime's and PBFT's safety, here of whole legal histories.)
+use Rattle.std.specs.Prelude.{◌≡◌, ℕ, ◌+◌, ◌<◌, ◌≤◌, ◌⊎◌, Bool, true, false, List, [], ◌∷◌, ◌++◌, Some, length}
+use Rattle.quorum_sets.specs.Quorum.{IsGroup, group_size, quorum_size}
+use Rattle.quorum_sets.specs.Masters.{voters}
+use Rattle.message_types.specs.declared.signed.Signed.{Signed}
+use Rattle.message_types.specs.declared.updates.Update.{Update}
+use Rattle.message_types.specs.declared.body.Body.{Body}
+use Rattle.message_types.specs.declared.body.Body.TheVariants as body
+use Rattle.protocol_rules.specs.Group.{Group}
+use Rattle.message_types.specs.declared.ordering.Certificate.{Certificate}
+use Rattle.message_types.specs.declared.views.Report.{Report}
+use Rattle.message_types.specs.Digests.{digest_of_rows}
+use Rattle.protocol_rules.specs.Preorder.{certified}
+use Rattle.protocol_rules.specs.Facts.{facts_of}
+use Rattle.protocol_rules.specs.Plans.{certificates_of, planned, base_of}
+use Rattle.protocol_rules.specs.Order.{ordered, is_voted, prepare_by, commit_by}
+use Rattle.history_rules.specs.Events.{Entry}
+use Rattle.history_rules.specs.Setup.{Setup, is_correct_master}
+use Rattle.history_rules.specs.Legal.{Stands, IsLegal, heard, known_of, executions}
+use Rattle.history_rules.specs.Audit.{IsIn, HasSaid, NothingForged, NoSharedDigest, FewIntruded}
+
+-- the sizes are those of a group
+pub record HasSizes (g : Group) : Type 0 where
+  pub group : IsGroup g.f g.k
+  pub all : g.n ≡ group_size g.f g.k
+  pub quorum : g.q ≡ quorum_size g.f g.k
+
+-- a legal history of a group of which at most f masters are intruded, with no word forged and no digest shared
+pub record IsSound (w : Setup) (history : List Entry) : Type 0 where
+  pub legal : IsLegal w history
+  pub sizes : HasSizes w.group
+  pub few : FewIntruded w
+  pub unforged : NothingForged w history
+  pub alike : NoSharedDigest w.group history
+
+-- the first list begins the second
+pub record Begins {X : Type 0} (beginning whole : List X) : Type 0 where
+  pub rest : List X
+  pub same : whole ≡ beginning ++ rest
+
+-- Two quorums share a master that isn't one of the at most f intruded ones.
+abbrev pub QuorumsMeet : Type 0
+QuorumsMeet =
+    (g : Group) (first second intruded : ℕ → Bool) → HasSizes g
+    → g.q ≤ length (voters first g.n) → g.q ≤ length (voters second g.n) → length (voters intruded g.n) ≤ g.f
+    → (m : ℕ) × (m < g.n) × (first m ≡ true) × (second m ≡ true) × (intruded m ≡ false)
+
+-- how a view above 0 began: by the reports of its new view
+pub record Start : Type 0 where
+  pub v : ℕ
+  pub reports : List Report
+
+-- The induction on views, over plain lists. Each start's certificates are of views below its own, and listed. The listed
+-- certificates for number s of view v have one digest. Each one of a view above v is for the rows that some start of its
+-- view plans for s. And each start of a view above v has a base of at least s, or a certificate for s of view v or later.
+-- Then all certificates for s of view v or later have that digest.
+abbrev pub ViewInduction : Type 0
+ViewInduction =
+    (g : Group) (v s : ℕ) (digest : List ℕ) (certificates : List Certificate) (starts : List Start)
+    → ((p : Start) (c : Certificate) → IsIn p starts → IsIn c (certificates_of p.reports) → (c.v < p.v) × IsIn c certificates)
+    → ((c : Certificate) → IsIn c certificates → c.s ≡ s → c.v ≡ v → digest_of_rows c.rows ≡ digest)
+    → ((c : Certificate) → IsIn c certificates → c.s ≡ s → v < c.v
+    → (p : Start) × IsIn p starts × (p.v ≡ c.v) × (base_of p.reports < s) × (digest_of_rows c.rows ≡ digest_of_rows (planned g p.reports s)))
+    → ((p : Start) → IsIn p starts → v < p.v → (s ≤ base_of p.reports) ⊎ ((c : Certificate) × IsIn c (certificates_of p.reports) × (c.s ≡ s) × (v ≤ c.v)))
+    → (c : Certificate) → IsIn c certificates → c.s ≡ s → v ≤ c.v → digest_of_rows c.rows ≡ digest
+
+-- all that a master knows at its last event of a history
+abbrev pub known_by : Setup → List Entry → ℕ → List (Signed Body)
+known_by w history i = known_of (heard w history i)
+
+-- Of any two correct masters, at any two times, what both have certified as one request is one update.
+abbrev pub CertifiedAgree : Type 0
+CertifiedAgree =
+    (w : Setup) (history first second : List Entry) (i j : ℕ) → IsSound w history → Begins first history → Begins second history
+    → is_correct_master w i ≡ true → is_correct_master w j ≡ true
+    → (master number : ℕ) (a b : Update) → certified w.group (known_by w first i) master number ≡ Some a → certified w.group (known_by w second j) master number ≡ Some b → a ≡ b
+
+-- Where a correct master knows a quorum's commits of a number in view v, each quorum of prepares for it in view v or later
+-- that a correct master knows is for the same digest.
+abbrev pub CommittedStays : Type 0
+CommittedStays =
+    (w : Setup) (history first second : List Entry) (i j : ℕ) → IsSound w history → Begins first history → Begins second history
+    → is_correct_master w i ≡ true → is_correct_master w j ≡ true
+    → (v u s : ℕ) (a b : List ℕ) → v ≤ u → is_voted w.group (commit_by v s a) (facts_of w.group (known_by w first i)) ≡ true
+    → is_voted w.group (prepare_by u s b) (facts_of w.group (known_by w second j)) ≡ true → a ≡ b
+
+-- What any two correct masters, at any two times, have ordered as one number is the same.
+abbrev pub OrderedAgree : Type 0
+OrderedAgree =
+    (w : Setup) (history first second : List Entry) (i j : ℕ) → IsSound w history → Begins first history → Begins second history
+    → is_correct_master w i ≡ true → is_correct_master w j ≡ true
+    → (s : ℕ) (a b : List (List ℕ)) → ordered w.group (facts_of w.group (known_by w first i)) s ≡ Some a → ordered w.group (facts_of w.group (known_by w second j)) s ≡ Some b → a ≡ b
+
+-- Of what any two correct masters, at any two times, have executed one begins the other.
+abbrev pub ExecutionsAgree : Type 0
+ExecutionsAgree =
+    (w : Setup) (history first second : List Entry) (i j : ℕ) → IsSound w history → Begins first history → Begins second history
+    → is_correct_master w i ≡ true → is_correct_master w j ≡ true
+    → Begins (executions w first i) (executions w second j) ⊎ Begins (executions w second j) (executions w first i)
+
+-- Each update that a correct master has executed, its client said at an entry before.
+abbrev pub ExecutedWereSaid : Type 0
+ExecutedWereSaid =
+    (w : Setup) (history before : List Entry) (e : Entry) → IsLegal w history → HasSizes w.group → NothingForged w history → Stands history before e
+    → is_correct_master w e.actor ≡ true → (u : Update) → IsIn u (executions w (before ++ e ∷ []) e.actor) → HasSaid before (w.group.n + u.client) (body.Update u)
+
+-- No client and number stand twice in what a master has executed.
+abbrev pub NoneExecutedTwice : Type 0
+NoneExecutedTwice =
+    (w : Setup) (history : List Entry) (i : ℕ) (first between last : List Update) (u v : Update)
+    → executions w history i ≡ (first ++ u ∷ between) ++ v ∷ last → u.client ≡ v.client → u.t ≡ v.t → ⊥
