@@ -1,2 +1,5 @@
 pub mod ListLemmas
 pub mod FrameLemmas
+pub mod FieldReads
+pub mod Walking
+pub mod Spells

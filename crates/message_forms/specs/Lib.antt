@@ -1,1 +1,4 @@
 pub mod Batch
+pub mod Grammar
+pub mod Forms
+pub mod Gives

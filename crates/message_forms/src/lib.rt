@@ -4,8 +4,12 @@
 
 mod batch;
 mod digests;
+mod form_reader;
 mod inner;
+mod pieces;
+mod read;
 mod refusal;
+mod words;
 mod write;
 mod written;
 
