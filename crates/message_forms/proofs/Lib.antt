@@ -3,3 +3,5 @@ pub mod FrameLemmas
 pub mod FieldReads
 pub mod Walking
 pub mod Spells
+pub mod SpellsFrames
+pub mod Lengths
