@@ -1,18 +1,15 @@
 -- A field that the reader of fields takes, or finds too short, is what the grammar says.
-use Rattle.std.proofs.Common.{◌≡◌, ◌<◌, ◌≤◌, ◌+◌, ◌^◌, ℕ, ℤ, Bool, true, false, List, [], ◌∷◌, ◌++◌, length, take, drop, refl, sym, ap, ◌∙◌, arith, length-append}
-use Rattle.std.specs.Prelude.{nat_lt, Result, Ok, Err, FitsSigned}
-use Rattle.std.specs.Int.{w64, cast_unsigned, cast_signed}
+use Rattle.std.proofs.Common.{◌≡◌, ◌<◌, ◌+◌, ◌^◌, ℕ, true, false, List, ◌++◌, length, take, drop, refl, sym, ap, ◌∙◌, arith, length-append}
+use Rattle.std.specs.Prelude.{nat_lt, Ok, Err}
 use Rattle.std.proofs.lemmas.Bool.{le-ltb}
 use Rattle.std.proofs.lemmas.List.{take_at, drop_at}
-use Rattle.std.proofs.lemmas.Int.{to_z-of_z}
-use Rattle.std.proofs.Math.Facts.{Fits-of_z}
 use Rattle.byteorder.specs.Endian.{big_number}
 use Rattle.byteorder.specs.Numbers.{big_number-reads_back}
 use Rattle.wire_parts.specs.View.{View, Takes}
-use Rattle.wire_parts.specs.Fields.{u8_bytes, u16_bytes, u32_bytes, u64_bytes, i64_bytes}
+use Rattle.wire_parts.specs.Fields.{u8_bytes, u16_bytes, u32_bytes, u64_bytes}
 use Rattle.wire_parts.specs.FieldLaws.{length-u16_bytes, length-u32_bytes, length-u64_bytes}
 use Rattle.message_forms.specs.declared.refusal.FormRefusal.TheVariants as fault
-use Rattle.message_forms.specs.Grammar.{field_at, at, end_at, number_at, signed_number_at, bytes_at}
+use Rattle.message_forms.specs.Grammar.{field_at, at, end_at, number_at, bytes_at}
 
 -- what a field of this value gives at a part that stands at `base`
 pub field_ok : {X : Type 0} (value : List ℕ → X) (size base : ℕ) (v w : View) (x : X) (piece : List ℕ)
@@ -21,7 +18,7 @@ pub field_ok : {X : Type 0} (value : List ℕ → X) (size base : ℕ) (v w : Vi
 unfolding field_at
 field_ok value size base v w x piece takes len is =
     let enough : nat_lt (length v.rest) size ≡ false =
-        le-ltb (length v.rest) size (omega (arith, ap length takes.bytes, length-append piece w.rest)) in
+    le-ltb (length v.rest) size (omega (arith, ap length takes.bytes, length-append piece w.rest)) in
     let rest : drop size v.rest ≡ w.rest = ap (drop size) takes.bytes ∙ drop_at piece w.rest size len in
     let value_is : value v.rest ≡ x = ap value takes.bytes ∙ is in
     let place : base + v.place + size ≡ base + w.place = omega (arith, takes.place) in

@@ -1,11 +1,10 @@
 -- How long texts can be: a frame that has a spelling is below 1 GiB.
-use Rattle.std.proofs.Common.{◌≡◌, ◌<◌, ◌≤◌, ◌+◌, ◌*◌, ◌^◌, ℕ, Bool, true, false, List, [], ◌∷◌, ◌++◌, length, refl, sym, ap, ◌∙◌, arith, length-append}
+use Rattle.std.proofs.Common.{◌≡◌, ◌≤◌, ◌+◌, ◌*◌, ◌^◌, ℕ, Bool, true, List, [], ◌∷◌, ◌++◌, length, refl, arith, length-append}
 use Rattle.std.specs.Prelude.{◌&&◌, nat_le, map}
-use Rattle.std.specs.Int.{w64, cast_unsigned}
 use Rattle.std.specs.List.{flat_map, list_all, AllByRecursion}
 use Rattle.std.proofs.Math.Nat.{mul-suc, mul-le-mul_left}
 use Rattle.std.proofs.lemmas.Bool.{and_parts, leb-true}
-use Rattle.wire_parts.specs.Fields.{u8_bytes, u16_bytes, u32_bytes, u64_bytes, i64_bytes}
+use Rattle.wire_parts.specs.Fields.{u16_bytes, u64_bytes}
 use Rattle.wire_parts.specs.FieldLaws.{length-u16_bytes, length-u32_bytes, length-u64_bytes}
 use Rattle.message_types.specs.declared.signed.Signed.{Signed}
 use Rattle.message_types.specs.declared.updates.Op.{Op}
@@ -19,14 +18,13 @@ use Rattle.message_types.specs.declared.ordering.Commit.{Commit}
 use Rattle.message_types.specs.declared.ordering.Mark.{Mark}
 use Rattle.message_types.specs.declared.ordering.Certificate.{Certificate}
 use Rattle.message_types.specs.declared.views.Report.{Report}
-use Rattle.message_types.specs.declared.vouchers.NoticeKind.{NoticeKind}
 use Rattle.message_types.specs.declared.vouchers.Order.{Order}
 use Rattle.message_types.specs.declared.vouchers.Order.TheVariants as order
 use Rattle.message_types.specs.declared.body.Body.{Body}
 use Rattle.message_types.specs.declared.body.Body.TheVariants as body
 use Rattle.message_types.specs.Texts.{list_text, signed_text, op_text, rows_text, order_text, update_text, request_text, ack_text, summary_text, prepare_text, commit_text, mark_text, certificate_text, report_text, body_text, frame_text}
 use Rattle.message_types.specs.Spelling.{is_rising, signers_of, signature_fits, frames_fit, always_fits, row_fits, rows_fit, request_fits, summary_fits, certificate_fits, report_fits, body_fits, has_spelling}
-use Rattle.message_forms.specs.Widths.{Is32, Is64, FitsSigner, FitsSigners, FitsUpdate, FitsRequest, FitsAck, FitsRow, FitsRows, FitsSummary, FitsPrepare, FitsCommit, FitsMark, FitsCertificate, FitsReport, FitsBody, FitsFields}
+use Rattle.message_forms.specs.Widths.{Is64, FitsSigner, FitsSigners, FitsAck, FitsRow, FitsRows, FitsSummary, FitsPrepare, FitsCommit, FitsMark, FitsCertificate, FitsReport, FitsBody, FitsFields}
 
 items_within : {X : Type 0} (f : X → List ℕ) (p : X → Bool) (W : X → Type 0) (most : ℕ)
     → ((x : X) → p x ≡ true → W x → length (f x) ≤ most)
@@ -112,8 +110,14 @@ certificate_within c fits wide =
     let a = and_parts (rows_fit c.rows) (frames_fit always_fits c.prepares) fits in
     let rows = rows_within c.rows a.0 wide.1.1.0 in
     let prepares = frames_within prepare_text always_fits FitsPrepare 50 (λ b ok w. prepare_within b w) c.prepares a.1 wide.1.1.1 in
-    omega (arith, length-append (u64_bytes c.s ++ u64_bytes c.v ++ rows_text c.rows) (list_text (signed_text prepare_text) c.prepares),
-      length-append (u64_bytes c.s ++ u64_bytes c.v) (rows_text c.rows), length-append (u64_bytes c.s) (u64_bytes c.v), length-u64_bytes c.s, length-u64_bytes c.v)
+    omega (
+      arith,
+      length-append (u64_bytes c.s ++ u64_bytes c.v ++ rows_text c.rows) (list_text (signed_text prepare_text) c.prepares),
+      length-append (u64_bytes c.s ++ u64_bytes c.v) (rows_text c.rows),
+      length-append (u64_bytes c.s) (u64_bytes c.v),
+      length-u64_bytes c.s,
+      length-u64_bytes c.v,
+    )
 
 pub report_within : (b : Report) → report_fits b ≡ true → FitsReport b → length (report_text b) ≤ 15637674
 report_within b fits wide =
@@ -126,9 +130,16 @@ report_within b fits wide =
     let front = u16_bytes 14 ++ u64_bytes b.v ++ u64_bytes b.base in
     let m = list_text (signed_text mark_text) b.marks in
     let c = list_text certificate_text b.certificates in
-    omega (arith, length-append (u16_bytes 14 ++ u64_bytes b.v ++ u64_bytes b.base ++ list_text (signed_text mark_text) b.marks) (list_text certificate_text b.certificates),
+    omega (
+      arith,
+      length-append (u16_bytes 14 ++ u64_bytes b.v ++ u64_bytes b.base ++ list_text (signed_text mark_text) b.marks) (list_text certificate_text b.certificates),
       length-append (u16_bytes 14 ++ u64_bytes b.v ++ u64_bytes b.base) (list_text (signed_text mark_text) b.marks),
-      length-append (u16_bytes 14 ++ u64_bytes b.v) (u64_bytes b.base), length-append (u16_bytes 14) (u64_bytes b.v), length-u16_bytes 14, length-u64_bytes b.v, length-u64_bytes b.base)
+      length-append (u16_bytes 14 ++ u64_bytes b.v) (u64_bytes b.base),
+      length-append (u16_bytes 14) (u64_bytes b.v),
+      length-u16_bytes 14,
+      length-u64_bytes b.v,
+      length-u64_bytes b.base,
+    )
 
 order_within : (o : Order) → length (order_text o) ≤ 14
 order_within (order.Write point raw) = simp (length-append, length-u16_bytes, length-u32_bytes) (omega arith)
@@ -142,8 +153,15 @@ body_within (body.PoAck b) fits wide = let w = ack_within b wide in omega arith
 body_within (body.PoSummary b) fits wide = let w = summary_within b fits wide in omega arith
 body_within (body.PrePrepare b) fits wide =
     let frames = frames_within summary_text summary_fits FitsSummary 116 summary_within b.frames fits wide.1.1 in
-    omega (arith, length-append (u16_bytes 5 ++ u64_bytes b.v ++ u64_bytes b.s) (list_text (signed_text summary_text) b.frames),
-      length-append (u16_bytes 5 ++ u64_bytes b.v) (u64_bytes b.s), length-append (u16_bytes 5) (u64_bytes b.v), length-u16_bytes 5, length-u64_bytes b.v, length-u64_bytes b.s)
+    omega (
+      arith,
+      length-append (u16_bytes 5 ++ u64_bytes b.v ++ u64_bytes b.s) (list_text (signed_text summary_text) b.frames),
+      length-append (u16_bytes 5 ++ u64_bytes b.v) (u64_bytes b.s),
+      length-append (u16_bytes 5) (u64_bytes b.v),
+      length-u16_bytes 5,
+      length-u64_bytes b.v,
+      length-u64_bytes b.s,
+    )
 body_within (body.Prepare b) fits wide = let w = prepare_within b wide in omega arith
 body_within (body.Commit b) fits wide = let w = commit_within b wide in omega arith
 body_within (body.Ping b) fits wide = simp (length-append, length-u16_bytes, length-u64_bytes) (omega arith)
@@ -155,24 +173,40 @@ body_within (body.Suspect b) fits wide = simp (length-append, length-u16_bytes, 
 body_within (body.Report b) fits wide = let w = report_within b fits wide in omega arith
 body_within (body.NewView b) fits wide =
     let frames = frames_within report_text report_fits FitsReport 15637674 report_within b.reports fits wide.1 in
-    omega (arith, length-append (u16_bytes 15 ++ u64_bytes b.v) (list_text (signed_text report_text) b.reports),
-      length-append (u16_bytes 15) (u64_bytes b.v), length-u16_bytes 15, length-u64_bytes b.v)
+    omega (
+      arith,
+      length-append (u16_bytes 15 ++ u64_bytes b.v) (list_text (signed_text report_text) b.reports),
+      length-append (u16_bytes 15) (u64_bytes b.v),
+      length-u16_bytes 15,
+      length-u64_bytes b.v,
+    )
 body_within (body.AskUpdate b) fits wide = simp (length-append, length-u16_bytes, length-u32_bytes, length-u64_bytes) (omega arith)
 body_within (body.Give b) fits wide =
     let a = and_parts (request_fits b.request.body && signature_fits b.request) (frames_fit always_fits b.acks) fits in
     let c = and_parts (request_fits b.request.body) (signature_fits b.request) a.0 in
     let request = signed_within request_text b.request 65585 (request_within b.request.body c.0) c.1 in
     let acks = frames_within ack_text always_fits FitsAck 46 (λ x ok w. ack_within x w) b.acks a.1 wide.1 in
-    omega (arith, length-append (u16_bytes 17 ++ signed_text request_text b.request) (list_text (signed_text ack_text) b.acks),
-      length-append (u16_bytes 17) (signed_text request_text b.request), length-u16_bytes 17)
+    omega (
+      arith,
+      length-append (u16_bytes 17 ++ signed_text request_text b.request) (list_text (signed_text ack_text) b.acks),
+      length-append (u16_bytes 17) (signed_text request_text b.request),
+      length-u16_bytes 17,
+    )
 body_within (body.AskOrder b) fits wide = simp (length-append, length-u16_bytes, length-u64_bytes) (omega arith)
 body_within (body.GiveOrdered b) fits wide =
     let a = and_parts (rows_fit b.rows) (frames_fit always_fits b.commits) fits in
     let rows = rows_within b.rows a.0 wide.1.1.0 in
     let commits = frames_within commit_text always_fits FitsCommit 50 (λ x ok w. commit_within x w) b.commits a.1 wide.1.1.1 in
-    omega (arith, length-append (u16_bytes 19 ++ u64_bytes b.s ++ u64_bytes b.v ++ rows_text b.rows) (list_text (signed_text commit_text) b.commits),
-      length-append (u16_bytes 19 ++ u64_bytes b.s ++ u64_bytes b.v) (rows_text b.rows), length-append (u16_bytes 19 ++ u64_bytes b.s) (u64_bytes b.v),
-      length-append (u16_bytes 19) (u64_bytes b.s), length-u16_bytes 19, length-u64_bytes b.s, length-u64_bytes b.v)
+    omega (
+      arith,
+      length-append (u16_bytes 19 ++ u64_bytes b.s ++ u64_bytes b.v ++ rows_text b.rows) (list_text (signed_text commit_text) b.commits),
+      length-append (u16_bytes 19 ++ u64_bytes b.s ++ u64_bytes b.v) (rows_text b.rows),
+      length-append (u16_bytes 19 ++ u64_bytes b.s) (u64_bytes b.v),
+      length-append (u16_bytes 19) (u64_bytes b.s),
+      length-u16_bytes 19,
+      length-u64_bytes b.s,
+      length-u64_bytes b.v,
+    )
 body_within (body.Voucher b) fits wide = let o = order_within b.order in simp (length-append, length-u16_bytes, length-u32_bytes, length-u64_bytes) (omega arith)
 body_within (body.Mark b) fits wide = let w = mark_within b in omega arith
 

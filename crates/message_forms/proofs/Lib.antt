@@ -5,3 +5,6 @@ pub mod Walking
 pub mod Spells
 pub mod SpellsFrames
 pub mod Lengths
+pub mod SpellsWords
+pub mod SpellsBody
+pub mod FrameLaws

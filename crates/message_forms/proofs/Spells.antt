@@ -1,27 +1,21 @@
 -- A reading and a text agree: what has the text is read, whatever follows it, and what is read has the text. One law
 -- for each piece of the grammar.
-use Rattle.std.proofs.Common.{Fits, w8, length-take, eq-eqb, ◌≡◌, ◌<◌, ◌≤◌, ◌+◌, ◌*◌, ◌^◌, ℕ, zero, suc, ℤ, Bool, true, false, List, [], ◌∷◌, ◌++◌, length, take, drop, get_or, refl, sym, ap, ◌∙◌, subst, arith, length-append, append_assoc}
-use Rattle.std.specs.Prelude.{◌&&◌, nat_eq, nat_lt, nat_le, if◌then◌else◌, Option, Some, None, Result, Ok, Err, FitsSigned}
-use Rattle.std.specs.Int.{w64, cast_signed, cast_unsigned}
+use Rattle.std.proofs.Common.{Fits, w8, length-take, eq-eqb, ◌≡◌, ◌<◌, ◌≤◌, ◌+◌, ◌^◌, ℕ, zero, suc, Bool, true, false, List, [], ◌∷◌, ◌++◌, length, take, drop, get_or, refl, sym, ap, ◌∙◌, subst, arith, length-append, append_assoc}
+use Rattle.std.specs.Prelude.{◌&&◌, nat_eq, nat_lt, nat_le, if◌then◌else◌, Option, None, Result, Ok, Err}
 use Rattle.std.specs.List.{flat_map, list_all, AllByRecursion}
 use Rattle.std.proofs.lemmas.Bool.{and_parts, le-ltb, ltb-false, leb-true, eqb-true}
 use Rattle.std.specs.Cmp.Derive.{both_true}
-use Rattle.std.proofs.lemmas.List.{take_at, drop_at, append-nil, take-append-drop, get_or-take}
+use Rattle.std.proofs.lemmas.List.{take_at, drop_at, take-append-drop, get_or-take}
 use Rattle.byteorder.specs.Endian.{big_number, big_from}
 use Rattle.byteorder.specs.Numbers.{big_number-reads_back}
 use Rattle.wire_parts.specs.View.{View, Takes}
 use Rattle.wire_parts.specs.ViewLaws.{Takes-append}
-use Rattle.wire_parts.specs.Fields.{u8_bytes, u16_bytes, u32_bytes, u64_bytes, i64_bytes}
+use Rattle.wire_parts.specs.Fields.{u8_bytes, u16_bytes, u32_bytes, u64_bytes}
 use Rattle.wire_parts.specs.FieldLaws.{length-u16_bytes, length-u32_bytes, length-u64_bytes, u16_bytes-big_number, u32_bytes-big_number, u64_bytes-big_number}
-use Rattle.message_types.specs.declared.signed.Signed.{Signed}
 use Rattle.message_forms.specs.declared.refusal.FormRefusal.{FormRefusal}
 use Rattle.message_forms.specs.declared.refusal.FormRefusal.TheVariants as fault
-use Rattle.message_forms.specs.Grammar.{Reading, ◌>>=◌, at, field_at, number_at, signed_number_at, bytes_at, nothing, both, made, checked_at, mark_here, count_at, length_at, is_above, key_at, marked, Cases, unknown, case, chosen, items_at, list_at, end_at, enclosed, as_signed, signed_at, signer_of, frames_at, no_key}
-
--- bytes are below 256
-abbrev pub IsBytes : List ℕ → Type 0
-IsBytes [] = Unit {0}
-IsBytes (b ∷ bs) = (b < 256) × IsBytes bs
+use Rattle.message_forms.specs.Widths.{IsBytes}
+use Rattle.message_forms.specs.Grammar.{Reading, ◌>>=◌, at, field_at, number_at, bytes_at, nothing, both, made, checked_at, mark_here, count_at, is_above, marked, items_at, list_at}
 
 pub IsBytes-behind : (xs ys : List ℕ) → IsBytes (xs ++ ys) → IsBytes ys
 IsBytes-behind [] ys h = h
@@ -50,10 +44,6 @@ pub record Spells {X : Type 0} (read : View → Reading X) (text : X → List �
       → read (at place (text x ++ rest)) ≡ Ok (x, at (place + length (text x)) rest)
   pub sound : (v : View) (z : X × View) → IsBytes v.rest → read v ≡ Ok z → Parsed text fits Wide v z
 
-
-
-
-
 pub bind_ok : {A B : Type 0} (r : Result A FormRefusal) (f : A → Result B FormRefusal) (y : B) → (r >>= f) ≡ Ok y
     → (x : A) × (r ≡ Ok x) × (f x ≡ Ok y)
 bind_ok (Ok x) f y h = (x, refl, h)
@@ -79,7 +69,7 @@ field_back : {X : Type 0} (value : List ℕ → X) (size place : ℕ) (piece res
 unfolding field_at
 field_back value size place piece rest x len is =
     let enough : nat_lt (length (piece ++ rest)) size ≡ false =
-        le-ltb (length (piece ++ rest)) size (omega (arith, length-append piece rest)) in
+    le-ltb (length (piece ++ rest)) size (omega (arith, length-append piece rest)) in
     let behind : drop size (piece ++ rest) ≡ rest = drop_at piece rest size len in
     rw (enough, behind, is, len) refl
 
@@ -96,7 +86,7 @@ field_taken value size v z h = taken (nat_lt (length v.rest) size) refl h where
 pub Spells-field : {X : Type 0} (value : List ℕ → X) (size : ℕ) (text : X → List ℕ) (fits : X → Bool) (Wide : X → Type 0)
     → ((x : X) → fits x ≡ true → Wide x → (rest : List ℕ) → (length (text x) ≡ size) × (value (text x ++ rest) ≡ x))
     → ((bytes : List ℕ) → IsBytes bytes → size ≤ length bytes
-      → (fits (value bytes) ≡ true) × Wide (value bytes) × (text (value bytes) ≡ take size bytes))
+    → (fits (value bytes) ≡ true) × Wide (value bytes) × (text (value bytes) ≡ take size bytes))
     → Spells (field_at value size) text fits Wide
 Spells-field value size text fits Wide again there = record {
   back = λ x place rest ok wide. let a = again x ok wide rest in field_back value size place (text x) rest x a.0 a.1;
@@ -104,7 +94,7 @@ Spells-field value size text fits Wide again there = record {
       let t = field_taken value size v z h in
       let o = there v.rest ok t.0 in
       let whole : v.rest ≡ text (value v.rest) ++ drop size v.rest =
-          sym (take-append-drop size v.rest) ∙ ap (λ front. front ++ drop size v.rest) (sym o.2) in
+      sym (take-append-drop size v.rest) ∙ ap (λ front. front ++ drop size v.rest) (sym o.2) in
       let len : length (text (value v.rest)) ≡ size = omega (arith, ap length o.2, length_take size v.rest t.0) in
       subst (Parsed text fits Wide v) t.1 (record { fits = o.0; wide = o.1; takes = record { bytes = whole; place = ap (λ n. v.place + n) (sym len) } });
 } where
@@ -130,41 +120,43 @@ pub Spells-u8 : Spells (number_at 1) u8_bytes (λ x. true) (λ x. x < 2 ^ 8)
 Spells-u8 = Spells-field (big_number 1) 1 u8_bytes (λ x. true) (λ x. x < 2 ^ 8)
     (λ x ok wide rest. (refl, omega arith))
     (λ bytes ok enough. one bytes ok enough) where
-  one : (bytes : List ℕ) → IsBytes bytes → 1 ≤ length bytes
-      → (true ≡ true) × (big_number 1 bytes < 2 ^ 8) × (u8_bytes (big_number 1 bytes) ≡ take 1 bytes)
-  one [] ok enough = absurd (omega arith)
-  one (b ∷ bytes) ok enough = let b_is : big_number 1 (b ∷ bytes) ≡ b = omega arith in (refl, omega (arith, ok.0), ap (λ x. x ∷ []) b_is)
+      one : (bytes : List ℕ) → IsBytes bytes → 1 ≤ length bytes
+          → (true ≡ true) × (big_number 1 bytes < 2 ^ 8) × (u8_bytes (big_number 1 bytes) ≡ take 1 bytes)
+      one [] ok enough = absurd (omega arith)
+      one (b ∷ bytes) ok enough = let b_is : big_number 1 (b ∷ bytes) ≡ b = omega arith in (refl, omega (arith, ok.0), ap (λ x. x ∷ []) b_is)
 
 pub Spells-u16 : Spells (number_at 2) u16_bytes (λ x. true) (λ x. x < 2 ^ 16)
 unfolding u16_bytes
 Spells-u16 = Spells-field (big_number 2) 2 u16_bytes (λ x. true) (λ x. x < 2 ^ 16)
     (λ x ok wide rest. (length-u16_bytes x, big_number-reads_back 2 x rest wide))
     (λ bytes ok enough.
-      let at_ : (i : ℕ) → get_or bytes i 0 < 256 = λ i. IsBytes-at bytes i ok in
-      let len : length (take 2 bytes) ≡ 2 = omega (arith, length-take 2 bytes) in
-      let is = u16_bytes-big_number (take 2 bytes) len (λ i. byte_fits (take 2 bytes) i (IsBytes-take 2 bytes ok)) in
-      (refl, omega (arith, at_ 0, at_ 1), ap u16_bytes (sym (big_from-take 0 2 2 bytes (omega arith))) ∙ is))
+    let at_ : (i : ℕ) → get_or bytes i 0 < 256 = λ i. IsBytes-at bytes i ok in
+    let len : length (take 2 bytes) ≡ 2 = omega (arith, length-take 2 bytes) in
+    let is = u16_bytes-big_number (take 2 bytes) len (λ i. byte_fits (take 2 bytes) i (IsBytes-take 2 bytes ok)) in
+    (refl, omega (arith, at_ 0, at_ 1), ap u16_bytes (sym (big_from-take 0 2 2 bytes (omega arith))) ∙ is))
 
 pub Spells-u32 : Spells (number_at 4) u32_bytes (λ x. true) (λ x. x < 2 ^ 32)
 unfolding u32_bytes
 Spells-u32 = Spells-field (big_number 4) 4 u32_bytes (λ x. true) (λ x. x < 2 ^ 32)
     (λ x ok wide rest. (length-u32_bytes x, big_number-reads_back 4 x rest wide))
     (λ bytes ok enough.
-      let at_ : (i : ℕ) → get_or bytes i 0 < 256 = λ i. IsBytes-at bytes i ok in
-      let len : length (take 4 bytes) ≡ 4 = omega (arith, length-take 4 bytes) in
-      let is = u32_bytes-big_number (take 4 bytes) len (λ i. byte_fits (take 4 bytes) i (IsBytes-take 4 bytes ok)) in
-      (refl, omega (arith, at_ 0, at_ 1, at_ 2, at_ 3), ap u32_bytes (sym (big_from-take 0 4 4 bytes (omega arith))) ∙ is))
+    let at_ : (i : ℕ) → get_or bytes i 0 < 256 = λ i. IsBytes-at bytes i ok in
+    let len : length (take 4 bytes) ≡ 4 = omega (arith, length-take 4 bytes) in
+    let is = u32_bytes-big_number (take 4 bytes) len (λ i. byte_fits (take 4 bytes) i (IsBytes-take 4 bytes ok)) in
+    (refl, omega (arith, at_ 0, at_ 1, at_ 2, at_ 3), ap u32_bytes (sym (big_from-take 0 4 4 bytes (omega arith))) ∙ is))
 
 pub Spells-u64 : Spells (number_at 8) u64_bytes (λ x. true) (λ x. x < 2 ^ 64)
 unfolding u64_bytes
 Spells-u64 = Spells-field (big_number 8) 8 u64_bytes (λ x. true) (λ x. x < 2 ^ 64)
     (λ x ok wide rest. (length-u64_bytes x, big_number-reads_back 8 x rest wide))
     (λ bytes ok enough.
-      let at_ : (i : ℕ) → get_or bytes i 0 < 256 = λ i. IsBytes-at bytes i ok in
-      let len : length (take 8 bytes) ≡ 8 = omega (arith, length-take 8 bytes) in
-      let is = u64_bytes-big_number (take 8 bytes) len (λ i. byte_fits (take 8 bytes) i (IsBytes-take 8 bytes ok)) in
-      (refl, omega (arith, at_ 0, at_ 1, at_ 2, at_ 3, at_ 4, at_ 5, at_ 6, at_ 7),
-      ap u64_bytes (sym (big_from-take 0 8 8 bytes (omega arith))) ∙ is))
+    let at_ : (i : ℕ) → get_or bytes i 0 < 256 = λ i. IsBytes-at bytes i ok in
+    let len : length (take 8 bytes) ≡ 8 = omega (arith, length-take 8 bytes) in
+    let is = u64_bytes-big_number (take 8 bytes) len (λ i. byte_fits (take 8 bytes) i (IsBytes-take 8 bytes ok)) in (
+      refl,
+      omega (arith, at_ 0, at_ 1, at_ 2, at_ 3, at_ 4, at_ 5, at_ 6, at_ 7),
+      ap u64_bytes (sym (big_from-take 0 8 8 bytes (omega arith))) ∙ is,
+    ))
 
 -- so many bytes as they stand
 pub Spells-bytes : (size : ℕ) → Spells (bytes_at size) (λ bytes. bytes) (λ bytes. true) (λ bytes. length bytes ≡ size)
@@ -214,8 +206,11 @@ Spells-both {ra = ra} {rb = rb} {ta = ta} {tb = tb} {pa = pa} {pb = pb} {Wa = Wa
       let a = first.sound v one.0 ok one.1 in
       let b = second.sound one.0.1 two.0 (rest_bytes v one.0.1 (ta one.0.0) a.takes ok) two.1 in
       subst (Parsed (λ x. ta x.0 ++ tb x.1) (λ x. pa x.0 && pb x.1) (λ x. Wa x.0 × Wb x.1) v) (ok_inj two.2)
-      (record { fits = both_true a.fits b.fits; wide = (a.wide, b.wide);
-        takes = Takes-append v one.0.1 two.0.1 (ta one.0.0) (tb two.0.0) a.takes b.takes });
+      (record {
+        fits = both_true a.fits b.fits;
+        wide = (a.wide, b.wide);
+        takes = Takes-append v one.0.1 two.0.1 (ta one.0.0) (tb two.0.0) a.takes b.takes;
+      });
 }
 
 pub Spells-made : {A X : Type 0} {r : View → Reading A} {t : A → List ℕ} {p : A → Bool} {W : A → Type 0}
@@ -307,12 +302,17 @@ module _ {X : Type 0} (item : Option ℕ → View → Reading X) (key : X → Op
       let parts = and_parts (is_above before (key one.0.0)) (p one.0.0) a.fits in
       let b = items_sound n (key one.0.0) one.0.1 two.0 (rest_bytes v one.0.1 (t one.0.0) a.takes ok) two.1 in
       subst (ItemsParsed t key p W (suc n) before v) (ok_inj two.2)
-      (record { count = ap suc b.count; order = both_true parts.0 b.order; fits = both_true parts.1 b.fits; wide = (a.wide, b.wide);
-        takes = Takes-append v one.0.1 two.0.1 (t one.0.0) (flat_map t two.0.0) a.takes b.takes })
+      (record {
+        count = ap suc b.count;
+        order = both_true parts.0 b.order;
+        fits = both_true parts.1 b.fits;
+        wide = (a.wide, b.wide);
+        takes = Takes-append v one.0.1 two.0.1 (t one.0.0) (flat_map t two.0.0) a.takes b.takes;
+      })
 
   pub Spells-list : (most : ℕ) → most < 2 ^ 16
       → Spells (list_at most item key) (λ xs. u16_bytes (length xs) ++ flat_map t xs)
-        (λ xs. nat_le (length xs) most && (rises key None xs && list_all p xs)) (AllByRecursion W)
+      (λ xs. nat_le (length xs) most && (rises key None xs && list_all p xs)) (AllByRecursion W)
   unfolding list_at
   Spells-list most small =
       let count = Spells-checked 2 u16_bytes (λ n. n < 2 ^ 16) (λ n. nat_le n most) fault.TooMany Spells-u16 in record {
@@ -331,6 +331,9 @@ module _ {X : Type 0} (item : Option ℕ → View → Reading X) (key : X → Op
             let b = items_sound one.0.0 None one.0.1 z (rest_bytes v one.0.1 (u16_bytes one.0.0) a.takes ok) one.2 in
             let takes : Takes v one.0.1 (u16_bytes (length z.0)) = subst (λ n. Takes v one.0.1 (u16_bytes n)) (sym b.count) a.takes in
             let within : nat_le (length z.0) most ≡ true = ap (λ n. nat_le n most) b.count ∙ a.fits in
-            record { fits = both_true within (both_true b.order b.fits); wide = b.wide;
-              takes = Takes-append v one.0.1 z.1 (u16_bytes (length z.0)) (flat_map t z.0) takes b.takes };
+            record {
+              fits = both_true within (both_true b.order b.fits);
+              wide = b.wide;
+              takes = Takes-append v one.0.1 z.1 (u16_bytes (length z.0)) (flat_map t z.0) takes b.takes;
+            };
       }

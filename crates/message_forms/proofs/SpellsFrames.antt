@@ -1,30 +1,28 @@
 -- The laws of frames, of lists of frames, and of forms that a number chooses.
-use Rattle.std.proofs.Common.{◌≡◌, ◌<◌, ◌≤◌, ◌+◌, ◌*◌, ◌^◌, ℕ, zero, suc, Bool, true, false, List, [], ◌∷◌, ◌++◌, length, take, drop, refl, sym, ap, ◌∙◌, subst, arith, length-append, append_assoc, eq-eqb}
-use Rattle.std.specs.Prelude.{◌&&◌, nat_eq, nat_lt, nat_le, if◌then◌else◌, Option, Some, None, Result, Ok, Err, map}
-use Rattle.std.specs.List.{flat_map, list_all, AllByRecursion}
-use Rattle.std.proofs.lemmas.Bool.{and_parts, le-ltb, ltb-false, leb-true, eqb-true}
+use Rattle.std.proofs.Common.{◌≡◌, ◌≤◌, ◌+◌, ◌^◌, ℕ, Bool, true, false, List, [], ◌∷◌, ◌++◌, length, refl, sym, ap, ◌∙◌, subst, arith, length-append, append_assoc}
+use Rattle.std.specs.Prelude.{◌&&◌, nat_eq, nat_lt, nat_le, if◌then◌else◌, Option, Some, None, Ok, Err, map}
+use Rattle.std.specs.List.{list_all}
+use Rattle.std.proofs.lemmas.Bool.{and_parts, ltb-false, leb-true, eqb-true}
 use Rattle.std.specs.Cmp.Derive.{both_true}
 use Rattle.std.proofs.lemmas.List.{append-nil, nil_from_length}
 use Rattle.wire_parts.specs.View.{View, Takes}
 use Rattle.wire_parts.specs.ViewLaws.{Takes-append}
-use Rattle.wire_parts.specs.Fields.{u8_bytes, u16_bytes, u32_bytes, u64_bytes}
-use Rattle.message_types.specs.declared.signed.Signed.{Signed}
+use Rattle.wire_parts.specs.Fields.{u32_bytes}
 use Rattle.message_types.specs.Texts.{signed_text, list_text}
 use Rattle.message_types.specs.Spelling.{is_rising, signers_of, signature_fits, frames_fit}
-use Rattle.message_forms.specs.declared.refusal.FormRefusal.{FormRefusal}
 use Rattle.message_forms.specs.declared.refusal.FormRefusal.TheVariants as fault
-use Rattle.message_forms.specs.Grammar.{Reading, ◌>>=◌, at, number_at, bytes_at, both, made, checked_at, length_at, is_above, key_at, Cases, unknown, case, chosen, list_at, end_at, enclosed, as_signed, signed_at, signer_of, frames_at}
-use Rattle.message_forms.specs.Widths.{Is32, FitsSigner, FitsSigners}
-use Rattle.message_forms.proofs.Spells.{IsBytes, IsBytes-front, Parsed, Spells, bind_ok, ok_inj, rest_bytes, Spells-bytes, Spells-u32, Spells-checked, Spells-both, Spells-made, Spells-as, rises, Spells-list}
+use Rattle.message_forms.specs.Grammar.{Reading, ◌>>=◌, at, number_at, bytes_at, made, length_at, is_above, Cases, unknown, case, chosen, end_at, enclosed, as_signed, signed_at, signer_of, frames_at}
+use Rattle.message_forms.specs.Widths.{IsBytes, Is32, FitsSigner, FitsSigners}
+use Rattle.message_forms.proofs.Spells.{IsBytes-front, Parsed, Spells, bind_ok, ok_inj, rest_bytes, Spells-bytes, Spells-u32, Spells-checked, Spells-both, Spells-made, Spells-as, rises, Spells-list}
 
-end_none : (v : View) (z : Unit {0} × View) → end_at v ≡ Ok z → v.rest ≡ []
+pub end_none : (v : View) (z : Unit {0} × View) → end_at v ≡ Ok z → v.rest ≡ []
 unfolding end_at
 end_none v z h = nothing_left (nat_lt 0 (length v.rest)) refl h where
   nothing_left : (b : Bool) → nat_lt 0 (length v.rest) ≡ b → (if b then Err (fault.Trailing v.place) else Ok (tt, v)) ≡ Ok z → v.rest ≡ []
   nothing_left true is h = absurd (cc)
   nothing_left false is h = let none = ltb-false 0 (length v.rest) is in nil_from_length v.rest (omega (arith, none))
 
-end_here : (place : ℕ) → end_at (at place []) ≡ Ok (tt, at place [])
+pub end_here : (place : ℕ) → end_at (at place []) ≡ Ok (tt, at place [])
 unfolding end_at
 end_here place = refl
 
@@ -58,35 +56,39 @@ module _ {B : Type 0} {r : View → Reading B} {t : B → List ℕ} {p : B → B
       let five = (length_law 65536).back (length sig) p2 r3 fits (omega (arith, sig_small)) in
       let six = (Spells-bytes (length sig)).back sig p3 rest refl refl in
       let whole : enclosed_text t (b, sig) ++ rest ≡ u32_bytes size ++ (t b ++ r2) =
-          append_assoc (u32_bytes size) (t b ++ (u32_bytes (length sig) ++ sig)) rest
-          ∙ ap (λ x. u32_bytes size ++ x) (append_assoc (t b) (u32_bytes (length sig) ++ sig) rest)
-          ∙ ap (λ x. u32_bytes size ++ (t b ++ x)) (append_assoc (u32_bytes (length sig)) sig rest) in
+      append_assoc (u32_bytes size) (t b ++ (u32_bytes (length sig) ++ sig)) rest
+      ∙ ap (λ x. u32_bytes size ++ x) (append_assoc (t b) (u32_bytes (length sig) ++ sig) rest)
+      ∙ ap (λ x. u32_bytes size ++ (t b ++ x)) (append_assoc (u32_bytes (length sig)) sig rest) in
       ap (λ bytes. enclosed r (at place bytes)) whole
       ∙ ap (λ read. read >>= λ n. bytes_at n.0 n.1 >>= λ piece. r (at n.1.place piece.0) >>= λ word.
-        end_at word.1 >>= λ done. length_at 65536 piece.1 >>= λ count. bytes_at count.0 count.1 >>= λ s. Ok ((word.0, s.0), s.1)) one
+      end_at word.1 >>= λ done. length_at 65536 piece.1 >>= λ count. bytes_at count.0 count.1 >>= λ s. Ok ((word.0, s.0), s.1)) one
       ∙ ap (λ read. read >>= λ piece. r (at p1 piece.0) >>= λ word.
-        end_at word.1 >>= λ done. length_at 65536 piece.1 >>= λ count. bytes_at count.0 count.1 >>= λ s. Ok ((word.0, s.0), s.1)) two
+      end_at word.1 >>= λ done. length_at 65536 piece.1 >>= λ count. bytes_at count.0 count.1 >>= λ s. Ok ((word.0, s.0), s.1)) two
       ∙ ap (λ read. read >>= λ word.
-        end_at word.1 >>= λ done. length_at 65536 (at p2 r2) >>= λ count. bytes_at count.0 count.1 >>= λ s. Ok ((word.0, s.0), s.1))
-        (ap (λ x. r (at p1 x)) (sym (append-nil (t b))) ∙ three)
+      end_at word.1 >>= λ done. length_at 65536 (at p2 r2) >>= λ count. bytes_at count.0 count.1 >>= λ s. Ok ((word.0, s.0), s.1))
+      (ap (λ x. r (at p1 x)) (sym (append-nil (t b))) ∙ three)
       ∙ ap (λ read. read >>= λ done. length_at 65536 (at p2 r2) >>= λ count. bytes_at count.0 count.1 >>= λ s. Ok ((b, s.0), s.1)) four
       ∙ ap (λ read. read >>= λ count. bytes_at count.0 count.1 >>= λ s. Ok ((b, s.0), s.1)) five
       ∙ ap (λ read. read >>= λ s. Ok ((b, s.0), s.1)) six
-      ∙ ap (λ n. Ok ((b, sig), at n rest)) (omega (arith, length-append (u32_bytes size) (t b ++ (u32_bytes (length sig) ++ sig)),
-        length-append (t b) (u32_bytes (length sig) ++ sig), length-append (u32_bytes (length sig)) sig))
+      ∙ ap (λ n. Ok ((b, sig), at n rest)) (omega (
+        arith,
+        length-append (u32_bytes size) (t b ++ (u32_bytes (length sig) ++ sig)),
+        length-append (t b) (u32_bytes (length sig) ++ sig),
+        length-append (u32_bytes (length sig)) sig,
+      ))
 
   enclosed_sound : (v : View) (z : (B × List ℕ) × View) → IsBytes v.rest → enclosed r v ≡ Ok z
       → Parsed (enclosed_text t) (λ x. p x.0 && nat_le (length x.1) 65536) (λ x. W x.0) v z
   unfolding enclosed
   enclosed_sound v z ok h =
       let one = bind_ok (length_at (2 ^ 30) v) (λ n. bytes_at n.0 n.1 >>= λ piece. r (at n.1.place piece.0) >>= λ word.
-          end_at word.1 >>= λ done. length_at 65536 piece.1 >>= λ count. bytes_at count.0 count.1 >>= λ s. Ok ((word.0, s.0), s.1)) z h in
+      end_at word.1 >>= λ done. length_at 65536 piece.1 >>= λ count. bytes_at count.0 count.1 >>= λ s. Ok ((word.0, s.0), s.1)) z h in
       let n = one.0 in
       let two = bind_ok (bytes_at n.0 n.1) (λ piece. r (at n.1.place piece.0) >>= λ word.
-          end_at word.1 >>= λ done. length_at 65536 piece.1 >>= λ count. bytes_at count.0 count.1 >>= λ s. Ok ((word.0, s.0), s.1)) z one.2 in
+      end_at word.1 >>= λ done. length_at 65536 piece.1 >>= λ count. bytes_at count.0 count.1 >>= λ s. Ok ((word.0, s.0), s.1)) z one.2 in
       let piece = two.0 in
       let three = bind_ok (r (at n.1.place piece.0)) (λ word.
-          end_at word.1 >>= λ done. length_at 65536 piece.1 >>= λ count. bytes_at count.0 count.1 >>= λ s. Ok ((word.0, s.0), s.1)) z two.2 in
+      end_at word.1 >>= λ done. length_at 65536 piece.1 >>= λ count. bytes_at count.0 count.1 >>= λ s. Ok ((word.0, s.0), s.1)) z two.2 in
       let word = three.0 in
       let four = bind_ok (end_at word.1) (λ done. length_at 65536 piece.1 >>= λ count. bytes_at count.0 count.1 >>= λ s. Ok ((word.0, s.0), s.1)) z three.2 in
       let five = bind_ok (length_at 65536 piece.1) (λ count. bytes_at count.0 count.1 >>= λ s. Ok ((word.0, s.0), s.1)) z four.2 in
@@ -113,8 +115,11 @@ module _ {B : Type 0} {r : View → Reading B} {t : B → List ℕ} {p : B → B
       let t34 = Takes-append piece.1 count.1 sig.1 (u32_bytes (length sig.0)) sig.0 t3 e.takes in
       let t234 = Takes-append n.1 piece.1 sig.1 (t word.0) (u32_bytes (length sig.0) ++ sig.0) t2 t34 in
       subst (Parsed (enclosed_text t) (λ x. p x.0 && nat_le (length x.1) 65536) (λ x. W x.0) v) (ok_inj six.2)
-      (record { fits = both_true c.fits small; wide = c.wide;
-        takes = Takes-append v n.1 sig.1 (u32_bytes (length (t word.0))) (t word.0 ++ (u32_bytes (length sig.0) ++ sig.0)) t1 t234 })
+      (record {
+        fits = both_true c.fits small;
+        wide = c.wide;
+        takes = Takes-append v n.1 sig.1 (u32_bytes (length (t word.0))) (t word.0 ++ (u32_bytes (length sig.0) ++ sig.0)) t1 t234;
+      })
 
   pub Spells-enclosed : Spells (enclosed r) (enclosed_text t) (λ x. p x.0 && nat_le (length x.1) 65536) (λ x. W x.0)
   Spells-enclosed = record {
@@ -152,7 +157,7 @@ pub Spells-frames : {B : Type 0} {r : View → Reading B} {t : B → List ℕ} {
 Spells-frames {r = r} {t = t} {p = p} {W = W} short law =
     Spells-as (list_text (signed_text t)) (frames_fit p) (FitsSigners W) (λ fs. refl)
     (λ fs. and_assoc (nat_le (length fs) 14) (is_rising (signers_of fs)) (list_all (λ f. p f.body && signature_fits f) fs)
-      ∙ ap (λ b. nat_le (length fs) 14 && (b && list_all (λ f. p f.body && signature_fits f) fs)) (rises_is (λ f. f.signer) fs))
+    ∙ ap (λ b. nat_le (length fs) 14 && (b && list_all (λ f. p f.body && signature_fits f) fs)) (rises_is (λ f. f.signer) fs))
     (λ f w. w) (λ f w. w)
     (Spells-list (signed_at r) signer_of (signed_text t) (λ f. p f.body && signature_fits f) (FitsSigner W) (Spells-signed short law) 14 (omega arith))
 
@@ -171,15 +176,16 @@ pub case_sound : {A X : Type 0} {r : View → Reading A} {ta : A → List ℕ} {
     → Spells r ta pa Wa → CasesSound others number t p W → CasesSound (case mark make r others) number t p W
 case_sound {A = A} {X = X} {r = r} {ta = ta} {pa = pa} {Wa = Wa} number t p W mark make others is_mark is_text is_fits wider law rest k place v z ok h =
     found (nat_eq k mark) refl h where
-  found : (b : Bool) → nat_eq k mark ≡ b → (if b then made make r v else others k place v) ≡ Ok z → (number z.0 ≡ k) × Parsed t p W v z
-  found true is h =
-      let b = bind_ok (r v) (λ a. Ok (make a.0, a.1)) z h in
-      let q = law.sound v b.0 ok b.1 in
-      let here : k ≡ mark = eqb-true k mark is in
-      subst (λ y. (number y.0 ≡ k) × Parsed t p W v y) (ok_inj b.2)
-      (is_mark b.0.0 ∙ sym here,
-        record { fits = is_fits b.0.0 ∙ q.fits; wide = wider b.0.0 q.wide; takes = subst (Takes v b.0.1) (sym (is_text b.0.0)) q.takes })
-  found false is h = rest k place v z ok h
+      found : (b : Bool) → nat_eq k mark ≡ b → (if b then made make r v else others k place v) ≡ Ok z → (number z.0 ≡ k) × Parsed t p W v z
+      found true is h =
+          let b = bind_ok (r v) (λ a. Ok (make a.0, a.1)) z h in
+          let q = law.sound v b.0 ok b.1 in
+          let here : k ≡ mark = eqb-true k mark is in
+          subst (λ y. (number y.0 ≡ k) × Parsed t p W v y) (ok_inj b.2) (
+            is_mark b.0.0 ∙ sym here,
+            record { fits = is_fits b.0.0 ∙ q.fits; wide = wider b.0.0 q.wide; takes = subst (Takes v b.0.1) (sym (is_text b.0.0)) q.takes },
+          )
+      found false is h = rest k place v z ok h
 
 pub made_back : {A X : Type 0} (make : A → X) (r : View → Reading A) (v : View) (a : A) (w : View) → r v ≡ Ok (a, w)
     → made make r v ≡ Ok (make a, w)
@@ -189,7 +195,7 @@ pub Spells-chosen : {X : Type 0} (size : ℕ) (text : ℕ → List ℕ) (Wide : 
     → (cases : Cases X) (number : X → ℕ) (t : X → List ℕ) (p : X → Bool) (W : X → Type 0) → ((x : X) → Wide (number x))
     → CasesSound cases number t p W
     → ((x : X) (start place : ℕ) (rest : List ℕ) → p x ≡ true → W x
-      → cases (number x) start (at place (t x ++ rest)) ≡ Ok (x, at (place + length (t x)) rest))
+    → cases (number x) start (at place (t x ++ rest)) ≡ Ok (x, at (place + length (t x)) rest))
     → Spells (chosen size cases) (λ x. text (number x) ++ t x) p W
 Spells-chosen size text Wide law cases number t p W numbers sound back = record {
   back = λ x place rest ok wide.

@@ -1,6 +1,6 @@
 -- A loop that reads items keeps: those read so far, with what stands there, are the whole list.
-use Rattle.std.proofs.Common.{◌≡◌, ◌<◌, ◌≤◌, ◌+◌, ◌-◌, ℕ, zero, suc, List, [], ◌∷◌, ◌++◌, refl, sym, ap, ◌∙◌, arith, append_assoc, append-nil}
-use Rattle.std.specs.Prelude.{Option, None, Result, Ok, Err}
+use Rattle.std.proofs.Common.{◌≡◌, ◌<◌, ◌+◌, ◌-◌, ℕ, suc, List, [], ◌∷◌, ◌++◌, refl, sym, ap, ◌∙◌, arith, append_assoc}
+use Rattle.std.specs.Prelude.{Option, Result, Ok, Err}
 use Rattle.wire_parts.specs.View.{View}
 use Rattle.message_forms.specs.declared.refusal.FormRefusal.{FormRefusal}
 use Rattle.message_forms.specs.declared.refusal.FormRefusal.TheVariants as fault

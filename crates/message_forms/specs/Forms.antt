@@ -1,5 +1,5 @@
 -- The forms of all words, by the tables of kinds. All are this project's own.
-use Rattle.std.specs.Prelude.{ℕ, ℤ, ◌<◌, ◌^◌, nat_lt, if◌then◌else◌, List, length, Option, Some, None, Result, Ok, Err}
+use Rattle.std.specs.Prelude.{ℕ, ℤ, ◌^◌, nat_lt, if◌then◌else◌, List, length, Option, Some, None, Result, Ok, Err}
 use Rattle.wire_parts.specs.View.{View}
 use Rattle.message_types.specs.declared.signed.Signed.{Signed}
 use Rattle.message_types.specs.declared.updates.Op.{Op}
@@ -125,12 +125,15 @@ unfoldable pub give_ordered_at : View → Reading GiveOrdered
 give_ordered_at = made (λ p. record { s = p.0; v = p.1.0; rows = p.1.1.0; commits = p.1.1.1 })
     (both (number_at 8) (both (number_at 8) (both rows_at (frames_at (marked 2 7 commit_at)))))
 
-unfoldable pub what_at : View → Reading NoticeKind
-what_at = chosen 1 (case 1 (λ _. notice.Done) nothing (case 2 (λ _. notice.Denied) nothing
+abbrev pub what_cases : Cases NoticeKind
+what_cases = case 1 (λ _. notice.Done) nothing (case 2 (λ _. notice.Denied) nothing
     (case 3 (λ _. notice.NoPoint) nothing (case 4 (λ _. notice.OutOfRange) nothing
     (case 5 (λ _. notice.NotWritable) nothing (case 6 (λ _. notice.NoAlarm) nothing
     (case 7 (λ _. notice.Raised) nothing (case 8 (λ _. notice.Cleared) nothing
-    (case 9 (λ _. notice.WrongPart) nothing unknown)))))))))
+    (case 9 (λ _. notice.WrongPart) nothing unknown))))))))
+
+unfoldable pub what_at : View → Reading NoticeKind
+what_at = chosen 1 what_cases
 
 unfoldable pub notice_at : View → Reading Notice
 notice_at = made (λ p. record { what = p.0; t = p.1.0; number = p.1.1 }) (both what_at (both (number_at 8) (number_at 4)))

@@ -1,5 +1,5 @@
 -- What a reader of the code answers, against the grammar.
-use Rattle.std.specs.Prelude.{◌≡◌, ℕ, List, Result, Ok, Err}
+use Rattle.std.specs.Prelude.{◌≡◌, ℕ, List, Option, Some, Result, Ok, Err}
 use Rattle.std.specs.Borrow.{Bor}
 use Rattle.wire_parts.specs.View.{View}
 use Rattle.message_forms.specs.declared.refusal.FormRefusal.{FormRefusal}
@@ -35,3 +35,13 @@ GivesPart (Err e) place behind read = Fails e read
 abbrev pub Answers : {X : Type 0} → Result X FormRefusal → Result X FormRefusal → Type 0
 Answers (Ok x) read = read ≡ Ok x
 Answers (Err e) read = Fails e read
+
+-- a refusal is the first fault, unless it is want of memory
+abbrev pub IsFault : FormRefusal → Option FormRefusal → Type 0
+IsFault fault.Want first = Unit {0}
+IsFault (fault.Short place) first = first ≡ Some (fault.Short place)
+IsFault (fault.Trailing place) first = first ≡ Some (fault.Trailing place)
+IsFault (fault.UnknownKind place) first = first ≡ Some (fault.UnknownKind place)
+IsFault (fault.TooMany place) first = first ≡ Some (fault.TooMany place)
+IsFault (fault.BadOrder place) first = first ≡ Some (fault.BadOrder place)
+IsFault (fault.TooLong place) first = first ≡ Some (fault.TooLong place)

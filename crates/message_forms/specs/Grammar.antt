@@ -1,7 +1,7 @@
 -- How bytes are taken apart: the pieces that every form is made of, each with its one fault. What stands at the
 -- front of the bytes is a value and what is left behind it, or the first fault and its place. The forms themselves
 -- stand in `Forms`; that they agree with the texts of `message_types`, both ways, is proved of each.
-use Rattle.std.specs.Prelude.{ℕ, zero, suc, ◌+◌, ◌^◌, Bool, true, ◌&&◌, nat_eq, nat_lt, nat_le, if◌then◌else◌, List, [], ◌∷◌, length, take, drop, Option, Some, None, Result, Ok, Err, ℤ}
+use Rattle.std.specs.Prelude.{ℕ, zero, suc, ◌+◌, ◌^◌, Bool, true, nat_eq, nat_lt, nat_le, if◌then◌else◌, List, [], ◌∷◌, length, take, drop, Option, Some, None, Result, Ok, Err, ℤ}
 use Rattle.std.specs.Int.{w64, cast_signed}
 use Rattle.byteorder.specs.Endian.{big_number}
 use Rattle.wire_parts.specs.View.{View}

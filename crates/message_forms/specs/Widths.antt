@@ -1,6 +1,6 @@
 -- Each number within the field that it is written in, and each digest of 32 bytes. A value of the program's types
 -- always is so; definitions, whose numbers have no bound, say it.
-use Rattle.std.specs.Prelude.{◌≡◌, ◌<◌, ◌^◌, ℕ, ℤ, List, length, FitsSigned}
+use Rattle.std.specs.Prelude.{◌≡◌, ◌<◌, ◌^◌, ℕ, List, [], ◌∷◌, length, FitsSigned}
 use Rattle.std.specs.Int.{w64}
 use Rattle.std.specs.List.{AllByRecursion}
 use Rattle.message_types.specs.declared.signed.Signed.{Signed}
@@ -25,6 +25,11 @@ use Rattle.message_types.specs.declared.vouchers.Order.TheVariants as order
 use Rattle.message_types.specs.declared.vouchers.Voucher.{Voucher}
 use Rattle.message_types.specs.declared.body.Body.{Body}
 use Rattle.message_types.specs.declared.body.Body.TheVariants as body
+
+-- a list of bytes, as every slice of bytes is
+abbrev pub IsBytes : List ℕ → Type 0
+IsBytes [] = Unit {0}
+IsBytes (b ∷ bytes) = (b < 256) × IsBytes bytes
 
 abbrev pub Is32 : ℕ → Type 0
 Is32 x = x < 2 ^ 32

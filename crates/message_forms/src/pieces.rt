@@ -20,6 +20,7 @@ pub trait Readable: Drop {
 /// An item of a list. In an ordered list each has a key above that of the item before it.
 pub trait Listed: Drop {
     ghost item: { Option ℕ → View → Reading Self };
+
     ghost key: { Self → Option ℕ };
 
     fn read_item(
@@ -96,10 +97,7 @@ fn signer(reader: &mut FormReader<'_>, before: Option<u64>) -> Result<u32, FormR
 }
 
 #[tactic(auto, unfolding(crate::specs::Grammar::checked_at))]
-pub fn number_above(
-    reader: &mut FormReader<'_>,
-    before: Option<u64>,
-) -> Result<u64, FormRefusal>
+pub fn number_above(reader: &mut FormReader<'_>, before: Option<u64>) -> Result<u64, FormRefusal>
     ensures { Gives result reader.new (key_at 8 before reader.old) }
 {
     let place = reader.place();
@@ -144,6 +142,7 @@ pub fn signed<B: Readable>(
 
 impl<B: Readable> Listed for Signed<B> {
     ghost item = { signed_at B.form };
+
     ghost key = { signer_of };
 
     fn read_item(

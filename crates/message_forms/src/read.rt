@@ -1,6 +1,11 @@
-ghost use Rattle.std.specs.Prelude.{◌≡◌};
-ghost use Rattle.message_forms.specs.Forms.{pre_prepare_at, ping_at, pong_at, rtt_at, tat_report_at, tat_bound_at, suspect_at, new_view_at, ask_update_at, give_at, ask_order_at, give_ordered_at, what_at, notice_at, order_at, voucher_at, measure_kinds, view_kinds, kinds, body_at, frame_at};
-ghost use Rattle.message_forms.specs.Gives.{Gives, Answers};
+ghost use Rattle.std.specs.Prelude.{◌≡◌, IsTrue, IsOk, IfOk, IfErr};
+ghost use Rattle.message_types.specs.Texts.{frame_text};
+ghost use Rattle.message_types.specs.Spelling.{has_spelling};
+ghost use Rattle.message_types.specs.declared.signed.Signed.{Signed};
+ghost use Rattle.message_types.specs.declared.body.Body.{Body};
+ghost use Rattle.message_forms.specs.Forms.{pre_prepare_at, ping_at, pong_at, rtt_at, tat_report_at, tat_bound_at, suspect_at, new_view_at, ask_update_at, give_at, ask_order_at, give_ordered_at, what_at, notice_at, order_at, voucher_at, measure_kinds, view_kinds, kinds, body_at, frame_at, first_fault};
+ghost use Rattle.message_forms.specs.Widths.{FitsFields};
+ghost use Rattle.message_forms.specs.Gives.{Gives, Answers, IsFault};
 
 use crate::form_reader::FormReader;
 use crate::pieces::{Readable, frames, signed};
@@ -162,11 +167,7 @@ fn voucher(reader: &mut FormReader<'_>) -> Result<Voucher, FormRefusal>
 }
 
 #[tactic(auto, unfolding(crate::specs::Forms::ping_at, crate::specs::Forms::suspect_at))]
-fn measure(
-    reader: &mut FormReader<'_>,
-    kind: u16,
-    place: u64,
-) -> Result<Body, FormRefusal>
+fn measure(reader: &mut FormReader<'_>, kind: u16, place: u64) -> Result<Body, FormRefusal>
     ensures { Gives result reader.new (measure_kinds kind place reader.old) }
 {
     match kind {
@@ -235,7 +236,7 @@ impl Readable for Body {
     }
 }
 
-/// The frame that the bytes spell.
+// What the grammar gives.
 #[tactic(auto, unfolding(crate::specs::Forms::frame_at))]
 fn frame(alloc: Global, bytes: &[u8]) -> Result<Frame, FormRefusal>
     ensures { Answers result (frame_at bytes.now) }
@@ -247,4 +248,19 @@ fn frame(alloc: Global, bytes: &[u8]) -> Result<Frame, FormRefusal>
     let frame = signed(alloc, &mut reader, None)?;
     reader.end()?;
     Ok(frame)
+}
+
+/// The frame that the bytes spell, all of them. Else the first fault from the front.
+pub fn read_frame(alloc: Global, bytes: &[u8]) -> Result<Frame, FormRefusal>
+    // What is read is spelled so.
+    ensures found { IfOk result (λ frame. bytes.now ≡ frame_text frame) }
+    ensures spelled { IfOk result (λ frame. IsTrue (has_spelling frame)) }
+    // What is spelled so is read, unless memory runs out.
+    ensures only { (frame : Signed Body) → FitsFields frame → IsTrue (has_spelling frame)
+        → bytes.now ≡ frame_text frame → Answers result (Ok frame) }
+    // Each refusal is the first fault, unless memory runs out.
+    ensures fault { IfErr result (λ refusal. IsFault refusal (first_fault bytes.now)) }
+    ensures none { IsOk result → first_fault bytes.now ≡ None }
+{
+    frame(alloc, bytes)
 }

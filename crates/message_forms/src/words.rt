@@ -108,6 +108,7 @@ impl Readable for PoAck {
 
 impl Listed for u64 {
     ghost item = { λ before. number_at 8 };
+
     ghost key = { no_key };
 
     fn read_item(
@@ -132,6 +133,7 @@ fn row(alloc: Global, reader: &mut FormReader<'_>) -> Result<Vector, FormRefusal
 
 impl Listed for Vector {
     ghost item = { λ before. row_at };
+
     ghost key = { no_key };
 
     fn read_item(
@@ -249,6 +251,7 @@ fn certificate(
 
 impl Listed for Certificate {
     ghost item = { certificate_at };
+
     ghost key = { certificate_key };
 
     fn read_item(

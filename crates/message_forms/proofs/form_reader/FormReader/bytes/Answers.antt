@@ -1,4 +1,4 @@
-use Rattle.std.proofs.Common.{◌≡◌, ◌<◌, ◌^◌, arith, refl, sym, ap, ◌∙◌}
+use Rattle.std.proofs.Common.{refl}
 use Rattle.message_forms.proofs.FieldReads.{bytes_read, short_read}
 use Rattle.message_forms.proofs.form_reader.FormReader.bytes.Goals as goal
 

@@ -1,5 +1,4 @@
-use Rattle.std.proofs.Common.{◌≡◌, ◌<◌, refl, sym, ap, ◌∙◌, false, true}
-use Rattle.message_forms.specs.Grammar.{at}
+use Rattle.std.proofs.Common.{sym}
 use Rattle.message_forms.proofs.FieldReads.{end_is_ok, end_is_left}
 use Rattle.message_forms.proofs.form_reader.FormReader.end.Goals as goal
 

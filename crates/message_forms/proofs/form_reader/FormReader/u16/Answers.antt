@@ -1,4 +1,4 @@
-use Rattle.std.proofs.Common.{◌≡◌, ◌<◌, ◌^◌, arith, refl, sym, ap, ◌∙◌}
+use Rattle.std.proofs.Common.{◌<◌, ◌^◌, arith, refl}
 use Rattle.message_forms.proofs.FieldReads.{u16_read, short_read}
 use Rattle.message_forms.proofs.form_reader.FormReader.u16.Goals as goal
 
