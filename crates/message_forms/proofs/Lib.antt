@@ -1,1 +1,10 @@
 pub mod ListLemmas
+pub mod FrameLemmas
+pub mod FieldReads
+pub mod Walking
+pub mod Spells
+pub mod SpellsFrames
+pub mod Lengths
+pub mod SpellsWords
+pub mod SpellsBody
+pub mod FrameLaws

@@ -1,1 +1,5 @@
 pub mod Batch
+pub mod Grammar
+pub mod Forms
+pub mod Gives
+pub mod Widths

@@ -4,11 +4,21 @@
 
 mod batch;
 mod digests;
+mod form_reader;
+mod inner;
+pub mod laws;
+mod pieces;
+mod read;
 mod refusal;
+mod words;
+mod write;
+mod written;
 
 pub use crate::batch::batch_text;
 pub use crate::digests::{rows_digest, update_digest};
+pub use crate::read::read_frame;
 pub use crate::refusal::FormRefusal;
+pub use crate::write::{text_of, write_frame};
 pub use message_types::{
     AskOrder, AskUpdate, Body, Certificate, Commit, Frame, FrameList, Give, GiveOrdered, Mark,
     NewView, Notice, NoticeKind, Op, Order, Ping, Plan, PoAck, PoRequest, PoSummary, Pong,

@@ -1,5 +1,6 @@
 ghost use Rattle.std.specs.Prelude.{◌≡◌};
 
+use plain_lists::Want;
 use thiserror::Error;
 
 /// Why bytes are no spelling of a frame: the first fault from the front. A place counts from the first byte of
@@ -26,4 +27,14 @@ pub enum FormRefusal {
     TooLong { place: u64 },
     #[error("want of memory")]
     Want,
+}
+
+impl From<Want> for FormRefusal {
+    ghost use Rattle.message_forms.specs.declared.refusal.FormRefusal.TheVariants as fault;
+
+    ghost from_gives = { λ _ e. e ≡ fault.Want };
+
+    fn from(_want: Want) -> FormRefusal {
+        FormRefusal::Want
+    }
 }

@@ -1,0 +1,12 @@
+use Rattle.std.proofs.Common.{◌<◌, ◌^◌, arith, refl}
+use Rattle.message_forms.proofs.FieldReads.{u16_read, short_read}
+use Rattle.message_forms.proofs.form_reader.FormReader.u16.Goals as goal
+
+pub returns : goal.returns
+returns c =
+    let fits : c.in-Ok.number < 2 ^ 16 = omega arith in
+    rw (← c.self.view_is) (u16_read _ _ _ _ fits c.in-Ok.ensures.taken)
+
+pub returns-in_default : goal.returns-in_default
+returns-in_default c =
+    short_read _ _ _ _ _ _ c.self.view_is c.place-place.ensures.place (c.in_default.ensures.short.0 refl)
