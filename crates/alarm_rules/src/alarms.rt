@@ -69,12 +69,19 @@ impl Alarms {
         ensures err { OnErr result (self.new ≡ self.old) }
     {
         let told = self.changes(point, value)?;
-        settle(self.rules.as_slice(), &mut self.states, point, value);
+        self.settle(point, value);
         Ok(told)
     }
 
-    /// What a value of a point changes.
-    fn changes(&self, point: u32, value: i64) -> Result<Vec<Change>, Want>
+    /// Gives each alarm of a point its state after a value, which takes no memory.
+    pub fn settle(&mut self, point: u32, value: i64)
+        ensures { self.new ≡ record self.old { states = seen point value self.old.rules self.old.states } }
+    {
+        settle(self.rules.as_slice(), &mut self.states, point, value);
+    }
+
+    /// What a value of a point changes. The alarms stay as they are.
+    pub fn changes(&self, point: u32, value: i64) -> Result<Vec<Change>, Want>
         ensures { IfOk result (λ told. told.items ≡ changes point value 0 self.now.rules self.now.states) }
     {
         let mut told = Vec::new(self.alloc);

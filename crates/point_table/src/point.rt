@@ -102,6 +102,12 @@ impl Point {
     }
 }
 
+impl Copied for DeviceSizes {
+    fn copy(&self) -> Result<Self, Want> {
+        Ok(*self)
+    }
+}
+
 impl Copied for Point {
     fn copy(&self) -> Result<Self, Want> {
         Ok(Point {

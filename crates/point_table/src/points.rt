@@ -35,7 +35,7 @@ impl Model for Points {
 }
 
 impl Points {
-    ghost use Rattle.point_table.specs.Point.{is_within, raw_of};
+    ghost use Rattle.point_table.specs.Point.{is_within, raw_of, HasScale};
     ghost use Rattle.point_table.specs.Table.{Table, AreUsable, AreWithin, start_values, point_named};
 
     /// The most points that a plant may have.
@@ -81,6 +81,17 @@ impl Points {
         ensures { result ≡ slice_get self.now.values point }
     {
         self.values.get(point as usize).copied()
+    }
+
+    /// The point of that number. None exactly where there is none.
+    pub fn point(&self, number: u32) -> Option<&Point>
+        ensures point { option_copied result ≡ slice_get self.now.points number }
+        ensures scaled { IfSome result (λ p. HasScale p.now) }
+    {
+        match self.points.get(number as usize) {
+            Some(point) => Some(point),
+            None => None,
+        }
     }
 
     /// The raw value that stands for a value of a point.

@@ -1,0 +1,25 @@
+use alarm_rules::AlarmRule;
+use interlocks::Interlock;
+use plain_lists::{Copied, Items, Want};
+use point_table::{DeviceSizes, Point};
+
+/// What a scenario says of the plant: one field device behind each proxy, the points, the alarms over
+/// them, and the interlocks.
+#[derive(Drop)]
+pub struct Plant {
+    pub devices: Items<DeviceSizes>,
+    pub points: Items<Point>,
+    pub alarms: Items<AlarmRule>,
+    pub interlocks: Items<Interlock>,
+}
+
+impl Copied for Plant {
+    fn copy(&self) -> Result<Self, Want> {
+        Ok(Plant {
+            devices: self.devices.copy()?,
+            points: self.points.copy()?,
+            alarms: self.alarms.copy()?,
+            interlocks: self.interlocks.copy()?,
+        })
+    }
+}

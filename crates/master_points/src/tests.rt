@@ -1,0 +1,141 @@
+ghost use Rattle.std.specs.Prelude.{◌≡◌, ◌≤ℤ◌, pos, IfOk};
+ghost use Rattle.point_table.specs.Point.{IsUsable};
+ghost use Rattle.master_points.specs.Orders.{IsPlant};
+
+use crate::{Master, Plant};
+use alarm_rules::{AlarmKind, AlarmRule, Alarms};
+use interlocks::{Interlock, Rule, RuleRefusal};
+use message_types::{Notice, NoticeKind, Op, Order, Update};
+use plain_lists::{Copied, Items, Text, Want};
+use point_table::{Area, DeviceSizes, Point, Points};
+use std::alloc::Global;
+use std::test::Fail;
+
+fn point(
+    alloc: Global,
+    name: &str,
+    proxy: u32,
+    area: Area,
+    place: u16,
+    scale: i64,
+    high: i64,
+) -> Result<Point, Want>
+    requires scale { (pos 1 ≤ℤ scale) × (scale ≤ℤ pos 10) }
+    requires high { pos 0 ≤ℤ high }
+    ensures usable { IfOk result IsUsable }
+    ensures proxy { IfOk result (λ p. p.proxy ≡ proxy) }
+{
+    Ok(Point {
+        name: Text::from_str(alloc, name)?,
+        proxy,
+        area,
+        place,
+        scale,
+        offset: 0,
+        low: 0,
+        high,
+        start: 0,
+    })
+}
+
+fn overload(alloc: Global) -> Result<AlarmRule, Want> {
+    Ok(AlarmRule {
+        name: Text::from_str(alloc, "overload")?,
+        point: 0,
+        kind: AlarmKind::High,
+        limit: 9000,
+        band: 500,
+    })
+}
+
+fn no_close(alloc: Global) -> Result<Interlock, RuleRefusal> {
+    let names = Points::make(alloc, &[])?;
+    let alarms = Alarms::make(alloc, &[overload(alloc)?])?;
+    Ok(Interlock {
+        name: Text::from_str(alloc, "no_close")?,
+        point: 1,
+        value: Some(1),
+        deny: Rule::read(alloc, "alarm overload", &names, &alarms)?,
+    })
+}
+
+/// Two devices; a feeder's current, a breaker and a pump; one alarm; and an interlock that keeps the
+/// breaker open while the feeder is overloaded.
+fn plant(alloc: Global) -> Result<Plant, RuleRefusal>
+    ensures { IfOk result (λ plant. IsPlant plant 1) }
+{
+    let sizes = DeviceSizes {
+        coils: 2,
+        discrete: 0,
+        holding: 1,
+        input: 1,
+    };
+    let feeder = point(alloc, "feeder_amps", 0, Area::Input, 0, 10, 20000)?;
+    let breaker = point(alloc, "breaker", 0, Area::Coil, 0, 1, 1)?;
+    let pump = point(alloc, "pump", 1, Area::Coil, 9, 1, 1)?;
+    let overload = overload(alloc)?;
+    let no_close = no_close(alloc)?;
+    let mut devices = Items::new(alloc);
+    devices.push(sizes)?;
+    devices.push(sizes)?;
+    let mut points = Items::new(alloc);
+    points.push(feeder)?;
+    points.push(breaker)?;
+    points.push(pump)?;
+    let mut alarms = Items::new(alloc);
+    alarms.push(overload)?;
+    let mut interlocks = Items::new(alloc);
+    interlocks.push(no_close)?;
+    Ok(Plant {
+        devices,
+        points,
+        alarms,
+        interlocks,
+    })
+}
+
+fn update(client: u32, t: u64, op: Op) -> Update
+    ensures { result.client ≡ client }
+{
+    Update { client, t, op }
+}
+
+fn notice(what: NoticeKind, t: u64, number: u32) -> Order {
+    Order::Notice(Notice { what, t, number })
+}
+
+#[test]
+fn a_plant_as_users_have_it(rt: HostRuntime) -> Result<(), Fail> {
+    let plant = plant(rt.alloc())?.copy()?;
+    let mut master = Master::make(rt.alloc(), &plant, 1)?;
+    master.apply(&update(
+        0,
+        1,
+        Op::Reading {
+            point: 0,
+            value: 9500,
+        },
+    ))?;
+    master.apply(&update(1, 2, Op::Reading { point: 1, value: 0 }))?;
+    master.apply(&update(2, 1, Op::Set { point: 1, value: 1 }))?;
+    master.apply(&update(2, 2, Op::Ack { alarm: 0 }))?;
+    master.apply(&update(2, 3, Op::Set { point: 1, value: 0 }))?;
+    master.apply(&update(2, 4, Op::Set { point: 2, value: 1 }))?;
+    let shown = [
+        notice(NoticeKind::Raised, 0, 0),
+        notice(NoticeKind::Denied, 1, 0),
+        notice(NoticeKind::Done, 2, 0),
+        notice(NoticeKind::Done, 3, 0),
+        notice(NoticeKind::Done, 4, 0),
+    ];
+    assert_eq!(rt; master.orders(2), shown.as_slice());
+    assert_eq!(rt;
+        master.orders(0),
+        [Order::Write { point: 1, raw: 0 }].as_slice()
+    );
+    assert_eq!(rt;
+        master.orders(1),
+        [Order::Write { point: 2, raw: 1 }].as_slice()
+    );
+    Ok(())
+}
