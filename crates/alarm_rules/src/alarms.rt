@@ -158,7 +158,9 @@ fn place_of(rules: &[AlarmRule], name: &[u8]) -> Option<usize>
     ensures place { result ≡ alarm_named rules.now name.now }
     ensures within { IfSome result (λ place. place < length rules.now) }
 {
-    rules.iter().position(|rule| rule.name.as_str().as_bytes() == name)
+    rules
+        .iter()
+        .position(|rule| rule.name.as_str().as_bytes() == name)
 }
 
 /// As many states of a quiet alarm as there are rules.

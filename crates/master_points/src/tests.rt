@@ -94,10 +94,19 @@ fn plant(alloc: Global) -> Result<Plant, RuleRefusal>
     })
 }
 
-fn update(client: u32, t: u64, op: Op) -> Update
-    ensures { result.client ≡ client }
-{
-    Update { client, t, op }
+fn apply(master: &mut Master, client: u32, t: u64, op: Op) -> Result<(), Want> {
+    if client >= master.clients() {
+        return Err(Want);
+    }
+    master.apply(&Update { client, t, op })
+}
+
+fn orders(master: &Master, client: u32) -> Option<&[Order]> {
+    if client < master.clients() {
+        Some(master.orders(client))
+    } else {
+        None
+    }
 }
 
 fn notice(what: NoticeKind, t: u64, number: u32) -> Order {
@@ -108,19 +117,21 @@ fn notice(what: NoticeKind, t: u64, number: u32) -> Order {
 fn a_plant_as_users_have_it(rt: HostRuntime) -> Result<(), Fail> {
     let plant = plant(rt.alloc())?.copy()?;
     let mut master = Master::make(rt.alloc(), &plant, 1)?;
-    master.apply(&update(
+    let master = &mut master;
+    apply(
+        master,
         0,
         1,
         Op::Reading {
             point: 0,
             value: 9500,
         },
-    ))?;
-    master.apply(&update(1, 2, Op::Reading { point: 1, value: 0 }))?;
-    master.apply(&update(2, 1, Op::Set { point: 1, value: 1 }))?;
-    master.apply(&update(2, 2, Op::Ack { alarm: 0 }))?;
-    master.apply(&update(2, 3, Op::Set { point: 1, value: 0 }))?;
-    master.apply(&update(2, 4, Op::Set { point: 2, value: 1 }))?;
+    )?;
+    apply(master, 1, 2, Op::Reading { point: 1, value: 0 })?;
+    apply(master, 2, 1, Op::Set { point: 1, value: 1 })?;
+    apply(master, 2, 2, Op::Ack { alarm: 0 })?;
+    apply(master, 2, 3, Op::Set { point: 1, value: 0 })?;
+    apply(master, 2, 4, Op::Set { point: 2, value: 1 })?;
     let shown = [
         notice(NoticeKind::Raised, 0, 0),
         notice(NoticeKind::Denied, 1, 0),
@@ -128,14 +139,10 @@ fn a_plant_as_users_have_it(rt: HostRuntime) -> Result<(), Fail> {
         notice(NoticeKind::Done, 3, 0),
         notice(NoticeKind::Done, 4, 0),
     ];
-    assert_eq!(rt; master.orders(2), shown.as_slice());
-    assert_eq!(rt;
-        master.orders(0),
-        [Order::Write { point: 1, raw: 0 }].as_slice()
-    );
-    assert_eq!(rt;
-        master.orders(1),
-        [Order::Write { point: 2, raw: 1 }].as_slice()
-    );
+    assert_eq!(rt; orders(master, 2), Some(shown.as_slice()));
+    let writes = [Order::Write { point: 1, raw: 0 }];
+    assert_eq!(rt; orders(master, 0), Some(writes.as_slice()));
+    let writes = [Order::Write { point: 2, raw: 1 }];
+    assert_eq!(rt; orders(master, 1), Some(writes.as_slice()));
     Ok(())
 }

@@ -130,7 +130,9 @@ fn place_of(points: &[Point], name: &[u8]) -> Option<usize>
     ensures place { result ≡ point_named points.now name.now }
     ensures within { IfSome result (λ place. place < length points.now) }
 {
-    points.iter().position(|point| point.name.as_str().as_bytes() == name)
+    points
+        .iter()
+        .position(|point| point.name.as_str().as_bytes() == name)
 }
 
 /// The points' start values.
