@@ -1,0 +1,8 @@
+//! An operator's screen: it numbers the operator's commands, and shows the notices that masters vouch for.
+#![tactic(auto)]
+
+pub mod screen;
+#[cfg(test)]
+mod tests;
+
+pub use screen::Screen;

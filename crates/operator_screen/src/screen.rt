@@ -1,0 +1,127 @@
+ghost use Rattle.std.specs.Prelude.{◌≡◌, ◌+◌, ◌++◌, ◌∷◌, ◌<◌, ◌^◌, [], OnOk, OnErr, IfOk};
+ghost use Rattle.operator_screen.specs.Board.{is_notice, notice_in, notices};
+
+use message_types::{Notice, Op, Order, Update, Voucher};
+use plain_lists::Want;
+use quorum_sets::Sizes;
+use std::alloc::Global;
+use std::marker::Model;
+use vouched_orders::{Vote, Vouched};
+
+/// A screen: the commands given at it so far, and the notices that it shows.
+#[derive(Drop)]
+pub struct Screen {
+    alloc: Global,
+    client: u32,
+    sizes: Sizes,
+    commands: u64,
+    vouched: Vouched,
+    board: Vec<Notice, Global>,
+}
+
+impl Model for Screen {
+    ghost use Rattle.std.specs.Prelude.{◌≡◌};
+    ghost use Rattle.operator_screen.specs.Board.{Desk, notices};
+    ghost use Rattle.vouched_orders.specs.Vouching.{done};
+
+    ghost Value = { Desk };
+
+    ghost view = { λ screen. record { client = screen.client; n = screen.sizes.n; f = screen.sizes.f; commands = screen.commands; votes = screen.vouched.votes } };
+
+    ghost invariant = { λ screen. (screen.board.items ≡ notices (done screen.sizes.f screen.vouched.votes)) × (screen.vouched.f ≡ screen.sizes.f) };
+}
+
+impl Screen {
+    ghost use Rattle.operator_screen.specs.Board.{Desk};
+    ghost use Rattle.vouched_orders.specs.Vouching.{done, counted};
+
+    /// A screen before its first command. `client` is its number among the clients. It takes no memory.
+    pub fn make(alloc: Global, client: u32, sizes: Sizes) -> Screen
+        ensures { result ≡ record { client = client; n = sizes.n; f = sizes.f; commands = 0; votes = [] } }
+    {
+        Screen {
+            alloc,
+            client,
+            sizes,
+            commands: 0,
+            vouched: Vouched::new(alloc, &sizes),
+            board: Vec::new(alloc),
+        }
+    }
+
+    /// The update that a command is, with the screen's next number, from 1.
+    pub fn command(&mut self, op: Op) -> Update
+        requires { self.old.commands < 2 ^ 63 }
+        ensures update { result ≡ record { client = self.old.client; t = self.old.commands + 1; op = op } }
+        ensures counted { self.new ≡ record self.old { commands = self.old.commands + 1 } }
+    {
+        self.commands += 1;
+        Update {
+            client: self.client,
+            t: self.commands,
+            op,
+        }
+    }
+
+    /// Takes a master's voucher. One for another client, or with a write, changes nothing; nor does one after which
+    /// memory is wanted.
+    pub fn take_voucher(&mut self, signer: u32, voucher: &Voucher) -> Result<(), Want>
+        requires { signer < self.old.n }
+        ensures ok { OnOk result (self.new ≡ record self.old { votes = self.old.votes ++ counted is_notice self.old.client (record { signer = signer; voucher = voucher.now } ∷ []) }) }
+        ensures err { OnErr result (self.new ≡ self.old) }
+    {
+        if voucher.client != self.client || !is_for_a_screen(&voucher.order) {
+            return Ok(());
+        }
+        let vote = Vote {
+            signer,
+            voucher: *voucher,
+        };
+        let orders = self.vouched.ready(&vote)?;
+        let shown = notices_among(self.alloc, orders.as_slice())?;
+        let before = self.board.len();
+        self.board.extend_from_slice(shown.as_slice())?;
+        if let Err(want) = self.vouched.take(vote) {
+            self.board.truncate(before);
+            return Err(want);
+        }
+        Ok(())
+    }
+
+    /// The notices shown, the oldest first.
+    pub fn board(&self) -> &[Notice]
+        ensures { result.now ≡ notices (done self.now.f self.now.votes) }
+    {
+        self.board.as_slice()
+    }
+}
+
+/// Whether a screen acts on the order.
+fn is_for_a_screen(order: &Order) -> bool
+    ensures { result ≡ is_notice order.now }
+{
+    match order {
+        Order::Notice(_) => true,
+        Order::Write { .. } => false,
+    }
+}
+
+/// The notices among orders.
+fn notices_among(alloc: Global, orders: &[Order]) -> Result<Vec<Notice, Global>, Want>
+    ensures { IfOk result (λ found. found.items ≡ notices orders.now) }
+{
+    let mut found = Vec::new(alloc);
+    for order in orders {
+        add_notice(&mut found, order)?;
+    }
+    Ok(found)
+}
+
+fn add_notice(found: &mut Vec<Notice, Global>, order: &Order) -> Result<(), Want>
+    ensures { OnOk result (found.new.items ≡ found.old.items ++ notice_in order.now) }
+{
+    if let Order::Notice(notice) = order {
+        found.push(*notice)?;
+    }
+    Ok(())
+}

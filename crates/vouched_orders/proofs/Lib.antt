@@ -1,0 +1,2 @@
+pub mod VouchingLaws
+pub mod TallyLaws

@@ -1,0 +1,2 @@
+pub mod Vouching
+pub mod Tally

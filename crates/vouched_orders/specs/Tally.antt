@@ -1,0 +1,31 @@
+-- How a tally in sorted maps stands for the votes taken.
+use Rattle.std.specs.Prelude.{◌≡◌, ℕ, ◌<◌, ◌^◌, List, [], ◌∷◌, Option, Some, length, nat_eq, if◌then◌else◌}
+use Rattle.std.specs.Option.{unwrap_or}
+use Rattle.std.specs.Ordering.{nat_cmp}
+use Rattle.std.specs.Cmp.Lexicographic.{slice_cmp}
+use Rattle.std.specs.BTreeMap.{BTreeMap, get}
+use Rattle.message_types.specs.Texts.{notice_number}
+use Rattle.message_types.specs.declared.vouchers.Order.{Order}
+use Rattle.message_types.specs.declared.vouchers.Order.TheVariants as order
+use Rattle.message_types.specs.declared.vouchers.Voucher.{Voucher}
+use Rattle.vouched_orders.specs.declared.vote.Vote.{Vote}
+use Rattle.vouched_orders.specs.Vouching.{supporters, chosen, done, greatest_number}
+
+-- a number and an order as a key
+abbrev pub ballot : ℕ → Order → List ℕ
+ballot x (order.Write p r) = x ∷ 0 ∷ p ∷ r ∷ 0 ∷ []
+ballot x (order.Notice n) = x ∷ 1 ∷ notice_number n.what ∷ n.t ∷ n.number ∷ []
+
+abbrev pub masters_at : BTreeMap (List ℕ) (List ℕ) → List ℕ → List ℕ
+masters_at masters key = unwrap_or (get (slice_cmp nat_cmp) masters key) []
+
+-- the order for a number, with one voucher's beside those of the map
+abbrev pub order_with : BTreeMap ℕ Order → Voucher → ℕ → Option Order
+order_with settled voucher x = if nat_eq voucher.number x then Some voucher.order else get nat_cmp settled x
+
+-- the maps have each order's supporters and each number's order, and so many orders are done
+pub record IsTally (f : ℕ) (votes : List Vote) (masters : BTreeMap (List ℕ) (List ℕ)) (settled : BTreeMap ℕ Order) (count : ℕ) : Type 0 where
+  pub supporters_are : (x : ℕ) (o : Order) → masters_at masters (ballot x o) ≡ supporters votes x o
+  pub orders_are : (x : ℕ) → get nat_cmp settled x ≡ chosen f votes x
+  pub count_is : count ≡ length (done f votes)
+  pub numbers_fit : greatest_number votes < 2 ^ 64
