@@ -1,0 +1,200 @@
+ghost use Rattle.std.specs.Prelude.{◌≡◌, ◌++◌, ◌∷◌, ◌≤◌, ◌<◌, ℕ, List, [], length, take, IsTrue, OnOk, OnErr, IfOk, option_copied, slice_index, sum};
+ghost use Rattle.std.specs.Option.{option_to_list};
+ghost use Rattle.message_types.specs.declared.signed.Signed.{Signed as SignedWord};
+ghost use Rattle.message_types.specs.declared.body.Body.{Body};
+ghost use Rattle.message_types.specs.declared.body.Body.TheVariants as body;
+ghost use Rattle.message_types.specs.Parts.{as_frame};
+ghost use Rattle.protocol_rules.specs.Group.{Group, group_of};
+ghost use Rattle.protocol_rules.specs.Places.{in_place};
+ghost use Rattle.protocol_rules.specs.Matrix.{column};
+ghost use Rattle.protocol_rules.specs.Matrix as rules;
+ghost use Rattle.protocol_rules.specs.Master.{latest_rows};
+ghost use Rattle.summary_matrix.specs.Held.{IsMatrixOf, TellsEach, proposal_of, takes_over, row_of, rows_at, frames_at};
+
+use crate::reach::{Reach, greatest_reached, leading, number_at};
+use message_types::{FrameList, PoSummary, Rows, Signed};
+use plain_lists::{Copied, Items, Vector, Want};
+use quorum_sets::Sizes;
+use std::alloc::Global;
+use std::marker::Model;
+
+/// The latest summary of each master.
+#[derive(Drop)]
+pub struct Matrix {
+    alloc: Global,
+    sizes: Sizes,
+    latest: [Option<Signed<PoSummary>>; 14],
+}
+
+impl Model for Matrix {
+    ghost use Rattle.std.specs.Prelude.{◌≤◌, ◌<◌, ℕ, None, sum};
+    ghost use Rattle.std.specs.List.{slice_index_or};
+    ghost use Rattle.protocol_rules.specs.Group.{group_of};
+    ghost use Rattle.summary_matrix.specs.Held.{Summaries, row_of};
+
+    ghost Value = { Summaries };
+
+    ghost view = { λ m. record { group = group_of m.sizes 0; latest = m.latest } };
+
+    ghost invariant = { λ m. (j : ℕ) → sum (row_of (slice_index_or m.latest j None)) ≤ 57344 };
+}
+
+impl Matrix {
+    /// The matrix where no word is known.
+    pub fn new(alloc: Global, sizes: Sizes) -> Matrix
+        ensures group { result.group ≡ group_of sizes 0 }
+        ensures nothing { (clients : ℕ) → IsMatrixOf (group_of sizes clients) result [] }
+    {
+        Matrix {
+            alloc,
+            sizes,
+            latest: [
+                None, None, None, None, None, None, None, None, None, None, None, None, None, None,
+            ],
+        }
+    }
+
+    /// Takes a summary as the next word known.
+    pub fn take(&mut self, frame: &Signed<PoSummary>) -> Result<(), Want>
+        requires { IsTrue (in_place self.old.group (as_frame body.PoSummary frame.now)) }
+        ensures group { self.new.group ≡ self.old.group }
+        ensures ok { OnOk result ((g : Group) (known : List (SignedWord Body)) → IsMatrixOf g self.old known
+            → IsMatrixOf g self.new (known ++ as_frame body.PoSummary frame.now ∷ [])) }
+        ensures err { OnErr result (self.new ≡ self.old) }
+    {
+        let place = frame.signer as usize;
+        if !replaces(frame, &self.latest[place]) {
+            return Ok(());
+        }
+        let copy = frame.copy()?;
+        self.latest[place] = Some(copy);
+        Ok(())
+    }
+
+    /// A master's latest summary. None exactly where none of it is known.
+    pub fn latest(&self, j: u32) -> Option<&Signed<PoSummary>>
+        requires { j < self.now.group.n }
+        ensures { (g : Group) (known : List (SignedWord Body)) → IsMatrixOf g self.now known
+            → option_copied result ≡ rules.latest known j }
+    {
+        self.latest[j as usize].as_ref()
+    }
+
+    /// The numbers of the latest summaries, a row for each master.
+    pub fn rows(&self) -> Result<Rows, Want>
+        ensures { IfOk result (λ rows. (g : Group) (known : List (SignedWord Body)) → IsMatrixOf g self.now known
+            → rows ≡ latest_rows g known) }
+    {
+        let mut rows = Items::new(self.alloc);
+        for master in 0..self.sizes.n {
+            rows.push(copied_row(self.alloc, &self.latest[master as usize])?)?;
+        }
+        Ok(rows)
+    }
+
+    /// How far the latest summaries make the requests of each master eligible.
+    pub fn eligible(&self) -> Reach
+        ensures { (g : Group) (known : List (SignedWord Body)) → IsMatrixOf g self.now known
+            → TellsEach result.numbers (rules.eligible g (latest_rows g known)) }
+    {
+        let mut reach = Reach::none();
+        for place in 0..14usize {
+            let numbers = self.column(place);
+            reach.numbers[place] = greatest_reached(
+                leading(&numbers, self.sizes.n as usize),
+                self.sizes.q,
+            );
+        }
+        reach
+    }
+
+    /// Whether the latest summaries make more eligible than `offered` has.
+    pub fn exceeds(&self, offered: &Reach) -> bool
+        ensures { (g : Group) (known : List (SignedWord Body)) → IsMatrixOf g self.now known
+            → result ≡ rules.exceeds g (latest_rows g known) (slice_index offered.now.numbers) }
+    {
+        self.eligible().exceeds(offered, self.sizes.n)
+    }
+
+    /// The latest summaries, where they make more eligible than `offered` has. None exactly where they don't.
+    pub fn proposal(&self, offered: &Reach) -> Result<Option<FrameList>, Want>
+        ensures { IfOk result (λ answer. (g : Group) (known : List (SignedWord Body)) → IsMatrixOf g self.now known
+            → answer ≡ proposal_of g known (slice_index offered.now.numbers)) }
+    {
+        if !self.exceeds(offered) {
+            return Ok(None);
+        }
+        Ok(Some(self.frames()?))
+    }
+
+    fn frames(&self) -> Result<FrameList, Want>
+        ensures { IfOk result (λ frames. frames ≡ frames_at self.now.group.n self.now.latest) }
+    {
+        let mut frames = Items::new(self.alloc);
+        for master in 0..self.sizes.n {
+            push_copy(&mut frames, &self.latest[master as usize])?;
+        }
+        Ok(frames)
+    }
+
+    /// What the latest summaries tell of one master.
+    fn column(&self, place: usize) -> [u64; 14]
+        ensures { take self.now.group.n result ≡ column (rows_at self.now.group.n self.now.latest) place }
+    {
+        let mut numbers = [0; 14];
+        for master in 0..self.sizes.n {
+            let at = master as usize;
+            numbers[at] = number_told(&self.latest[at], place);
+        }
+        numbers
+    }
+}
+
+/// Whether a summary takes the place of the one held, if any.
+fn replaces(frame: &Signed<PoSummary>, held: &Option<Signed<PoSummary>>) -> bool
+    requires new { sum frame.now.body.numbers ≤ 57344 }
+    requires old { sum (row_of held.now) ≤ 57344 }
+    ensures { result ≡ takes_over frame.now held.now }
+{
+    match held {
+        None => true,
+        Some(best) => total(&best.body.numbers) < total(&frame.body.numbers),
+    }
+}
+
+fn total(numbers: &Vector) -> u64
+    requires { sum numbers.now ≤ 57344 }
+    ensures { result ≡ sum numbers.now }
+{
+    numbers.as_slice().iter().sum()
+}
+
+fn number_told(held: &Option<Signed<PoSummary>>, place: usize) -> u64
+    ensures { result ≡ slice_index (row_of held.now) place }
+{
+    match held {
+        None => 0,
+        Some(frame) => number_at(&frame.body.numbers, place),
+    }
+}
+
+fn copied_row(alloc: Global, held: &Option<Signed<PoSummary>>) -> Result<Vector, Want>
+    ensures { IfOk result (λ row. row ≡ row_of held.now) }
+{
+    match held {
+        None => Ok(Items::new(alloc)),
+        Some(frame) => frame.body.numbers.copy(),
+    }
+}
+
+fn push_copy(frames: &mut FrameList, held: &Option<Signed<PoSummary>>) -> Result<(), Want>
+    ensures { OnOk result (frames.new ≡ frames.old ++ option_to_list held.now) }
+{
+    match held {
+        None => Ok(()),
+        Some(frame) => {
+            let copy = frame.copy()?;
+            frames.push(copy)
+        }
+    }
+}
