@@ -1,2 +1,3 @@
 pub mod ScriptSteps
 pub mod Pieces
+pub mod Loads

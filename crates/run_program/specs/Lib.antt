@@ -1,4 +1,8 @@
+pub mod Output
+pub mod Heard
+pub mod Read
 pub mod Script
 pub mod Words
-pub mod Read
-pub mod Output
+pub mod Call
+pub mod Ended
+pub mod Loaded

@@ -19,8 +19,8 @@ starts_as_number (first ∷ second ∷ more) = not (nat_eq first 48)
 -- the decimal number that a text writes without sign or leading zeros, if it is at most `most`
 unfoldable pub number_of : ℕ → List ℕ → Option ℕ
 number_of most text =
-  if starts_as_number text && list_all is_ascii_digit text && nat_le (number_after 0 text) most
-  then Some (number_after 0 text) else None
+    if starts_as_number text && list_all is_ascii_digit text && nat_le (number_after 0 text) most
+    then Some (number_after 0 text) else None
 
 -- a command's line from its number, and a flow's, which wants a round at least
 abbrev pub command_of : Option ℕ → Option Line
@@ -34,8 +34,8 @@ flow_of None = None
 -- what a line without its line feed says
 unfoldable pub line_of : List ℕ → Option Line
 line_of text =
-  if starts_with nat_eq text (codes "command s0 ack ") then command_of (number_of 4294967295 (drop 15 text))
-  else (if starts_with nat_eq text (codes "flow ") then flow_of (number_of 1000 (drop 5 text)) else None)
+    if starts_with nat_eq text (codes "command s0 ack ") then command_of (number_of 4294967295 (drop 15 text))
+    else (if starts_with nat_eq text (codes "flow ") then flow_of (number_of 1000 (drop 5 text)) else None)
 
 abbrev pub is_line_feed : ℕ → Bool
 is_line_feed byte = nat_eq byte 10

@@ -1,6 +1,16 @@
-//! The program: from its words to what it prints.
+//! The program: from its words to what it prints. In this stage it is `play SCRIPT` over four masters and one
+//! screen.
 #![tactic(auto)]
 
+mod history;
+mod master;
 mod output;
+mod play;
+mod print;
+mod refusal;
+mod report;
 mod script;
+pub mod spire;
+#[cfg(test)]
+mod tests;
 mod words;

@@ -8,7 +8,7 @@ invariant-loop-rest g l = record {
   never_falls : g.O.Sink.faults l.initial.out ≤ g.O.Sink.faults l.out;
   done : List ℕ;
   text : l.text ≡ done ++ l.rest;
-  put : g.O.Sink.told l.out ≡ with_piece (g.O.Sink.told l.initial.out) done
+  put : g.O.Sink.told l.out ≡ with_piece (g.O.Sink.told l.initial.out) done;
 }
 
 abbrev pub decreases-loop-rest : goal.decreases-loop-rest

@@ -9,5 +9,5 @@ abbrev pub invariant-loop-digit : goal.invariant-loop-digit
 invariant-loop-digit l = record {
   digits : list_all is_ascii_digit l.text ≡ list_all is_ascii_digit (drop l.digit-index l.text);
   value : number_after 0 l.text ≡ number_after l.number (drop l.digit-index l.text);
-  small : l.number ≤ l.most
+  small : l.number ≤ l.most;
 }

@@ -7,5 +7,5 @@ use Rattle.run_program.proofs.script.read_script.Given as goal
 abbrev pub invariant-loop-number : goal.invariant-loop-number
 invariant-loop-number l = record {
   read : script_of l.text ≡ after_lines l.lines.items (lines_of (101 - l.number) l.number l.rest);
-  count : vec_len l.lines + 1 ≡ l.number
+  count : vec_len l.lines + 1 ≡ l.number;
 }

@@ -1,0 +1,92 @@
+-- What a call of the program comes to: how it ended, why, and what then stands at its output and its error output.
+use Rattle.std.specs.Prelude.{◌≡◌, ℕ, ◌≤◌, ◌<◌, List, ◌++◌, Option, None, Some, Result, Ok, Err, length, codes, decimal, IfSome}
+use Rattle.outside.specs.Faults.{HasRisen}
+use Rattle.outside.specs.Piece.{with_piece}
+use Rattle.run_program.specs.Output.{PutsBeginning}
+use Rattle.run_program.specs.Words.{script_name}
+use Rattle.run_program.specs.Script.{script_of}
+use Rattle.run_program.specs.declared.script.Line.{Line}
+use Rattle.run_program.specs.declared.refusal.Refusal.{Refusal}
+use Rattle.run_program.specs.declared.refusal.Refusal.TheVariants as refusal
+
+-- files are loaded with this room
+abbrev pub most_bytes : ℕ
+most_bytes = 16777216
+
+-- the words, and what the files and the output tell before and after the call
+pub record Call : Type 0 where
+  pub words : List (List ℕ)
+  pub held : List ℕ → Option (List ℕ)
+  pub faults_before : List ℕ → ℕ
+  pub faults_after : List ℕ → ℕ
+  pub out_faults_before : ℕ
+  pub out_faults_after : ℕ
+  pub put_before : Option (List ℕ)
+  pub put_after : Option (List ℕ)
+
+-- a content that is the file's, where the file tells what it holds
+abbrev pub IsContent : Option (List ℕ) → List ℕ → Type 0
+IsContent None content = Unit {0}
+IsContent (Some held) content = content ≡ held
+
+-- the words name a script's file, and this is its content, which isn't too long
+pub record Loads (call : Call) (name content : List ℕ) : Type 0 where
+  pub named : script_name call.words ≡ Some name
+  pub told : IsContent (call.held name) content
+  pub short : length content ≤ most_bytes
+
+-- the text is a play's: its first line says so
+abbrev pub IsPlayText : List ℕ → Type 0
+IsPlayText text = (rest : List ℕ) × (text ≡ codes "spire 1\n" ++ rest)
+
+-- the script that was loaded is accepted, and this is a play's text
+pub record Defines (call : Call) (text : List ℕ) : Type 0 where
+  pub name : List ℕ
+  pub content : List ℕ
+  pub lines : List Line
+  pub loads : Loads call name content
+  pub accepted : script_of content ≡ Ok lines
+  pub is_text : IsPlayText text
+
+-- a file that is too long, where the file tells what it holds
+abbrev pub IsTooLong : Option (List ℕ) → Type 0
+IsTooLong held = IfSome held (λ content. most_bytes < length content)
+
+-- how the output stands where nothing was put
+abbrev pub PutsNothing : Call → Type 0
+PutsNothing call = call.put_after ≡ call.put_before
+
+-- Why a call ended so. Want of memory alone is free.
+abbrev pub CauseOf : Call → Result (Unit {0}) Refusal → Type 0
+CauseOf call (Ok _) = (text : List ℕ) × Defines call text × (call.put_after ≡ with_piece call.put_before text)
+CauseOf call (Err refusal.Usage) = (script_name call.words ≡ None) × PutsNothing call
+CauseOf call (Err (refusal.Fault name)) =
+    (script_name call.words ≡ Some name) × HasRisen (call.faults_before name) (call.faults_after name) × PutsNothing call
+CauseOf call (Err (refusal.TooLong name)) = (script_name call.words ≡ Some name) × IsTooLong (call.held name) × PutsNothing call
+CauseOf call (Err (refusal.NotBuilt number)) =
+    (name : List ℕ) × (content : List ℕ) × Loads call name content × (script_of content ≡ Err number) × PutsNothing call
+CauseOf call (Err refusal.Output) =
+    (text : List ℕ) × Defines call text × HasRisen call.out_faults_before call.out_faults_after × PutsBeginning call.put_before text call.put_after
+CauseOf call (Err refusal.Memory) = Unit {0}
+
+-- where memory was wanted a beginning of the text may have been put
+abbrev pub PutsInMemory : Call → Result (Unit {0}) Refusal → Type 0
+PutsInMemory call (Err refusal.Memory) = (text : List ℕ) × PutsBeginning call.put_before text call.put_after
+PutsInMemory call _ = Unit {0}
+
+-- the status and the line of each refusal
+abbrev pub status_of : Refusal → ℕ
+status_of refusal.Usage = 2
+status_of (refusal.Fault name) = 3
+status_of (refusal.TooLong name) = 3
+status_of (refusal.NotBuilt number) = 5
+status_of refusal.Output = 6
+status_of refusal.Memory = 7
+
+abbrev pub line_text : Refusal → List ℕ
+line_text refusal.Usage = codes "spire: usage\n"
+line_text (refusal.Fault name) = codes "spire: file " ++ name ++ codes " fault\n"
+line_text (refusal.TooLong name) = codes "spire: file " ++ name ++ codes " too long\n"
+line_text (refusal.NotBuilt number) = codes "spire: script NotBuilt " ++ decimal number ++ codes "\n"
+line_text refusal.Output = codes "spire: output fault\n"
+line_text refusal.Memory = codes "spire: memory\n"
