@@ -10,6 +10,8 @@ pub mod laws;
 mod pieces;
 mod read;
 mod refusal;
+#[cfg(test)]
+mod tests;
 mod words;
 mod write;
 mod written;
@@ -18,7 +20,8 @@ pub use crate::batch::batch_text;
 pub use crate::digests::{rows_digest, update_digest};
 pub use crate::read::read_frame;
 pub use crate::refusal::FormRefusal;
-pub use crate::write::{text_of, write_frame};
+pub use crate::write::{text_of, word_text, write_frame};
+pub use crate::written::Written;
 pub use message_types::{
     AskOrder, AskUpdate, Body, Certificate, Commit, Frame, FrameList, Give, GiveOrdered, Mark,
     NewView, Notice, NoticeKind, Op, Order, Ping, Plan, PoAck, PoRequest, PoSummary, Pong,

@@ -124,14 +124,22 @@ impl Written for Body {
     }
 }
 
+/// The text of a body of one kind, or of any.
+pub fn word_text<B: Written>(alloc: Global, word: &B) -> Result<Vec<u8>, Want>
+    requires { IsTrue (B.fits word.now) }
+    ensures { IfOk result (λ text. text.items ≡ B.text word.now) }
+{
+    let mut text = Vec::new(alloc);
+    word.put(&mut text)?;
+    Ok(text)
+}
+
 /// The text of a body, which is what its signer signs.
 pub fn text_of(alloc: Global, body: &Body) -> Result<Vec<u8>, Want>
     requires { IsTrue (body_fits body.now) }
     ensures { IfOk result (λ text. text.items ≡ body_text body.now) }
 {
-    let mut text = Vec::new(alloc);
-    body.put(&mut text)?;
-    Ok(text)
+    word_text(alloc, body)
 }
 
 /// The one spelling of a frame.

@@ -11,7 +11,7 @@ use message_types::{
 use plain_lists::{Items, Vector, Want};
 use wire_parts::{put_bytes, put_i64, put_u8, put_u16, put_u32, put_u64};
 
-/// A body that is written into a frame of its own.
+/// A body of one kind, or of any: a frame's body is one.
 pub trait Written: Drop {
     ghost text: { Self → List ℕ };
 
