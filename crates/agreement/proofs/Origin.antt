@@ -93,5 +93,5 @@ learned_said w i history legal unforged correct = learned_all w i history (λ p.
 pub learned_stands : (w : Setup) (i : ℕ) (history : List Entry) → IsLegal w history → is_correct_master w i ≡ true
     → (p : Signed Body) → IsIn p (learned_by w history i) → (before : List Entry) × (e : Entry) × Stands history before e × IsIn p.body (bodies_of e)
 learned_stands w i history legal correct = learned_all w i history (λ p. (before : List Entry) × (e : Entry) × Stands history before e × IsIn p.body (bodies_of e)) legal correct
-    (λ before e s by p h. (before, e, s, in_left (flat_map (λ b. b ∷ map (λ p. p.body) (inside b)) e.said) (in_map (λ (q : Signed Body). q.body) h)))
-    (λ before e s by loud known p signer h due. (before, e, s, in_right (map (λ p. p.body) (parts_taken e)) (in_flat_map (λ (b : Body). b ∷ map (λ p. p.body) (inside b)) h (here (map (λ p. p.body) (inside p.body))))))
+    (λ before e s by p h. (before, e, s, in_left e.said (in_map (λ (q : Signed Body). q.body) h)))
+    (λ before e s by loud known p signer h due. (before, e, s, in_right (map (λ p. p.body) (parts_taken e)) h))
