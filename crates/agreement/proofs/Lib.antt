@@ -14,3 +14,4 @@ pub mod Grows
 pub mod Planned
 pub mod Agreed
 pub mod Executions
+pub mod Vouched
