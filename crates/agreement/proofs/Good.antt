@@ -238,7 +238,7 @@ good_body g sizes signer b sig placed spelled =
     (ltb-true signer g.n both.0, good_word g sizes signer b both.1 spelled)
 
 -- the parts of a frame that stands
-good_event : (w : Setup) (now : ℕ) → HasSizes w.group → (event : Event) → TakesWell w now event → Each (GoodFrame w.group) (flat_map parts (taken_frames (frame_taken event)))
+pub good_event : (w : Setup) (now : ℕ) → HasSizes w.group → (event : Event) → TakesWell w now event → Each (GoodFrame w.group) (flat_map parts (taken_frames (frame_taken event)))
 unfolding stands
 good_event w now sizes (Took stamp place frame) well = (λ p h. elim (in_cases (parts frame) h) [
   | inl part ↦

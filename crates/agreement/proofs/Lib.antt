@@ -15,3 +15,4 @@ pub mod Planned
 pub mod Agreed
 pub mod Executions
 pub mod Vouched
+pub mod Done

@@ -17,8 +17,11 @@ use Rattle.protocol_rules.specs.Preorder.{certified}
 use Rattle.protocol_rules.specs.Facts.{facts_of}
 use Rattle.protocol_rules.specs.Plans.{certificates_of, planned, base_of}
 use Rattle.protocol_rules.specs.Order.{ordered, is_voted, prepare_by, commit_by}
+use Rattle.std.specs.List.{flat_map}
+use Rattle.vouched_orders.specs.declared.vote.Vote.{Vote}
+use Rattle.vouched_orders.specs.Vouching.{votes_in, orders_done}
 use Rattle.history_rules.specs.Events.{Entry}
-use Rattle.history_rules.specs.Setup.{Setup, is_correct_master}
+use Rattle.history_rules.specs.Setup.{Setup, is_correct_master, own}
 use Rattle.history_rules.specs.Legal.{Stands, IsLegal, heard, known_of, executions}
 use Rattle.history_rules.specs.Audit.{IsIn, HasSaid, parts_taken, NothingForged, NoSharedDigest, FewIntruded}
 
@@ -140,3 +143,16 @@ VouchedBegin =
     (w : Setup) (history : List Entry) (client : ℕ) → IsSound w history → ((xs ys : List Update) → Begins xs ys → Begins (w.orders xs client) (w.orders ys client))
     → (orders : List Order) → ((x : ℕ) (order : Order) → slice_get orders x ≡ Some order → IsVouched w history client (x + 1) order)
     → (i : ℕ) × (is_correct_master w i ≡ true) × Begins orders (w.orders (executions w history i) client)
+
+-- the votes that a client took, whoever they are for
+abbrev pub votes_taken : List Entry → ℕ → List Vote
+votes_taken history actor = votes_in (flat_map parts_taken (own history actor))
+
+-- What a client has done, of orders that it can act on, begins the orders of some correct master at the end of the history,
+-- where longer lists of updates only append orders.
+abbrev pub DoneBegins : Type 0
+DoneBegins =
+    (w : Setup) (history : List Entry) (client : ℕ) (can_act : Order → Bool) → IsSound w history
+    → ((xs ys : List Update) → Begins xs ys → Begins (w.orders xs client) (w.orders ys client))
+    → (i : ℕ) × (is_correct_master w i ≡ true)
+    × Begins (orders_done can_act client w.group.f (votes_taken history (w.group.n + client))) (w.orders (executions w history i) client)

@@ -1,4 +1,4 @@
-ghost use Rattle.agreement.specs.Laws.{QuorumsMeet, ViewInduction, CertifiedAgree, CommittedStays, OrderedAgree, ExecutionsAgree, ExecutionsGrow, ExecutedWereSaid, NoneExecutedTwice, VouchedBegin};
+ghost use Rattle.agreement.specs.Laws.{QuorumsMeet, ViewInduction, CertifiedAgree, CommittedStays, OrderedAgree, ExecutionsAgree, ExecutionsGrow, ExecutedWereSaid, NoneExecutedTwice, VouchedBegin, DoneBegins};
 
 /// Two quorums of a group share a master that isn't intruded.
 pub fn quorums_meet()
@@ -49,4 +49,9 @@ pub fn none_executed_twice()
 /// Orders of a client that more than f masters vouch for, one by one, begin the orders of some correct master.
 pub fn vouched_begin()
     ensures { VouchedBegin }
+{}
+
+/// What a proxy or a screen has done begins the orders of some correct master.
+pub fn done_begins()
+    ensures { DoneBegins }
 {}
