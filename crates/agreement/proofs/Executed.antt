@@ -8,7 +8,7 @@ use Rattle.protocol_rules.specs.Group.{Group}
 use Rattle.protocol_rules.specs.Execution.{Request, newly_eligible, eligible_requests, certified_run, updates_of, kept_after, executed_of}
 use Rattle.history_rules.specs.Audit.{IsIn, here, there}
 use Rattle.agreement.specs.Laws.{Begins}
-use Rattle.agreement.proofs.Lists.{none_in, in_cons_cases, in_cases}
+use Rattle.agreement.proofs.Lists.{none_in, in_cons_cases, in_cases, some_same, none_some}
 
 -- what is kept is of what there was
 kept_in : (kept more : List Update) (u : Update) → IsIn u (kept_after kept more) → IsIn u kept ⊎ IsIn u more
@@ -207,3 +207,48 @@ pub executed_agree : (g : Group) (c d : Request → Option Update) → ((r : Req
 unfolding executed_of
 executed_agree g c d same xs ys agree = kept_agree (certified_run c (eligible_requests g [] xs)) (certified_run d (eligible_requests g [] ys))
     (certified_agree c d same (eligible_requests g [] xs) (eligible_requests g [] ys) (eligible_agree g xs ys agree))
+
+-- where more is ordered and certified alike, what is executed only grows
+begins_none : {X : Type 0} (xs : List X) → Begins [] xs
+begins_none xs = record { rest = xs; same = refl }
+
+begins_cons : {X : Type 0} (x y : X) (xs ys : List X) → x ≡ y → Begins xs ys → Begins (x ∷ xs) (y ∷ ys)
+begins_cons {X} x y xs ys e b = record { rest = b.rest; same = ap (λ (z : X). z ∷ ys) (sym e) ∙ ap (λ (zs : List X). x ∷ zs) b.same }
+
+pub runs_grow : {X : Type 0} (f h : ℕ → Option X) → ((n : ℕ) (x : X) → f n ≡ Some x → h n ≡ Some x) → (start most : ℕ) → Begins (run_from f start most) (run_from h start most)
+unfolding run_from
+runs_grow f h same start zero = begins_none []
+runs_grow {X} f h same start (suc most) = by_first (f start) refl (runs_grow f h same (suc start) most)
+  where
+    found : (x : X) (p : Option X) → p ≡ Some x → Begins (run_from f (suc start) most) (run_from h (suc start) most)
+        → Begins {X = X} (x ∷ run_from f (suc start) most) (elim p [ None ↦ [] | Some y ↦ y ∷ run_from h (suc start) most ])
+    found x None e deeper = absurd (none_some e)
+    found x (Some y) e deeper = begins_cons x y _ _ (some_same (sym e)) deeper
+
+    by_first : (o : Option X) → f start ≡ o → Begins (run_from f (suc start) most) (run_from h (suc start) most)
+        → Begins {X = X} (elim o [ None ↦ [] | Some x ↦ x ∷ run_from f (suc start) most ]) (elim (h start) [ None ↦ [] | Some y ↦ y ∷ run_from h (suc start) most ])
+    by_first None e deeper = begins_none _
+    by_first (Some x) e deeper = found x (h start) (same start x e) deeper
+
+certified_grow : (c d : Request → Option Update) → ((r : Request) (u : Update) → c r ≡ Some u → d r ≡ Some u) → (xs rest : List Request) → Begins (certified_run c xs) (certified_run d (xs ++ rest))
+unfolding certified_run
+certified_grow c d same [] rest = begins_none _
+certified_grow c d same (r ∷ xs) rest = by_first (c r) refl (certified_grow c d same xs rest)
+  where
+    found : (u : Update) (p : Option Update) → p ≡ Some u → Begins (certified_run c xs) (certified_run d (xs ++ rest))
+        → Begins {X = Update} (u ∷ certified_run c xs) (elim p [ None ↦ [] | Some y ↦ y ∷ certified_run d (xs ++ rest) ])
+    found u None e deeper = absurd (none_some e)
+    found u (Some y) e deeper = begins_cons u y _ _ (some_same (sym e)) deeper
+
+    by_first : (o : Option Update) → c r ≡ o → Begins (certified_run c xs) (certified_run d (xs ++ rest))
+        → Begins {X = Update} (elim o [ None ↦ [] | Some x ↦ x ∷ certified_run c xs ]) (elim (d r) [ None ↦ [] | Some y ↦ y ∷ certified_run d (xs ++ rest) ])
+    by_first None e deeper = begins_none _
+    by_first (Some u) e deeper = found u (d r) (same r u e) deeper
+
+pub executed_grow : (g : Group) (c d : Request → Option Update) → ((r : Request) (u : Update) → c r ≡ Some u → d r ≡ Some u) → (xs ys : List (List (List ℕ))) → Begins xs ys
+    → Begins (executed_of g c xs) (executed_of g d ys)
+unfolding executed_of
+executed_grow g c d same xs ys b =
+    let requests : Begins (eligible_requests g [] xs) (eligible_requests g [] ys) = eligible_begins g b in
+    kept_begins (certified_run c (eligible_requests g [] xs)) (certified_run d (eligible_requests g [] ys))
+    (subst (λ (zs : List Request). Begins (certified_run c (eligible_requests g [] xs)) (certified_run d zs)) (sym requests.same) (certified_grow c d same (eligible_requests g [] xs) requests.rest))

@@ -10,6 +10,8 @@ use Rattle.quorum_sets.specs.Masters.{numbers_below}
 use Rattle.message_types.specs.declared.signed.Signed.{Signed}
 use Rattle.message_types.specs.declared.updates.Op.{Op}
 use Rattle.message_types.specs.declared.updates.Op.TheVariants as op
+use Rattle.message_types.specs.declared.updates.Update.{Update}
+use Rattle.message_types.specs.declared.vouchers.Order.{Order}
 use Rattle.message_types.specs.declared.preordering.PoSummary.{PoSummary}
 use Rattle.message_types.specs.declared.ordering.Prepare.{Prepare}
 use Rattle.message_types.specs.declared.ordering.Certificate.{Certificate}
@@ -90,9 +92,6 @@ spelled_from (body.Report b) h = h
 spelled_from (body.NewView b) h = h
 spelled_from _ h = tt
 
-SpelledFrame : Signed Body → Type 0
-SpelledFrame p = Spelled p.body
-
 plain_frames : {B : Type 0} (kind : B → Body) (fs : List (Signed B)) → ((b : B) → Spelled (kind b)) → Each (λ p. Spelled p.body) (frames_of kind fs)
 plain_frames kind fs plain = each_map (λ p. Spelled p.body) (as_frame kind) fs (λ f _. plain f.body)
 
@@ -165,6 +164,9 @@ rows_from_place g sizes rows h =
     let few : g.n < 65536 = masters_few g sizes in
     (omega arith, λ row k. row_from g sizes row (all_at (is_row g) k both.1))
 
+count_enough : {X : Type 0} (q : ℕ) (xs : List X) → length xs ≡ q → q ≤ length xs
+count_enough q xs e = omega arith
+
 good_certificate : (g : Group) → HasSizes g → (v base : ℕ) (c : Certificate) → certificate_in_place g base v c ≡ true → certificate_fits c ≡ true → GoodCertificate g v base c
 good_certificate g sizes v base c placed fits =
     let a = and_parts _ _ placed in
@@ -182,7 +184,7 @@ good_certificate g sizes v base c placed fits =
       above = ltb-true base c.s h.0;
       rows = rows_from_place g sizes c.rows d.1;
       apart = rising_from (signers_of c.prepares) rising.1;
-      enough = omega arith;
+      enough = count_enough g.q c.prepares count;
       alike = λ p k.
           let all = all_at (λ p. nat_eq p.body.v c.v && nat_eq p.body.s c.s && bytes_eq p.body.digest (digest_of_rows c.rows)) k a.1 in
           let digest = and_parts _ _ all in
@@ -207,7 +209,7 @@ good_word g sizes signer (body.NewView b) placed spelled =
     let fits = and_parts _ _ spelled in
     let rising = and_parts _ _ fits.0 in
     let many : length b.reports ≡ g.q = eqb-true (length b.reports) g.q count.1 in
-    (leb-true 1 b.v low.0, rising_from (signers_of b.reports) rising.1, omega arith, λ r h. eqb-true r.body.v b.v (all_at (λ r. nat_eq r.body.v b.v) h views.1))
+    (leb-true 1 b.v low.0, rising_from (signers_of b.reports) rising.1, count_enough g.q b.reports many, λ r h. eqb-true r.body.v b.v (all_at (λ r. nat_eq r.body.v b.v) h views.1))
 good_word g sizes signer (body.GiveOrdered b) placed spelled =
     let commits = and_parts _ _ placed in
     let count = and_parts _ _ commits.0 in
@@ -236,7 +238,7 @@ good_body g sizes signer b sig placed spelled =
     (ltb-true signer g.n both.0, good_word g sizes signer b both.1 spelled)
 
 -- the parts of a frame that stands
-good_event : (w : Setup) (now : ℕ) → HasSizes w.group → (event : Event) → TakesWell w now event → Each (GoodFrame w.group) (flat_map parts (taken_frames (frame_taken event)))
+pub good_event : (w : Setup) (now : ℕ) → HasSizes w.group → (event : Event) → TakesWell w now event → Each (GoodFrame w.group) (flat_map parts (taken_frames (frame_taken event)))
 unfolding stands
 good_event w now sizes (Took stamp place frame) well = (λ p h. elim (in_cases (parts frame) h) [
   | inl part ↦
@@ -362,8 +364,8 @@ ordered_from g facts s rows e =
     let found = find_some (λ rows. is_committed g met.0 s (digest_of_rows rows)) (rows_known met.0) met.2 in
     (rows_more met.0 facts met.1 rows found.0, (met.0, met.1, found.1))
 
-module _ (g : Group) (sizes : HasSizes g) (known : List (Signed Body)) (closed : Closed known) (all_good : Each (GoodFrame g) known) (taken : List (Signed Body)) (said : List Body) where
-  good_due : (b : Body) → Due g known taken said b → Good g b
+module _ (g : Group) (orders : List Update → ℕ → List Order) (sizes : HasSizes g) (known : List (Signed Body)) (closed : Closed known) (all_good : Each (GoodFrame g) known) (taken : List (Signed Body)) (said : List Body) where
+  good_due : (b : Body) → Due g orders known taken said b → Good g b
   good_due (body.Update b) due = absurd due
   good_due (body.PoSummary b) due =
       let few : g.n < 65536 = masters_few g sizes in
@@ -392,7 +394,7 @@ module _ (g : Group) (sizes : HasSizes g) (known : List (Signed Body)) (closed :
       rows_good g sizes known closed all_good b.rows met.0
   good_due _ due = tt
 
-  signed_due : (signer : ℕ) (b : Body) → signer < g.n → Due g known taken said b → SignedWell g signer b
+  signed_due : (signer : ℕ) (b : Body) → signer < g.n → Due g orders known taken said b → SignedWell g signer b
   signed_due signer (body.Update b) lt due = absurd due
   signed_due signer _ lt due = lt
 
@@ -405,6 +407,6 @@ learned_good w i history legal sizes correct = learned_all w i history (GoodFram
     let taken : List (Signed Body) = taken_at (heard w before i) (frame_taken e.event) in
     let below : i < w.group.n = ltb-true i w.group.n (and_parts _ _ correct).0 in
     let at : p.signer ≡ i = signer in (
-      signed_due w.group sizes known (known_closed (heard w before i) (frame_taken e.event)) good taken (said_before (heard w before i)) p.signer p.body (omega arith) due,
-      good_due w.group sizes known (known_closed (heard w before i) (frame_taken e.event)) good taken (said_before (heard w before i)) p.body due,
+      signed_due w.group w.orders sizes known (known_closed (heard w before i) (frame_taken e.event)) good taken (said_before (heard w before i)) p.signer p.body (omega arith) due,
+      good_due w.group w.orders sizes known (known_closed (heard w before i) (frame_taken e.event)) good taken (said_before (heard w before i)) p.body due,
     ))

@@ -7,6 +7,8 @@ use Rattle.std.specs.Option.{option_map}
 use Rattle.std.specs.Str.{bytes_eq}
 use Rattle.quorum_sets.specs.Masters.{numbers_below}
 use Rattle.message_types.specs.declared.signed.Signed.{Signed}
+use Rattle.message_types.specs.declared.updates.Update.{Update}
+use Rattle.message_types.specs.declared.vouchers.Order.{Order}
 use Rattle.message_types.specs.declared.preordering.PoAck.{PoAck}
 use Rattle.message_types.specs.declared.preordering.PoSummary.{PoSummary}
 use Rattle.message_types.specs.declared.ordering.Prepare.{Prepare}
@@ -322,19 +324,19 @@ acks_known g known j k digest = each_map _ (as_frame body.PoAck) (quorum_of_acks
     subst (λ (p : Signed Body). IsIn p known) (ack_of_body j k digest master.0 word.0.signer word.0.body word.0.sig f word.2) word.1)
 
 -- the frames inside a word that is due are known
-pub due_inside : (g : Group) (known taken : List (Signed Body)) (said : List Body) → Within taken known → Closed known → (b : Body) → Due g known taken said b → Each (λ p. IsIn p known) (inside b)
-due_inside g known taken said frames closed (body.Update b) due = absurd due
-due_inside g known taken said frames closed (body.PoRequest b) due = each_one _ (as_frame body.Update b.update) (frames (as_frame body.Update b.update) due)
-due_inside g known taken said frames closed (body.PrePrepare b) due = subst (λ (fs : List (Signed PoSummary)). Each (λ p. IsIn p known) (frames_of body.PoSummary fs)) (sym due) (latest_known g known)
-due_inside g known taken said frames closed (body.Report b) due = each_append _ (frames_of body.Mark b.marks) (flat_map (λ c. frames_of body.Prepare c.prepares) b.certificates)
+pub due_inside : (g : Group) (orders : List Update → ℕ → List Order) (known taken : List (Signed Body)) (said : List Body) → Within taken known → Closed known → (b : Body) → Due g orders known taken said b → Each (λ p. IsIn p known) (inside b)
+due_inside g orders known taken said frames closed (body.Update b) due = absurd due
+due_inside g orders known taken said frames closed (body.PoRequest b) due = each_one _ (as_frame body.Update b.update) (frames (as_frame body.Update b.update) due)
+due_inside g orders known taken said frames closed (body.PrePrepare b) due = subst (λ (fs : List (Signed PoSummary)). Each (λ p. IsIn p known) (frames_of body.PoSummary fs)) (sym due) (latest_known g known)
+due_inside g orders known taken said frames closed (body.Report b) due = each_append _ (frames_of body.Mark b.marks) (flat_map (λ c. frames_of body.Prepare c.prepares) b.certificates)
     (subst (λ (ms : List (Signed Mark)). Each (λ p. IsIn p known) (frames_of body.Mark ms)) (sym due.2) (marks_for_known g known (stable g (facts_of g known))))
     (subst (λ (cs : List Certificate). Each (λ p. IsIn p known) (flat_map (λ c. frames_of body.Prepare c.prepares) cs)) (sym due.3) (certificates_known g known (Rattle.protocol_rules.specs.Views.view g known)))
-due_inside g known taken said frames closed (body.NewView b) due =
+due_inside g orders known taken said frames closed (body.NewView b) due =
     subst (λ (rs : List (Signed Report)). Each (λ p. IsIn p known) (flat_map (λ f. as_frame body.Report f ∷ inside_report f.body) rs)) (sym due.1) (reports_known g known closed b.v)
-due_inside g known taken said frames closed (body.Give b) due =
+due_inside g orders known taken said frames closed (body.Give b) due =
     each_append _ (request_parts b.request) (frames_of body.PoAck b.acks)
     (λ p k. elim (in_cons_cases k) [ inl e ↦ subst (λ (z : Signed Body). IsIn z known) (sym e) due.3 | inr deeper ↦ closed (as_frame body.PoRequest b.request) p due.3 deeper ])
     (subst (λ (fs : List (Signed PoAck)). Each (λ p. IsIn p known) (frames_of body.PoAck fs)) (sym due.4) (acks_known g known due.0 due.1 due.2))
-due_inside g known taken said frames closed (body.GiveOrdered b) due =
+due_inside g orders known taken said frames closed (body.GiveOrdered b) due =
     subst (λ (fs : List (Signed Commit)). Each (λ p. IsIn p known) (frames_of body.Commit fs)) (sym due.3) (commits_known g known due.0 b.s due.1)
-due_inside g known taken said frames closed _ due = each_none _
+due_inside g orders known taken said frames closed _ due = each_none _

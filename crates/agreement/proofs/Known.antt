@@ -124,9 +124,6 @@ learned_more w before more i p h =
     subst (λ (hs : List Heard). IsIn p (flat_map learned hs)) (sym grown.1)
     (subst (λ (ps : List (Signed Body)). IsIn p ps) (sym (flat_map-append learned (heard w before i) grown.0)) (in_left (flat_map learned grown.0) h))
 
-pub learned_whole : (w : Setup) {history before : List Entry} {e : Entry} (i : ℕ) → Stands history before e → Within (learned_by w before i) (learned_by w history i)
-learned_whole w {history} {before} {e} i s p h = subst (λ (xs : List Entry). IsIn p (learned_by w xs i)) (sym s.whole) (learned_more w before (e ∷ s.after) i p h)
-
 -- what is known at an entry: learned before, or a part of the frame taken
 pub known_then_from : (w : Setup) (before : List Entry) (i : ℕ) (e : Entry) (p : Signed Body) → IsIn p (known_then w before i e) → IsIn p (learned_by w before i) ⊎ IsIn p (parts_taken e)
 unfolding known_at
@@ -135,10 +132,6 @@ known_then_from w before i e p h = in_cases (learned_by w before i) h
 pub learned_then : (w : Setup) (before : List Entry) (i : ℕ) (e : Entry) → Within (learned_by w before i) (known_then w before i e)
 unfolding known_at
 learned_then w before i e p h = in_left (parts_taken e) h
-
-pub taken_then : (w : Setup) (before : List Entry) (i : ℕ) (e : Entry) → Within (parts_taken e) (known_then w before i e)
-unfolding known_at
-taken_then w before i e p h = in_right (learned_by w before i) h
 
 -- what is known at an entry of its master has been learned after it
 pub known_learned : (w : Setup) {history before : List Entry} {e : Entry} (i : ℕ) → Stands history before e → e.actor ≡ i → is_silent e.event ≡ false

@@ -14,3 +14,5 @@ pub mod Grows
 pub mod Planned
 pub mod Agreed
 pub mod Executions
+pub mod Vouched
+pub mod Done

@@ -1,7 +1,8 @@
 -- What is in a list: joined, mapped, filtered and found.
-use Rattle.std.proofs.Common.{◌≡◌, ℕ, zero, suc, Bool, true, false, cond, List, [], ◌∷◌, ◌++◌, filter, map, take, refl, sym, ◌∙◌, ap, subst, inl, inr, ◌⊎◌, append_assoc, Option, Some, None}
+use Rattle.std.proofs.Common.{◌≡◌, ℕ, zero, suc, Bool, true, false, cond, List, [], ◌∷◌, ◌++◌, filter, map, take, length, refl, sym, ◌∙◌, ap, subst, inl, inr, ◌⊎◌, append_assoc, Option, Some, None}
+use Rattle.std.specs.Prelude.{slice_get}
 use Rattle.std.specs.List.{list_any, list_all, find, filter_map, flat_map, cons_option}
-use Rattle.std.proofs.lemmas.Bool.{false≢true, true≢false, or_cases, or_left, or_right, and_parts}
+use Rattle.std.proofs.lemmas.Bool.{false≢true, or_cases, or_left, or_right, and_parts}
 use Rattle.protocol_rules.specs.Words.{first_of_list, or_else, first_met}
 use Rattle.history_rules.specs.Audit.{IsIn, here, there}
 
@@ -168,13 +169,6 @@ pub all_at : {X : Type 0} (f : X → Bool) {x : X} {xs : List X} → IsIn x xs �
 all_at f {x} (here rest) e = (and_parts (f x) (list_all f rest) e).0
 all_at f (there y rest h) e = all_at f h (and_parts (f y) (list_all f rest) e).1
 
-pub any_none : {X : Type 0} (f : X → Bool) {x : X} {xs : List X} → list_any f xs ≡ false → IsIn x xs → f x ≡ false
-any_none f {x = x} {xs} none h = by_test (f x) refl
-  where
-    by_test : (b : Bool) → f x ≡ b → f x ≡ false
-    by_test false e = e
-    by_test true e = absurd (true≢false (sym (any_in f h e) ∙ none))
-
 -- the lists' beginnings: what is met first is met of some beginning
 pub first_met_from : {F X : Type 0} (met : List F → Option X) {x : X} (seen rest : List F) → first_met met seen rest ≡ Some x
     → (beginning : List F) × Within beginning (seen ++ rest) × (met beginning ≡ Some x)
@@ -188,3 +182,24 @@ first_met_from {F} {X} met {x} seen (f ∷ rest) e = by_first (met seen) refl e 
     by_first (Some y) was e later = (seen, (λ z h. in_left (f ∷ rest) h), was ∙ e)
     by_first None was e later = let found = later e in
         (found.0, (λ z h. subst (λ (zs : List F). IsIn z zs) (append_assoc seen (f ∷ []) rest) (found.1 z h)), found.2)
+
+-- what was met of a list is met of a longer one
+pub first_met-more : {F X : Type 0} (met : List F → Option X) {x : X} (seen first more : List F) → first_met met seen first ≡ Some x → first_met met seen (first ++ more) ≡ Some x
+unfolding first_met
+first_met-more met seen [] [] e = e
+first_met-more {F} {X} met {x} seen [] (y ∷ more) e = ap (λ (o : Option X). or_else o (first_met met (seen ++ y ∷ []) more)) e
+first_met-more {F} {X} met {x} seen (f ∷ first) more e = by_first (met seen) e (λ later. first_met-more met (seen ++ f ∷ []) first more later)
+  where
+    by_first : (o : Option X) → or_else o (first_met met (seen ++ f ∷ []) first) ≡ Some x
+        → (first_met met (seen ++ f ∷ []) first ≡ Some x → first_met met (seen ++ f ∷ []) (first ++ more) ≡ Some x) → or_else o (first_met met (seen ++ f ∷ []) (first ++ more)) ≡ Some x
+    by_first (Some y) e later = e
+    by_first None e later = later e
+
+pub slice_get-more : {X : Type 0} (xs ys : List X) (k : ℕ) {x : X} → slice_get xs k ≡ Some x → slice_get (xs ++ ys) k ≡ Some x
+slice_get-more [] ys k e = absurd (none_some e)
+slice_get-more (y ∷ xs) ys zero e = e
+slice_get-more (y ∷ xs) ys (suc k) e = slice_get-more xs ys k e
+
+pub slice_get-next : {X : Type 0} (xs ys : List X) → slice_get (xs ++ ys) (length xs) ≡ slice_get ys 0
+slice_get-next [] ys = refl
+slice_get-next (x ∷ xs) ys = slice_get-next xs ys

@@ -140,13 +140,13 @@ module _ (w : Setup) (history : List Entry) (i : ℕ) (world : IsSound w history
 
 -- what is due at an entry
 abbrev pub DueAt : Setup → ℕ → List Entry → Entry → Body → Type 0
-DueAt w m before e b = Due w.group (known_then w before m e) (taken_at (heard w before m) (frame_taken e.event)) (said_before (heard w before m)) b
+DueAt w m before e b = Due w.group w.orders (known_then w before m e) (taken_at (heard w before m) (frame_taken e.event)) (said_before (heard w before m)) b
 
 -- what is said only where no such was said before, and one way at one entry, is said one way
 pub said_once : (w : Setup) (history : List Entry) (m : ℕ) (t : Body → Bool) (b c : Body) → IsLegal w history → is_correct_master w m ≡ true → t b ≡ true → t c ≡ true
-    → ((known taken : List (Signed Body)) (said : List Body) → Due w.group known taken said b → list_any t said ≡ false)
-    → ((known taken : List (Signed Body)) (said : List Body) → Due w.group known taken said c → list_any t said ≡ false)
-    → ((known taken : List (Signed Body)) (said : List Body) → Due w.group known taken said b → Due w.group known taken said c → b ≡ c)
+    → ((known taken : List (Signed Body)) (said : List Body) → Due w.group w.orders known taken said b → list_any t said ≡ false)
+    → ((known taken : List (Signed Body)) (said : List Body) → Due w.group w.orders known taken said c → list_any t said ≡ false)
+    → ((known taken : List (Signed Body)) (said : List Body) → Due w.group w.orders known taken said b → Due w.group w.orders known taken said c → b ≡ c)
     → HasSaid history m b → HasSaid history m c → b ≡ c
 said_once w history m t b c legal correct is_b is_c fresh_b fresh_c alike one other =
     let due_b = said_due w m b legal one.place one.by correct one.among in

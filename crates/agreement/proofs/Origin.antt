@@ -42,7 +42,7 @@ heard_none w i = refl
 
 -- what a correct master said was due
 pub said_due : (w : Setup) {history before : List Entry} {e : Entry} (i : ℕ) (b : Body) → IsLegal w history → Stands history before e → e.actor ≡ i → is_correct_master w i ≡ true → IsIn b e.said
-    → (is_silent e.event ≡ false) × Due w.group (known_then w before i e) (taken_at (heard w before i) (frame_taken e.event)) (said_before (heard w before i)) b
+    → (is_silent e.event ≡ false) × Due w.group w.orders (known_then w before i e) (taken_at (heard w before i) (frame_taken e.event)) (said_before (heard w before i)) b
 said_due w {before = before} {e} i b legal s by correct h =
     let said = correct_said w i b legal s by correct h in
     (said.0, answers_are_due w.group w.orders i (heard w before i) (frame_taken e.event) (is_tick e.event) b said.1)
@@ -52,7 +52,7 @@ said_due w {before = before} {e} i b legal s by correct h =
 module _ (w : Setup) (i : ℕ) (history : List Entry) (P : Signed Body → Type 0) (legal : IsLegal w history) (correct : is_correct_master w i ≡ true)
     (taken : (before : List Entry) (e : Entry) → Stands history before e → e.actor ≡ i → Each P (parts_taken e))
     (own_word : (before : List Entry) (e : Entry) → Stands history before e → e.actor ≡ i → is_silent e.event ≡ false → Each P (known_then w before i e) → (p : Signed Body) → p.signer ≡ i → IsIn p.body e.said
-    → Due w.group (known_then w before i e) (taken_at (heard w before i) (frame_taken e.event)) (said_before (heard w before i)) p.body → P p) where
+    → Due w.group w.orders (known_then w before i e) (taken_at (heard w before i) (frame_taken e.event)) (said_before (heard w before i)) p.body → P p) where
   none_learned : (after : List Entry) → history ≡ [] ++ after → Each P (learned_by w [] i)
   none_learned after same p h = absurd (none_in (subst (λ (hs : List Heard). IsIn p (flat_map learned hs)) (heard_none w i) h))
 
@@ -63,7 +63,7 @@ module _ (w : Setup) (i : ℕ) (history : List Entry) (P : Signed Body → Type 
       own_word before e s by due.0 known p signer h due.1
   by_source before e s by known p (from_inside b h within) =
       let due = said_due w i b legal s by correct h in
-      known p (due_inside w.group (known_then w before i e) (taken_at (heard w before i) (frame_taken e.event)) (said_before (heard w before i))
+      known p (due_inside w.group w.orders (known_then w before i e) (taken_at (heard w before i) (frame_taken e.event)) (said_before (heard w before i))
       (taken_known (heard w before i) (frame_taken e.event)) (known_closed (heard w before i) (frame_taken e.event)) b due.1 p within)
 
   one_more : (before : List Entry) (e : Entry) → ((after : List Entry) → history ≡ before ++ after → Each P (learned_by w before i))
@@ -93,5 +93,5 @@ learned_said w i history legal unforged correct = learned_all w i history (λ p.
 pub learned_stands : (w : Setup) (i : ℕ) (history : List Entry) → IsLegal w history → is_correct_master w i ≡ true
     → (p : Signed Body) → IsIn p (learned_by w history i) → (before : List Entry) × (e : Entry) × Stands history before e × IsIn p.body (bodies_of e)
 learned_stands w i history legal correct = learned_all w i history (λ p. (before : List Entry) × (e : Entry) × Stands history before e × IsIn p.body (bodies_of e)) legal correct
-    (λ before e s by p h. (before, e, s, in_left (flat_map (λ b. b ∷ map (λ p. p.body) (inside b)) e.said) (in_map (λ (q : Signed Body). q.body) h)))
-    (λ before e s by loud known p signer h due. (before, e, s, in_right (map (λ p. p.body) (parts_taken e)) (in_flat_map (λ (b : Body). b ∷ map (λ p. p.body) (inside b)) h (here (map (λ p. p.body) (inside p.body))))))
+    (λ before e s by p h. (before, e, s, in_left e.said (in_map (λ (q : Signed Body). q.body) h)))
+    (λ before e s by loud known p signer h due. (before, e, s, in_right (map (λ p. p.body) (parts_taken e)) h))

@@ -61,10 +61,6 @@ legal_before w before more legal = record { entries = λ b e s. legal.entries b 
 pub unforged_before : (w : Setup) (before more : List Entry) → NothingForged w (before ++ more) → NothingForged w before
 unforged_before w before more unforged = record { said = λ b e s. unforged.said b e (stands_on more s) }
 
--- an earlier place of a place's beginning is a place of the whole
-pub stands_whole : {history before earlier : List Entry} {d e : Entry} → Stands history before e → Stands before earlier d → Stands history earlier d
-stands_whole {earlier = earlier} {d} {e} s t = subst (λ (xs : List Entry). Stands xs earlier d) (sym s.whole) (stands_on (e ∷ s.after) t)
-
 -- the beginning with the entry stands in the whole
 pub whole_upto : {history before : List Entry} {e : Entry} (s : Stands history before e) → history ≡ (before ++ e ∷ []) ++ s.after
 whole_upto {before = before} {e} s = s.whole ∙ sym (append_assoc before (e ∷ []) s.after)

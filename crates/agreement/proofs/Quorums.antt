@@ -11,7 +11,7 @@ use Rattle.message_types.specs.Spelling.{is_rising, signers_of}
 use Rattle.history_rules.specs.Audit.{IsIn, here, there}
 use Rattle.protocol_rules.specs.Group.{Group}
 use Rattle.agreement.specs.Laws.{HasSizes}
-use Rattle.agreement.proofs.Lists.{none_in, in_cons_cases, in_cases, Each, each_none, any_from}
+use Rattle.agreement.proofs.Lists.{in_take, none_in, in_cons_cases, in_cases, Each, each_none, any_from}
 
 -- more of s than of b: one of s that isn't of b
 pub voter_beyond : (s b : ℕ → Bool) (n : ℕ) → length (voters b n) < length (voters s n) → (m : ℕ) × (m < n) × (s m ≡ true) × (b m ≡ false)
@@ -67,18 +67,10 @@ pub rising_from : (xs : List ℕ) → is_rising xs ≡ true → Rising xs
 rising_from [] h = tt
 rising_from (x ∷ xs) h = (rising_head x xs h, rising_from xs (rising_tail x xs h))
 
-pub in_take_of : {X : Type 0} {x : X} (n : ℕ) (xs : List X) → IsIn x (take n xs) → IsIn x xs
-in_take_of zero xs h = absurd (none_in h)
-in_take_of (suc n) [] h = absurd (none_in h)
-in_take_of (suc n) (y ∷ xs) h = elim (in_cons_cases h) [
-  | inl e ↦ subst (λ z. IsIn z (y ∷ xs)) (sym e) (here xs)
-  | inr later ↦ there y xs (in_take_of n xs later)
-]
-
 pub rising_take : (n : ℕ) (xs : List ℕ) → Rising xs → Rising (take n xs)
 rising_take zero xs h = tt
 rising_take (suc n) [] h = tt
-rising_take (suc n) (x ∷ xs) h = ((λ y k. h.0 y (in_take_of n xs k)), rising_take n xs h.1)
+rising_take (suc n) (x ∷ xs) h = ((λ y k. h.0 y (in_take n xs k)), rising_take n xs h.1)
 
 pub rising_snoc : (xs : List ℕ) (x : ℕ) → Rising xs → Each (λ y. y < x) xs → Rising (xs ++ x ∷ [])
 rising_snoc [] x h below = (each_none (λ y. x < y), tt)

@@ -1,7 +1,8 @@
 -- What the rules make a correct master say, by kinds.
-use Rattle.std.proofs.Common.{◌≡◌, ℕ, ◌+◌, ◌≤◌, Bool, true, false, cond, ◌&&◌, List, [], ◌∷◌, ◌++◌, Option, Some, None, take, map, nat_eq, nat_lt, length, refl, ap, subst}
+use Rattle.std.proofs.Common.{◌≡◌, ℕ, ◌+◌, ◌≤◌, Bool, true, false, cond, ◌&&◌, List, [], ◌∷◌, ◌++◌, Option, Some, None, take, map, nat_eq, nat_lt, length, refl, sym, ◌∙◌, ap, subst, ◌-◌, arith, suc}
 use Rattle.std.proofs.lemmas.Bool.{and_parts, leb-true}
 use Rattle.std.specs.List.{filter_map, list_any}
+use Rattle.std.specs.Prelude.{slice_get}
 use Rattle.std.specs.Str.{bytes_eq}
 use Rattle.quorum_sets.specs.Masters.{numbers_below}
 use Rattle.message_types.specs.declared.signed.Signed.{Signed}
@@ -24,7 +25,7 @@ use Rattle.protocol_rules.specs.Views.{view, is_open, report_due, new_view_due, 
 use Rattle.protocol_rules.specs.Measures.{Told, ticks_of, waited, pings_due, pongs_due, pongs_due_to, round_trips_due, round_trips_due_from, tat_reports_due, tat_bounds_due, own_bound, suspects_due}
 use Rattle.protocol_rules.specs.Reconcile.{ask_update_due, ask_order_due, gives_due, gives_ordered_due, request_of, quorum_of_acks, committed_views}
 use Rattle.protocol_rules.specs.Execution.{Request}
-use Rattle.protocol_rules.specs.Master.{Heard, known_at, taken_at, said_before, answers, summaries_due, preprepares_due, next_number, vouchers_due, vouchers_from, waiting_for, gap_of, executed, told_of}
+use Rattle.protocol_rules.specs.Master.{Heard, known_at, taken_at, said_before, answers, summaries_due, preprepares_due, next_number, vouchers_due, vouchers_from, vouchers_said, waiting_for, gap_of, executed, told_of}
 use Rattle.history_rules.specs.Audit.{IsIn}
 use Rattle.agreement.proofs.Lists.{Each, each_none, each_one, each_append, each_if, each_map, each_flat_map, in_filter_map_from, first_in, some_same, none_some}
 
@@ -33,29 +34,30 @@ each_elim P None f h = each_none P
 each_elim P (Some y) f h = h y refl
 
 -- What the rules say of a word that is due where these words are known, these frames were taken, and this was said.
-abbrev pub Due : Group → List (Signed Body) → List (Signed Body) → List Body → Body → Type 0
-Due g known taken said (body.Update b) = ⊥
-Due g known taken said (body.PoRequest b) = IsIn (as_frame body.Update b.update) taken
-Due g known taken said (body.PoAck b) =
+abbrev pub Due : Group → (List Update → ℕ → List Order) → List (Signed Body) → List (Signed Body) → List Body → Body → Type 0
+Due g orders known taken said (body.Update b) = ⊥
+Due g orders known taken said (body.PoRequest b) = IsIn (as_frame body.Update b.update) taken
+Due g orders known taken said (body.PoAck b) =
     (u : Update) × (first_of_list (updates_requested known b.j b.k) ≡ Some u) × (b.digest ≡ digest_of_update u) × (list_any (acks b.j b.k) said ≡ false)
-Due g known taken said (body.PoSummary b) = b.numbers ≡ map (vector g known) (numbers_below g.n)
-Due g known taken said (body.PrePrepare b) = b.frames ≡ latest_frames g known
-Due g known taken said (body.Prepare b) =
+Due g orders known taken said (body.PoSummary b) = b.numbers ≡ map (vector g known) (numbers_below g.n)
+Due g orders known taken said (body.PrePrepare b) = b.frames ≡ latest_frames g known
+Due g orders known taken said (body.Prepare b) =
     (rows : List (List ℕ)) × (offered (facts_of g known) b.v b.s ≡ Some rows) × (b.digest ≡ digest_of_rows rows) × (b.v ≡ view g known)
     × (is_open g known ≡ true) × (list_any (prepares_said b.v b.s) said ≡ false)
-Due g known taken said (body.Commit b) =
+Due g orders known taken said (body.Commit b) =
     (rows : List (List ℕ)) × (prepared g (facts_of g known) b.v b.s ≡ Some rows) × (b.digest ≡ digest_of_rows rows) × (b.v ≡ view g known)
     × IsIn b.s (in_window g (facts_of g known)) × (list_any (commits_said b.v b.s) said ≡ false)
-Due g known taken said (body.Report b) =
+Due g orders known taken said (body.Report b) =
     (b.v ≡ view g known) × (b.base ≡ stable g (facts_of g known)) × (b.marks ≡ marks_for g (facts_of g known) (stable g (facts_of g known)))
     × (b.certificates ≡ certificates_below g (facts_of g known) (view g known))
-Due g known taken said (body.NewView b) =
+Due g orders known taken said (body.NewView b) =
     (1 ≤ b.v) × (b.reports ≡ take g.q (first_reports g known b.v)) × (g.q ≤ length (first_reports g known b.v))
-Due g known taken said (body.Give b) =
+Due g orders known taken said (body.Give b) =
     (j k : ℕ) × (digest : List ℕ) × IsIn (as_frame body.PoRequest b.request) known × (b.acks ≡ quorum_of_acks g known j k digest)
-Due g known taken said (body.GiveOrdered b) =
+Due g orders known taken said (body.GiveOrdered b) =
     (v : ℕ) × (digest : List ℕ) × (ordered g (facts_of g known) b.s ≡ Some b.rows) × (b.commits ≡ quorum_of g (commit_by v b.s digest) (facts_of g known))
-Due g known taken said _ = Unit {0}
+Due g orders known taken said (body.Voucher b) = (1 ≤ b.number) × (slice_get (orders (executed g known) b.client) (b.number - 1) ≡ Some b.order)
+Due g orders known taken said _ = Unit {0}
 
 pub if_some : {X : Type 0} (b : Bool) {x y : X} → cond b (Some x) None ≡ Some y → (b ≡ true) × (x ≡ y)
 if_some true e = (refl, some_same e)
@@ -72,9 +74,24 @@ request_of_body j k v signer (body.PoRequest b) sig r e =
     ap (λ (x : Signed PoRequest). as_frame body.PoRequest x) (if_some (nat_eq signer j && nat_eq b.k k && bytes_eq (update_text b.update.body) (update_text v)) e).1
 request_of_body j k v signer _ sig r e = absurd (none_some e)
 
-module _ (g : Group) (me : ℕ) (known taken : List (Signed Body)) (said : List Body) where
+plus_none : (k : ℕ) → k + 0 ≡ k
+plus_none k = omega arith
+
+none_plus : (k : ℕ) → 0 + k ≡ k
+none_plus k = omega arith
+
+none_and_one : 0 + 1 ≡ 1
+none_and_one = omega arith
+
+less_one : (k : ℕ) → k + 1 - 1 ≡ k
+less_one k = omega arith
+
+one_on : (k x : ℕ) → k + 1 + x ≡ k + suc x
+one_on k x = omega arith
+
+module _ (g : Group) (orders : List Update → ℕ → List Order) (me : ℕ) (known taken : List (Signed Body)) (said : List Body) where
   abbrev IsDue : Body → Type 0
-  IsDue b = Due g known taken said b
+  IsDue b = Due g orders known taken said b
 
   update_of_frame : (c t : ℕ) (f : Signed Body) (u : Signed Update) → update_of c t f ≡ Some u → f ≡ as_frame body.Update u
   update_of_frame c t f u e = update_of_body c t f.signer f.body f.sig u e
@@ -174,26 +191,32 @@ module _ (g : Group) (me : ℕ) (known taken : List (Signed Body)) (said : List 
       each_one IsDue (body.GiveOrdered record { s = s; v = greatest_of (committed_views g (facts_of g known) s (digest_of_rows rows)); rows = rows; commits = quorum_of g (commit_by (greatest_of (committed_views g (facts_of g known) s (digest_of_rows rows))) s (digest_of_rows rows)) (facts_of g known) }) (greatest_of (committed_views g (facts_of g known) s (digest_of_rows rows)), digest_of_rows rows, e, refl)))
       (λ _. each_none IsDue))
 
-  vouchers_from_are_due : (c x : ℕ) (orders : List Order) → Each IsDue (vouchers_from said c x orders)
-  vouchers_from_are_due c x [] = each_none IsDue
-  vouchers_from_are_due c x (order ∷ rest) =
-      each_append IsDue _ _ (each_if IsDue _ [] _ (λ _. each_none IsDue) (λ _. each_one IsDue _ tt)) (vouchers_from_are_due c (x + 1) rest)
+  vouchers_from_are_due : (c k : ℕ) (rest : List Order) → ((x : ℕ) → slice_get (orders (executed g known) c) (k + x) ≡ slice_get rest x) → Each IsDue (vouchers_from said c (k + 1) rest)
+  vouchers_from_are_due c k [] at = each_none IsDue
+  vouchers_from_are_due c k (order ∷ rest) at =
+      let first : slice_get (orders (executed g known) c) k ≡ Some order = ap (slice_get (orders (executed g known) c)) (sym (plus_none k)) ∙ at 0 in
+      let due : Each IsDue (body.Voucher record { client = c; number = k + 1; order = order } ∷ []) =
+      each_one IsDue (body.Voucher record { client = c; number = k + 1; order = order }) (omega arith, ap (slice_get (orders (executed g known) c)) (less_one k) ∙ first) in
+      each_append IsDue _ _
+      (each_if IsDue (list_any (vouchers_said c (k + 1)) said) [] (body.Voucher record { client = c; number = k + 1; order = order } ∷ []) (λ _. each_none IsDue) (λ _. due))
+      (vouchers_from_are_due c (k + 1) rest (λ x. ap (slice_get (orders (executed g known) c)) (one_on k x) ∙ at (suc x)))
 
-  vouchers_are_due : (orders : List Update → ℕ → List Order) → Each IsDue (vouchers_due g orders known said)
-  vouchers_are_due orders = each_flat_map IsDue _ (numbers_below g.clients) (λ c _. vouchers_from_are_due c 1 (orders (executed g known) c))
+  vouchers_are_due : Each IsDue (vouchers_due g orders known said)
+  vouchers_are_due = each_flat_map IsDue _ (numbers_below g.clients) (λ c _. subst (λ (x : ℕ). Each IsDue (vouchers_from said c x (orders (executed g known) c))) none_and_one
+      (vouchers_from_are_due c 0 (orders (executed g known) c) (λ x. ap (slice_get (orders (executed g known) c)) (none_plus x))))
 
   marks_are_due : Each IsDue (marks_due g (facts_of g known) said)
   marks_are_due = each_flat_map IsDue (mark_due said) _ (λ s _. each_if IsDue _ _ [] (λ _. each_one IsDue _ tt) (λ _. each_none IsDue))
 
 -- each word that is said is one that is due
 pub answers_are_due : (g : Group) (orders : List Update → ℕ → List Order) (me : ℕ) (before : List Heard) (took : Option (Signed Body)) (at_tick : Bool)
-    → Each (Due g (known_at before took) (taken_at before took) (said_before before)) (answers g orders me before took at_tick)
+    → Each (Due g orders (known_at before took) (taken_at before took) (said_before before)) (answers g orders me before took at_tick)
 unfolding answers
 answers_are_due g orders me before took at_tick =
     let known : List (Signed Body) = known_at before took in
     let taken : List (Signed Body) = taken_at before took in
     let said : List Body = said_before before in
-    let P = λ (b : Body). Due g known taken said b in
+    let P = λ (b : Body). Due g orders known taken said b in
     let facts : List OrderFact = facts_of g known in
     let told : List Told = told_of g [] (before ++ record { took = took; is_tick = at_tick; said = [] } ∷ []) in
     let v : ℕ = view g known in
@@ -201,23 +224,23 @@ answers_are_due g orders me before took at_tick =
     (each_append P _ _ (each_append P _ _ (each_append P _ _ (each_append P _ _ (each_append P _ _
     (each_append P _ _ (each_append P _ _ (each_append P _ _ (each_append P _ _ (each_append P _ _
     (each_append P _ _ (each_append P _ _ (each_append P _ _ (each_append P _ _
-    (requests_are_due g me known taken said said (numbers_below g.clients))
-    (acks_are_due g me known taken said))
-    (summaries_are_due g me known taken said at_tick))
-    (preprepares_are_due g me known taken said facts at_tick))
-    (prepares_are_due g me known taken said))
-    (commits_are_due g me known taken said))
-    (pings_are_due g me known taken said (ticks_of told) at_tick))
-    (pongs_are_due g me known taken said))
-    (round_trips_are_due g me known taken said (ticks_of told)))
-    (tat_reports_are_due g me known taken said v (waited v told) at_tick))
-    (tat_bounds_are_due g me known taken said v at_tick))
-    (suspects_are_due g me known taken said v at_tick))
-    (report_is_due g me known taken said))
-    (new_view_is_due g me known taken said))
-    (ask_update_is_due g me known taken said at_tick (waiting_for g known)))
-    (gives_are_due g me known taken said))
-    (ask_order_is_due g me known taken said at_tick (gap_of g facts)))
-    (gives_ordered_are_due g me known taken said))
-    (vouchers_are_due g me known taken said orders))
-    (marks_are_due g me known taken said)
+    (requests_are_due g orders me known taken said said (numbers_below g.clients))
+    (acks_are_due g orders me known taken said))
+    (summaries_are_due g orders me known taken said at_tick))
+    (preprepares_are_due g orders me known taken said facts at_tick))
+    (prepares_are_due g orders me known taken said))
+    (commits_are_due g orders me known taken said))
+    (pings_are_due g orders me known taken said (ticks_of told) at_tick))
+    (pongs_are_due g orders me known taken said))
+    (round_trips_are_due g orders me known taken said (ticks_of told)))
+    (tat_reports_are_due g orders me known taken said v (waited v told) at_tick))
+    (tat_bounds_are_due g orders me known taken said v at_tick))
+    (suspects_are_due g orders me known taken said v at_tick))
+    (report_is_due g orders me known taken said))
+    (new_view_is_due g orders me known taken said))
+    (ask_update_is_due g orders me known taken said at_tick (waiting_for g known)))
+    (gives_are_due g orders me known taken said))
+    (ask_order_is_due g orders me known taken said at_tick (gap_of g facts)))
+    (gives_ordered_are_due g orders me known taken said))
+    (vouchers_are_due g orders me known taken said))
+    (marks_are_due g orders me known taken said)

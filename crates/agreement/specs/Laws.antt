@@ -1,10 +1,12 @@
 -- The laws of agreement, as statements over every setup and history. (What the correct masters of a group keep while at
 -- most f of it are intruded: Prime's and PBFT's safety, here of whole legal histories.)
 use Rattle.std.specs.Prelude.{◌≡◌, ℕ, ◌+◌, ◌<◌, ◌≤◌, ◌⊎◌, Bool, true, false, List, [], ◌∷◌, ◌++◌, Some, length}
+use Rattle.std.specs.Prelude.{slice_get}
 use Rattle.quorum_sets.specs.Quorum.{IsGroup, group_size, quorum_size}
 use Rattle.quorum_sets.specs.Masters.{voters}
 use Rattle.message_types.specs.declared.signed.Signed.{Signed}
 use Rattle.message_types.specs.declared.updates.Update.{Update}
+use Rattle.message_types.specs.declared.vouchers.Order.{Order}
 use Rattle.message_types.specs.declared.body.Body.{Body}
 use Rattle.message_types.specs.declared.body.Body.TheVariants as body
 use Rattle.protocol_rules.specs.Group.{Group}
@@ -15,10 +17,13 @@ use Rattle.protocol_rules.specs.Preorder.{certified}
 use Rattle.protocol_rules.specs.Facts.{facts_of}
 use Rattle.protocol_rules.specs.Plans.{certificates_of, planned, base_of}
 use Rattle.protocol_rules.specs.Order.{ordered, is_voted, prepare_by, commit_by}
+use Rattle.std.specs.List.{flat_map}
+use Rattle.vouched_orders.specs.declared.vote.Vote.{Vote}
+use Rattle.vouched_orders.specs.Vouching.{votes_in, orders_done}
 use Rattle.history_rules.specs.Events.{Entry}
-use Rattle.history_rules.specs.Setup.{Setup, is_correct_master}
+use Rattle.history_rules.specs.Setup.{Setup, is_correct_master, own}
 use Rattle.history_rules.specs.Legal.{Stands, IsLegal, heard, known_of, executions}
-use Rattle.history_rules.specs.Audit.{IsIn, HasSaid, NothingForged, NoSharedDigest, FewIntruded}
+use Rattle.history_rules.specs.Audit.{IsIn, HasSaid, parts_taken, NothingForged, NoSharedDigest, FewIntruded}
 
 -- the sizes are those of a group
 pub record HasSizes (g : Group) : Type 0 where
@@ -99,6 +104,10 @@ ExecutionsAgree =
     → is_correct_master w i ≡ true → is_correct_master w j ≡ true
     → Begins (executions w first i) (executions w second j) ⊎ Begins (executions w second j) (executions w first i)
 
+-- What a master has executed only grows.
+abbrev pub ExecutionsGrow : Type 0
+ExecutionsGrow = (w : Setup) (history first : List Entry) (i : ℕ) → Begins first history → Begins (executions w first i) (executions w history i)
+
 -- Each update that a correct master has executed, its client said at an entry before.
 abbrev pub ExecutedWereSaid : Type 0
 ExecutedWereSaid =
@@ -110,3 +119,40 @@ abbrev pub NoneExecutedTwice : Type 0
 NoneExecutedTwice =
     (w : Setup) (history : List Entry) (i : ℕ) (first between last : List Update) (u v : Update)
     → executions w history i ≡ (first ++ u ∷ between) ++ v ∷ last → u.client ≡ v.client → u.t ≡ v.t → ⊥
+
+-- the body was in a frame taken, in the signer's name
+pub record IsTaken (history : List Entry) (signer : ℕ) (b : Body) : Type 0 where
+  pub before : List Entry
+  pub entry : Entry
+  pub place : Stands history before entry
+  pub part : Signed Body
+  pub among : IsIn part (parts_taken entry)
+  pub by : part.signer ≡ signer
+  pub word : part.body ≡ b
+
+-- more than f masters' vouchers for this order of the client under this number were in frames taken
+pub record IsVouched (w : Setup) (history : List Entry) (client number : ℕ) (order : Order) : Type 0 where
+  pub masters : ℕ → Bool
+  pub enough : w.group.f < length (voters masters w.group.n)
+  pub taken : (m : ℕ) → m < w.group.n → masters m ≡ true → IsTaken history m (body.Voucher record { client = client; number = number; order = order })
+
+-- Orders of a client that are vouched for one by one, from number 1 on, begin the orders of some correct master at the end
+-- of the history, where longer lists of updates only append orders. So do a proxy's writes and a screen's notices.
+abbrev pub VouchedBegin : Type 0
+VouchedBegin =
+    (w : Setup) (history : List Entry) (client : ℕ) → IsSound w history → ((xs ys : List Update) → Begins xs ys → Begins (w.orders xs client) (w.orders ys client))
+    → (orders : List Order) → ((x : ℕ) (order : Order) → slice_get orders x ≡ Some order → IsVouched w history client (x + 1) order)
+    → (i : ℕ) × (is_correct_master w i ≡ true) × Begins orders (w.orders (executions w history i) client)
+
+-- the votes that a client took, whoever they are for
+abbrev pub votes_taken : List Entry → ℕ → List Vote
+votes_taken history actor = votes_in (flat_map parts_taken (own history actor))
+
+-- What a client has done, of orders that it can act on, begins the orders of some correct master at the end of the history,
+-- where longer lists of updates only append orders.
+abbrev pub DoneBegins : Type 0
+DoneBegins =
+    (w : Setup) (history : List Entry) (client : ℕ) (can_act : Order → Bool) → IsSound w history
+    → ((xs ys : List Update) → Begins xs ys → Begins (w.orders xs client) (w.orders ys client))
+    → (i : ℕ) × (is_correct_master w i ≡ true)
+    × Begins (orders_done can_act client w.group.f (votes_taken history (w.group.n + client))) (w.orders (executions w history i) client)

@@ -1,4 +1,4 @@
-ghost use Rattle.agreement.specs.Laws.{QuorumsMeet, ViewInduction, CertifiedAgree, CommittedStays, OrderedAgree, ExecutionsAgree, ExecutedWereSaid, NoneExecutedTwice};
+ghost use Rattle.agreement.specs.Laws.{QuorumsMeet, ViewInduction, CertifiedAgree, CommittedStays, OrderedAgree, ExecutionsAgree, ExecutionsGrow, ExecutedWereSaid, NoneExecutedTwice, VouchedBegin, DoneBegins};
 
 /// Two quorums of a group share a master that isn't intruded.
 pub fn quorums_meet()
@@ -31,6 +31,11 @@ pub fn executions_agree()
     ensures { ExecutionsAgree }
 {}
 
+/// What a master has executed only grows.
+pub fn executions_grow()
+    ensures { ExecutionsGrow }
+{}
+
 /// Each update that a correct master executed was said by its client before.
 pub fn executed_were_said()
     ensures { ExecutedWereSaid }
@@ -39,4 +44,14 @@ pub fn executed_were_said()
 /// No client and number stand twice in what a master executed.
 pub fn none_executed_twice()
     ensures { NoneExecutedTwice }
+{}
+
+/// Orders of a client that more than f masters vouch for, one by one, begin the orders of some correct master.
+pub fn vouched_begin()
+    ensures { VouchedBegin }
+{}
+
+/// What a proxy or a screen has done begins the orders of some correct master.
+pub fn done_begins()
+    ensures { DoneBegins }
 {}

@@ -7,7 +7,7 @@ use Rattle.message_types.specs.declared.signed.Signed.{Signed}
 use Rattle.message_types.specs.declared.body.Body.{Body}
 use Rattle.message_types.specs.declared.body.Body.TheVariants as body
 use Rattle.message_types.specs.Texts.{update_text, rows_text}
-use Rattle.message_types.specs.Parts.{parts, inside}
+use Rattle.message_types.specs.Parts.{parts}
 use Rattle.quorum_sets.specs.Masters.{voters}
 use Rattle.protocol_rules.specs.Group.{Group}
 use Rattle.protocol_rules.specs.Master.{taken_frames}
@@ -39,9 +39,9 @@ pub record NothingForged (w : Setup) (history : List Entry) : Type 0 where
   pub said : (before : List Entry) (e : Entry) → Stands history before e → (p : Signed Body) → IsIn p (parts_taken e)
       → is_correct w p.signer ≡ true → HasSaid before p.signer p.body
 
--- the bodies of an entry: of the parts of the frame taken, and those said with the bodies inside them
+-- the bodies of an entry: of the parts of the frame taken, and those said
 abbrev pub bodies_of : Entry → List Body
-bodies_of e = map (λ p. p.body) (parts_taken e) ++ flat_map (λ b. b ∷ map (λ p. p.body) (inside b)) e.said
+bodies_of e = map (λ p. p.body) (parts_taken e) ++ e.said
 
 -- the rows that a body holds
 abbrev pub rows_held : Group → Body → List (List (List ℕ))

@@ -1,0 +1,5 @@
+use Rattle.agreement.proofs.Vouched.{executions_grow}
+use Rattle.agreement.proofs.laws.executions_grow.Goals as goal
+
+pub returns : goal.returns
+returns c = executions_grow
