@@ -5,7 +5,7 @@ use Rattle.message_types.specs.declared.vouchers.Notice.{Notice}
 use Rattle.message_types.specs.declared.vouchers.Order.{Order}
 use Rattle.message_types.specs.declared.vouchers.Order.TheVariants as order
 use Rattle.vouched_orders.specs.declared.vote.Vote.{Vote}
-use Rattle.vouched_orders.specs.Vouching.{done, counted, orders_done}
+use Rattle.vouched_orders.specs.Vouching.{orders_done}
 
 abbrev pub is_notice : Order → Bool
 is_notice (order.Notice n) = true
