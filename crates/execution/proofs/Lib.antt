@@ -1,0 +1,4 @@
+pub mod EligibleRequests
+pub mod Progressing
+pub mod Certificates
+pub mod Beginning
