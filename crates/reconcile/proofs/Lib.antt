@@ -1,0 +1,4 @@
+pub mod Order
+pub mod Sets
+pub mod Taken
+pub mod Said
