@@ -47,15 +47,15 @@ module _ {B : Type 0} {r : View → Reading B} {t : B → List ℕ} {p : B → B
       let p1 = place + length (u32_bytes size) in
       let p2 = p1 + length (t b) in
       let p3 = p2 + length (u32_bytes (length sig)) in
-      let r3 = sig ++ rest in
-      let r2 = u32_bytes (length sig) ++ r3 in
-      let one = (length_law (2 ^ 30)).back size place (t b ++ r2) (le_test size (2 ^ 30) small) (omega (arith, small)) in
-      let two = (Spells-bytes size).back (t b) p1 r2 refl refl in
+      let after_sig_length = sig ++ rest in
+      let after_body = u32_bytes (length sig) ++ after_sig_length in
+      let one = (length_law (2 ^ 30)).back size place (t b ++ after_body) (le_test size (2 ^ 30) small) (omega (arith, small)) in
+      let two = (Spells-bytes size).back (t b) p1 after_body refl refl in
       let three = law.back b p1 [] ok wide in
       let four = end_here p2 in
-      let five = (length_law 65536).back (length sig) p2 r3 fits (omega (arith, sig_small)) in
+      let five = (length_law 65536).back (length sig) p2 after_sig_length fits (omega (arith, sig_small)) in
       let six = (Spells-bytes (length sig)).back sig p3 rest refl refl in
-      let whole : enclosed_text t (b, sig) ++ rest ≡ u32_bytes size ++ (t b ++ r2) =
+      let whole : enclosed_text t (b, sig) ++ rest ≡ u32_bytes size ++ (t b ++ after_body) =
       append_assoc (u32_bytes size) (t b ++ (u32_bytes (length sig) ++ sig)) rest
       ∙ ap (λ x. u32_bytes size ++ x) (append_assoc (t b) (u32_bytes (length sig) ++ sig) rest)
       ∙ ap (λ x. u32_bytes size ++ (t b ++ x)) (append_assoc (u32_bytes (length sig)) sig rest) in
@@ -65,9 +65,9 @@ module _ {B : Type 0} {r : View → Reading B} {t : B → List ℕ} {p : B → B
       ∙ ap (λ read. read >>= λ piece. r (at p1 piece.0) >>= λ word.
       end_at word.1 >>= λ done. length_at 65536 piece.1 >>= λ count. bytes_at count.0 count.1 >>= λ s. Ok ((word.0, s.0), s.1)) two
       ∙ ap (λ read. read >>= λ word.
-      end_at word.1 >>= λ done. length_at 65536 (at p2 r2) >>= λ count. bytes_at count.0 count.1 >>= λ s. Ok ((word.0, s.0), s.1))
+      end_at word.1 >>= λ done. length_at 65536 (at p2 after_body) >>= λ count. bytes_at count.0 count.1 >>= λ s. Ok ((word.0, s.0), s.1))
       (ap (λ x. r (at p1 x)) (sym (append-nil (t b))) ∙ three)
-      ∙ ap (λ read. read >>= λ done. length_at 65536 (at p2 r2) >>= λ count. bytes_at count.0 count.1 >>= λ s. Ok ((b, s.0), s.1)) four
+      ∙ ap (λ read. read >>= λ done. length_at 65536 (at p2 after_body) >>= λ count. bytes_at count.0 count.1 >>= λ s. Ok ((b, s.0), s.1)) four
       ∙ ap (λ read. read >>= λ count. bytes_at count.0 count.1 >>= λ s. Ok ((b, s.0), s.1)) five
       ∙ ap (λ read. read >>= λ s. Ok ((b, s.0), s.1)) six
       ∙ ap (λ n. Ok ((b, sig), at n rest)) (omega (

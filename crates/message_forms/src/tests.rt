@@ -5,8 +5,7 @@ use crate::{
 use plain_lists::{Items, Vector};
 use std::test::Fail;
 
-// An update that acknowledges alarm 0, of client 0 and signer 4, without a signature. Tables of other frames, of each
-// kind and altered, stand in the program form_bench.
+// An update that acknowledges alarm 0, of client 0 and signer 4, without a signature.
 const PLAIN: [u8; 31] = [
     0, 0, 0, 4, 0, 0, 0, 0x13, 0, 1, 0, 0, 0, 0, 0, 0, 0, 0, 0, 0, 0, 1, 3, 0, 0, 0, 0, 0, 0, 0, 0,
 ];
