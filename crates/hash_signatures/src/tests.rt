@@ -34,6 +34,19 @@ fn two_levels_sign_on_under_a_new_lower_tree(rt: HostRuntime) -> Result<(), Fail
     Ok(())
 }
 
+// Three levels of height 5 and w = 4 make 7,160 bytes; a signature that counts eight signed keys is none.
+#[test]
+fn three_levels_sign_and_nine_are_not_verified(rt: HostRuntime) -> Result<(), Fail> {
+    let mut key = KeyState::make(rt.alloc(), &SEED, &ID, &[5, 5, 5], Ots::W4)?;
+    let public = key.public();
+    let mut sig = key.sign(b"open breaker 4")?;
+    assert_eq!(rt; sig.len(), 7160);
+    assert!(rt; verify(&public, b"open breaker 4", &sig));
+    sig[3] = 8;
+    assert!(rt; !verify(&public, b"open breaker 4", &sig));
+    Ok(())
+}
+
 #[test]
 fn one_level_is_spent_after_its_leaves(rt: HostRuntime) -> Result<(), Fail> {
     let mut key = KeyState::resume(rt.alloc(), &SEED, &ID, &[5], Ots::W4, 31)?;
