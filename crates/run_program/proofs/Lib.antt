@@ -1,3 +1,4 @@
 pub mod ScriptSteps
 pub mod Pieces
 pub mod Loads
+pub mod Parts

@@ -1,5 +1,5 @@
 -- Texts put piece by piece.
-use Rattle.std.proofs.Common.{◌≡◌, ℕ, ◌+◌, ◌≤◌, List, [], ◌∷◌, ◌++◌, Option, None, Some, Result, Ok, Err, take, drop, length, min, refl, sym, ◌∙◌, ap, arith, append_assoc}
+use Rattle.std.proofs.Common.{◌≡◌, ℕ, ◌+◌, ◌≤◌, List, [], ◌++◌, Option, None, Some, Result, Ok, Err, take, length, min, refl, sym, ◌∙◌, ap, arith, append_assoc}
 use Rattle.outside.specs.Piece.{with_piece, PutGives}
 use Rattle.outside.specs.declared.sinks.PutAnswer.{PutAnswer}
 use Rattle.outside.specs.declared.sinks.PutAnswer.TheVariants as answer

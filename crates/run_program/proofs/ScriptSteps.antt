@@ -1,11 +1,9 @@
-use Rattle.std.proofs.Common.{◌≡◌, ℕ, zero, suc, ◌+◌, ◌-◌, ◌≤◌, ◌<◌, ◌*◌, List, [], ◌∷◌, ◌++◌, Option, None, Some, Result, Ok, Err, refl, sym, ◌∙◌, ap, arith, append_assoc, length, true, false, Bool, drop, take, nat_le, nat_eq, cond, ◌&&◌}
+use Rattle.std.proofs.Common.{◌≡◌, ℕ, zero, suc, ◌+◌, ◌-◌, ◌≤◌, ◌<◌, ◌*◌, List, [], ◌∷◌, ◌++◌, None, Some, Result, Ok, Err, refl, sym, ◌∙◌, ap, arith, append_assoc, length, true, false}
 use Rattle.std.specs.Prelude.{◌==◌}
 use Rattle.std.proofs.lemmas.List.{append-nil}
 use Rattle.std.proofs.lemmas.Bool.Decides.{nat_tests}
-use Rattle.std.specs.List.{list_all}
-use Rattle.std.specs.Char.{is_ascii_digit}
 use Rattle.run_program.specs.declared.script.Line.{Line}
-use Rattle.run_program.specs.Script.{lines_of, then_lines, first_line, with_line, number_after, number_of, starts_as_number, script_of}
+use Rattle.run_program.specs.Script.{lines_of, then_lines, first_line, with_line, number_after, number_of, script_of}
 
 -- the lines of the rest after the lines so far
 abbrev pub after_lines : List Line → Result (List Line) ℕ → Result (List Line) ℕ

@@ -5,6 +5,7 @@ use Rattle.outside.specs.Piece.{with_piece}
 use Rattle.run_program.specs.Output.{PutsBeginning}
 use Rattle.run_program.specs.Words.{script_name}
 use Rattle.run_program.specs.Script.{script_of}
+use Rattle.run_program.specs.Text.{text_of_play}
 use Rattle.run_program.specs.declared.script.Line.{Line}
 use Rattle.run_program.specs.declared.refusal.Refusal.{Refusal}
 use Rattle.run_program.specs.declared.refusal.Refusal.TheVariants as refusal
@@ -35,18 +36,14 @@ pub record Loads (call : Call) (name content : List ℕ) : Type 0 where
   pub told : IsContent (call.held name) content
   pub short : length content ≤ most_bytes
 
--- the text is a play's: its first line says so
-abbrev pub IsPlayText : List ℕ → Type 0
-IsPlayText text = (rest : List ℕ) × (text ≡ codes "spire 1\n" ++ rest)
-
--- the script that was loaded is accepted, and this is a play's text
+-- the script that was loaded is accepted, and this is the text of its play
 pub record Defines (call : Call) (text : List ℕ) : Type 0 where
   pub name : List ℕ
   pub content : List ℕ
   pub lines : List Line
   pub loads : Loads call name content
   pub accepted : script_of content ≡ Ok lines
-  pub is_text : IsPlayText text
+  pub is_text : text ≡ text_of_play lines
 
 -- a file that is too long, where the file tells what it holds
 abbrev pub IsTooLong : Option (List ℕ) → Type 0

@@ -1,6 +1,6 @@
 -- The frames that pre-ordering goes by, and a master's frames of its own words. All frames stand, since signers are
 -- plain numbers in this stage.
-use Rattle.std.specs.Prelude.{ℕ, Bool, true, false, ◌&&◌, List, [], nat_lt, nat_le}
+use Rattle.std.specs.Prelude.{ℕ, Bool, true, false, ◌&&◌, [], nat_lt, nat_le}
 use Rattle.message_types.specs.declared.signed.Signed.{Signed}
 use Rattle.message_types.specs.declared.body.Body.{Body}
 use Rattle.message_types.specs.declared.body.Body.TheVariants as body

@@ -3,6 +3,10 @@ pub mod Heard
 pub mod Read
 pub mod Script
 pub mod Words
+pub mod Play
+pub mod Mind
+pub mod Played
+pub mod Text
 pub mod Call
 pub mod Ended
 pub mod Loaded

@@ -1,5 +1,5 @@
 -- The scripts of this stage: at most 100 lines, each of them `command s0 ack N` or `flow X` and a line feed.
-use Rattle.std.specs.Prelude.{ℕ, zero, suc, ◌+◌, ◌*◌, ◌-◌, List, [], ◌∷◌, ◌++◌, Bool, true, false, ◌&&◌, not, Option, None, Some, Result, Ok, Err, length, take, drop, nat_eq, nat_le, codes, position, if◌then◌else◌}
+use Rattle.std.specs.Prelude.{ℕ, zero, suc, ◌+◌, ◌*◌, ◌-◌, List, [], ◌∷◌, Bool, true, false, ◌&&◌, not, Option, None, Some, Result, Ok, Err, take, drop, nat_eq, nat_le, codes, position, if◌then◌else◌}
 use Rattle.std.specs.Char.{is_ascii_digit}
 use Rattle.std.specs.List.{list_all, starts_with}
 use Rattle.run_program.specs.declared.script.Line.{Line}

@@ -1,5 +1,6 @@
 ghost use Rattle.std.specs.Prelude.{◌≡◌, ◌≤◌, ◌<◌, IfOk, OnOk, map, string_bytes, Ok};
-ghost use Rattle.run_program.specs.Call.{CauseOf, PutsInMemory, IsPlayText};
+ghost use Rattle.run_program.specs.Call.{CauseOf, PutsInMemory};
+ghost use Rattle.run_program.specs.Text.{text_of_play};
 ghost use Rattle.run_program.specs.Ended.{Ends};
 ghost use Rattle.run_program.specs.Loaded.{LoadCause, PutCause, TextCause};
 
@@ -99,8 +100,9 @@ fn make_text(alloc: Global, content: &Vec<u8>) -> Result<String, Refusal>
     }
 }
 
+#[tactic(auto, unfolding(crate::specs::Text::text_of_play))]
 fn play_text(alloc: Global, lines: &[Line]) -> Result<String, Want>
-    ensures { IfOk result (λ text. IsPlayText (string_bytes text)) }
+    ensures { IfOk result (λ text. string_bytes text ≡ text_of_play lines.now) }
 {
     let play = play_lines(alloc, lines)?;
     print_play(alloc, &play)

@@ -1,4 +1,4 @@
-use Rattle.std.proofs.Common.{◌≡◌, ◌≤◌, ap, ◌∙◌, arith}
+use Rattle.std.proofs.Common.{ap, arith}
 use Rattle.message_types.specs.declared.preordering.PoRequest.{PoRequest}
 use Rattle.protocol_rules.specs.Group.{most_number}
 use Rattle.run_program.proofs.master.hear.Goals as goal

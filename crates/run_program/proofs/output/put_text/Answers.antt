@@ -1,4 +1,4 @@
-use Rattle.std.proofs.Common.{◌≡◌, ◌++◌, List, ℕ, arith, rules, sym, ◌∙◌, ap, append_assoc, take, drop}
+use Rattle.std.proofs.Common.{◌≡◌, ◌++◌, arith, sym, ◌∙◌, ap, append_assoc, take}
 use Rattle.std.proofs.lemmas.List.{take-append-drop}
 use Rattle.outside.specs.Piece.{with_piece}
 use Rattle.run_program.proofs.Pieces.{with_piece-more, refused-after}

@@ -1,4 +1,4 @@
-use Rattle.std.proofs.Common.{ℕ, sym, ◌+◌, ◌*◌, ◌-◌, ◌<◌, suc, length, drop, get_or, arith, ap, ◌∙◌, drop-cons}
+use Rattle.std.proofs.Common.{sym, ◌+◌, ◌*◌, ◌-◌, ◌<◌, suc, length, drop, get_or, arith, ap, ◌∙◌, drop-cons}
 use Rattle.run_program.specs.Script.{number_after}
 use Rattle.run_program.proofs.ScriptSteps.{number_of-above}
 use Rattle.run_program.proofs.script.read_number.Goals as goal

@@ -1,7 +1,7 @@
-use Rattle.std.proofs.Common.{◌≡◌, ◌≤◌, drop, true}
+use Rattle.std.proofs.Common.{◌≡◌, ◌≤◌, drop}
 use Rattle.std.specs.List.{list_all}
 use Rattle.std.specs.Char.{is_ascii_digit}
-use Rattle.run_program.specs.Script.{number_after, starts_as_number}
+use Rattle.run_program.specs.Script.{number_after}
 use Rattle.run_program.proofs.script.read_number.Given as goal
 
 -- what is read of the whole is what is read of the rest after the number so far

@@ -1,7 +1,5 @@
-use Rattle.std.proofs.Common.{◌≡◌, ℕ, ◌+◌, ◌-◌, ◌<◌, ◌≤◌, [], length, arith, Some, None, sym, ◌∙◌, ap, rules}
-use Rattle.run_program.specs.Script.{first_line, lines_of}
-use Rattle.run_program.specs.Read.{read_parts}
-use Rattle.run_program.proofs.ScriptSteps.{after_lines, script_of-start, script_of-end, is_some-more, lines_of-101, lines_of-refused, lines_of-read, lines_of-no-more, after_lines-with_line}
+use Rattle.std.proofs.Common.{◌+◌, ◌-◌, arith, sym, ◌∙◌, ap, rules}
+use Rattle.run_program.proofs.ScriptSteps.{after_lines, script_of-start, script_of-end, is_some-more, lines_of-101, lines_of-refused, lines_of-read, after_lines-with_line}
 use Rattle.run_program.proofs.script.read_script.Goals as goal
 
 pub loop-number-init : goal.loop-number-init
