@@ -9,8 +9,6 @@ mod certificates;
 mod firsts;
 pub mod preorder;
 mod requests;
-#[cfg(test)]
-mod tests;
 mod updates;
 
 pub use preorder::Preorder;
