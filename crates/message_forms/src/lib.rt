@@ -3,7 +3,6 @@
 #![tactic(auto)]
 
 mod batch;
-mod digests;
 mod form_reader;
 mod inner;
 pub mod laws;
@@ -17,11 +16,11 @@ mod write;
 mod written;
 
 pub use crate::batch::batch_text;
-pub use crate::digests::{rows_digest, update_digest};
 pub use crate::read::read_frame;
 pub use crate::refusal::FormRefusal;
 pub use crate::write::{text_of, word_text, write_frame};
 pub use crate::written::Written;
+pub use message_digests::{rows_digest, update_digest};
 pub use message_types::{
     AskOrder, AskUpdate, Body, Certificate, Commit, Frame, FrameList, Give, GiveOrdered, Mark,
     NewView, Notice, NoticeKind, Op, Order, Ping, Plan, PoAck, PoRequest, PoSummary, Pong,

@@ -1,8 +1,4 @@
-use crate::{
-    Body, FormRefusal, Op, Rows, Update, batch_text, read_frame, rows_digest, text_of,
-    update_digest, write_frame,
-};
-use plain_lists::{Items, Vector};
+use crate::{Body, FormRefusal, Op, Update, batch_text, read_frame, text_of, write_frame};
 use std::test::Fail;
 
 // An update that acknowledges alarm 0, of client 0 and signer 4, without a signature.
@@ -49,30 +45,9 @@ fn altered_bytes_are_refused_at_their_place(rt: HostRuntime) {
 }
 
 #[test]
-fn digests_are_those_of_the_texts(rt: HostRuntime) -> Result<(), Fail> {
-    let digest = [
-        83, 7, 192, 176, 174, 106, 172, 220, 245, 7, 98, 84, 241, 255, 146, 249, 142, 125, 143,
-        206, 60, 28, 148, 121, 189, 55, 254, 16, 215, 53, 86, 26,
-    ];
-    assert_eq!(rt; update_digest(&ASKED), digest);
+fn a_batch_has_its_mark_and_its_count(rt: HostRuntime) {
     assert_eq!(rt;
-        &batch_text(3, &digest)[..4],
-        [0x00, 0xf1, 0x00, 0x03].as_slice()
+        &batch_text(3, &[7; 32])[..5],
+        [0x00, 0xf1, 0x00, 0x03, 7].as_slice()
     );
-    let mut first: Vector = Items::new(rt.alloc());
-    first.push(1)?;
-    first.push(2)?;
-    let mut last: Vector = Items::new(rt.alloc());
-    last.push(3)?;
-    last.push(4)?;
-    let mut rows: Rows = Items::new(rt.alloc());
-    rows.push(first)?;
-    rows.push(Items::new(rt.alloc()))?;
-    rows.push(last)?;
-    let digest = [
-        15, 82, 241, 173, 128, 158, 203, 162, 210, 146, 82, 10, 210, 178, 32, 155, 221, 202, 78,
-        214, 121, 130, 0, 221, 87, 59, 56, 60, 33, 129, 215, 181,
-    ];
-    assert_eq!(rt; rows_digest(&rows), digest);
-    Ok(())
 }

@@ -8,7 +8,7 @@ ghost use Rattle.protocol_rules.specs.Preorder.{ack_due, acks_due};
 ghost use Rattle.preorder.specs.Index.{HasFirsts, HasPending};
 
 use crate::firsts::Firsts;
-use message_forms::update_digest;
+use message_digests::update_digest;
 use message_types::{Body, PoAck};
 use plain_lists::Want;
 

@@ -12,7 +12,7 @@ use crate::firsts::{Firsts, note_first};
 use crate::requests::{Counts, push_requests};
 use crate::updates::{Updates, note_update};
 use indexmap::IndexMap;
-use message_forms::update_digest;
+use message_digests::update_digest;
 use message_types::{Body, Frame, PoAck, PoRequest, Signed, Update};
 use plain_lists::{Copied, Want};
 use quorum_sets::Sizes;

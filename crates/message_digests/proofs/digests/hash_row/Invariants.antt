@@ -3,7 +3,7 @@ use Rattle.std.specs.List.{flat_map}
 use Rattle.sha2.specs.Hashers.{Holds256}
 use Rattle.wire_parts.specs.Fields.{u16_bytes, u64_bytes}
 use Rattle.std.proofs.Common.{length}
-use Rattle.message_forms.proofs.digests.hash_row.Given as goal
+use Rattle.message_digests.proofs.digests.hash_row.Given as goal
 
 abbrev pub invariant-loop-number : goal.invariant-loop-number
 invariant-loop-number l =

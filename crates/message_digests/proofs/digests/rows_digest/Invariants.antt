@@ -3,7 +3,7 @@ use Rattle.std.specs.List.{flat_map}
 use Rattle.sha2.specs.Hashers.{Holds256}
 use Rattle.wire_parts.specs.Fields.{u16_bytes, u64_bytes}
 use Rattle.message_types.specs.Texts.{list_text}
-use Rattle.message_forms.proofs.digests.rows_digest.Given as goal
+use Rattle.message_digests.proofs.digests.rows_digest.Given as goal
 
 abbrev pub invariant-loop-row : goal.invariant-loop-row
 invariant-loop-row l =
