@@ -9,6 +9,8 @@ mod certificates;
 mod firsts;
 pub mod preorder;
 mod requests;
+#[cfg(test)]
+mod tests;
 mod updates;
 
 pub use preorder::Preorder;

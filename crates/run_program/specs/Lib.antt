@@ -10,3 +10,4 @@ pub mod Text
 pub mod Call
 pub mod Ended
 pub mod Loaded
+pub mod Complete

@@ -2,6 +2,7 @@ ghost use Rattle.std.specs.Prelude.{◌≡◌, ◌≤◌, ◌<◌, IfOk, OnOk, m
 ghost use Rattle.run_program.specs.Call.{CauseOf, PutsInMemory};
 ghost use Rattle.run_program.specs.Text.{text_of_play};
 ghost use Rattle.run_program.specs.Ended.{Ends};
+ghost use Rattle.run_program.specs.Complete.{Completes};
 ghost use Rattle.run_program.specs.Loaded.{LoadCause, PutCause, TextCause};
 
 use crate::output::put_text;
@@ -29,6 +30,10 @@ pub fn spire<F: Files, O: Sink, E: Sink>(
     err: &mut E,
 ) -> u8
     ensures ends { Ends
+        record { words = map string_bytes words.now.items; held = F.held files.old; faults_before = F.faults files.old; faults_after = F.faults files.new; out_faults_before = O.faults out.old; out_faults_after = O.faults out.new; put_before = O.told out.old; put_after = O.told out.new }
+        record { faults_before = E.faults err.old; faults_after = E.faults err.new; put_before = E.told err.old; put_after = E.told err.new }
+        result }
+    ensures complete { Completes
         record { words = map string_bytes words.now.items; held = F.held files.old; faults_before = F.faults files.old; faults_after = F.faults files.new; out_faults_before = O.faults out.old; out_faults_after = O.faults out.new; put_before = O.told out.old; put_after = O.told out.new }
         record { faults_before = E.faults err.old; faults_after = E.faults err.new; put_before = E.told err.old; put_after = E.told err.new }
         result }
