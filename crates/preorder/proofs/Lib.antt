@@ -9,3 +9,4 @@ pub mod Ranges
 pub mod Others
 pub mod Settled
 pub mod Beginning
+pub mod Composed

@@ -2,3 +2,4 @@ pub mod Taken
 pub mod Index
 pub mod Counted
 pub mod Held
+pub mod Composed

@@ -7,10 +7,9 @@ mod acks;
 mod ballots;
 mod certificates;
 mod firsts;
+pub mod laws;
 pub mod preorder;
 mod requests;
-#[cfg(test)]
-mod tests;
 mod updates;
 
 pub use preorder::Preorder;
