@@ -1,0 +1,6 @@
+use Rattle.message_types.specs.declared.views.Report.{Report}
+use Rattle.view_change.proofs.Best.{greatest-more}
+use Rattle.view_change.proofs.plans.greatest_base.Goals as goal
+
+pub loop-report-preserved : goal.loop-report-preserved
+loop-report-preserved c = greatest-more (λ (r : Report). r.base) c.args.reports.now c.loop-report.report-index c.report-item.result c.loop-report.base 0 c.max-base.result c.loop-report-test.true c.report-item.is c.loop-report.invariant c.max-base.ensures

@@ -1,0 +1,7 @@
+use Rattle.std.proofs.Common.{◌≡◌, map, take, max}
+use Rattle.protocol_rules.specs.Words.{greatest_of}
+use Rattle.protocol_rules.specs.Plans.{certificates_of}
+use Rattle.view_change.proofs.plans.last_number.Given as goal
+
+abbrev pub invariant-loop-report : goal.invariant-loop-report
+invariant-loop-report l = l.last ≡ greatest_of (map (λ c. c.s) (certificates_of (take l.report-index l.reports)))
