@@ -1,9 +1,9 @@
 -- The best certificate and the greatest number, as a list grows.
-use Rattle.std.proofs.Common.{◌≡◌, ℕ, zero, suc, ◌+◌, ◌-◌, ◌<◌, Bool, true, false, cond, ◌||◌, ◌&&◌, List, [], ◌∷◌, ◌++◌, Option, Some, None, filter, map, take, length, get_or, max, nat_eq, nat_lt, refl, sym, ◌∙◌, ap, arith, if◌then◌else◌, append-nil, IsTrue, append_assoc, add-one}
+use Rattle.std.proofs.Common.{◌≡◌, ℕ, zero, suc, ◌+◌, ◌-◌, ◌<◌, Bool, true, false, cond, ◌||◌, ◌&&◌, List, [], ◌∷◌, ◌++◌, Option, Some, None, filter, map, take, length, get_or, max, nat_eq, nat_lt, refl, sym, ◌∙◌, ap, arith, if◌then◌else◌, append-nil, IsTrue, append_assoc, add-one, ◌≤◌}
 use Rattle.std.specs.List.{list_all, flat_map}
 use Rattle.std.specs.Option.{IfSome}
 use Rattle.std.proofs.lemmas.Bool.{and_parts, and_from, cond-true, cond-false}
-use Rattle.std.proofs.lemmas.List.{map-append, take_more}
+use Rattle.std.proofs.lemmas.List.{map-append, take_more, take_all, length-map}
 use Rattle.std.proofs.lemmas.List.Elements.{filter-append}
 use Rattle.std.proofs.lemmas.List.Folds.{list_all-append}
 use Rattle.std.proofs.lemmas.Grind.{flat_map-append}
@@ -158,3 +158,24 @@ empty_rows-start = refl
 pub empty_rows-more : (rows : List (List ℕ)) (n : ℕ) → rows ≡ map no_row (numbers_below n) → rows ++ [] ∷ [] ≡ map no_row (numbers_below (n + 1))
 unfolding numbers_below
 empty_rows-more rows n so_far = ap (λ xs. xs ++ [] ∷ []) so_far ∙ sym (map-append no_row (numbers_below n) (n ∷ [])) ∙ ap (λ k. map no_row (numbers_below k)) (sym (add-one n))
+
+-- elements of a list that is made of another's
+pub below_mapped : {X Y : Type 0} (f : X → Y) (xs : List X) (i : ℕ) → i < length xs → i < length (map f xs)
+below_mapped f xs i lt = let same : length (map f xs) ≡ length xs = length-map xs f in omega arith
+
+pub mapped_at : {X Y : Type 0} (f : X → Y) (xs : List X) (i : ℕ) (x : X) → i < length xs → x ≡ get_or xs i x → f x ≡ get_or (map f xs) i (f x)
+mapped_at f [] i x lt is = absurd (omega arith)
+mapped_at f (y ∷ ys) zero x lt is = ap f is
+mapped_at f (y ∷ ys) (suc i) x lt is = mapped_at f ys i x (omega arith) is
+
+pub take_all_mapped : {X Y : Type 0} (f : X → Y) (xs : List X) (n : ℕ) → length xs ≤ n → take n (map f xs) ≡ map f xs
+take_all_mapped f xs n le = let same : length (map f xs) ≡ length xs = length-map xs f in take_all n (map f xs) (omega arith)
+
+pub all_bases : {X : Type 0} (f : X → Report) (xs : List X) (n : ℕ) → length xs ≤ n → max 0 (greatest_of (map (λ r. r.base) (take n (map f xs)))) ≡ base_of (map f xs)
+all_bases f xs n le =
+    let all : greatest_of (map (λ (r : Report). r.base) (take n (map f xs))) ≡ base_of (map f xs) = ap (λ (rs : List Report). greatest_of (map (λ r. r.base) rs)) (take_all_mapped f xs n le) in
+    omega arith
+
+pub map_itself : {X : Type 0} (xs : List X) → map (λ x. x) xs ≡ xs
+map_itself [] = refl
+map_itself (x ∷ xs) = ap (λ ys. x ∷ ys) (map_itself xs)

@@ -4,7 +4,9 @@
 
 pub mod laws;
 pub mod plans;
+#[cfg(test)]
+mod tests;
 pub mod views;
 
-pub use plans::plan_of;
+pub use plans::{plan_of, plan_of_new_view};
 pub use views::Views;

@@ -1,6 +1,7 @@
 ghost use Rattle.std.specs.Prelude.{◌≡◌, ◌++◌, ℕ, List, IsTrue, IfOk, IfSome, option_copied, filter, map, max};
 ghost use Rattle.std.specs.List.{list_all};
 ghost use Rattle.message_types.specs.declared.ordering.Certificate.{Certificate as CertificateWord};
+ghost use Rattle.message_types.specs.declared.views.Report.{Report as ReportWord};
 ghost use Rattle.protocol_rules.specs.Words.{best_by, greatest_of};
 ghost use Rattle.protocol_rules.specs.Group.{Group};
 ghost use Rattle.protocol_rules.specs.Plans.{base_of, last_of, no_rows};
@@ -8,7 +9,7 @@ ghost use Rattle.protocol_rules.specs.Plans as rules;
 ghost use Rattle.view_change.specs.Planning.{is_for, is_spelled, are_spelled, best_with};
 
 use message_digests::rows_digest;
-use message_types::{Certificate, Plan, Report, Rows};
+use message_types::{Certificate, NewView, Plan, Report, Rows, Signed};
 use plain_lists::{Copied, Items, Want};
 use quorum_sets::Sizes;
 use std::alloc::Global;
@@ -18,6 +19,45 @@ use std::alloc::Global;
 pub fn plan_of(alloc: Global, sizes: &Sizes, reports: &[Report]) -> Result<Plan, Want>
     requires { IsTrue (are_spelled reports.now) }
     ensures { IfOk result (λ plan. (g : Group) → sizes.now.n ≡ g.n → plan ≡ rules.plan_of g reports.now) }
+{
+    plan_over(alloc, sizes, reports)
+}
+
+/// The plan of the reports that a new view holds.
+pub fn plan_of_new_view(alloc: Global, sizes: &Sizes, new_view: &NewView) -> Result<Plan, Want>
+    requires { IsTrue (are_spelled (map (λ r. r.body) new_view.now.reports)) }
+    ensures { IfOk result (λ plan. (g : Group) → sizes.now.n ≡ g.n → plan ≡ rules.plan_of g (map (λ r. r.body) new_view.now.reports)) }
+{
+    plan_over(alloc, sizes, new_view.reports.as_slice())
+}
+
+/// A report, or a signed one.
+trait BringsReport {
+    ghost brought: { Self → ReportWord };
+
+    fn report(&self) -> &Report
+        ensures { result.now ≡ brought self.now };
+}
+
+impl BringsReport for Report {
+    ghost brought = { λ r. r };
+
+    fn report(&self) -> &Report {
+        self
+    }
+}
+
+impl BringsReport for Signed<Report> {
+    ghost brought = { λ r. r.body };
+
+    fn report(&self) -> &Report {
+        &self.body
+    }
+}
+
+fn plan_over<R: BringsReport>(alloc: Global, sizes: &Sizes, reports: &[R]) -> Result<Plan, Want>
+    requires { IsTrue (are_spelled (map R.brought reports.now)) }
+    ensures { IfOk result (λ plan. (g : Group) → sizes.now.n ≡ g.n → plan ≡ rules.plan_of g (map R.brought reports.now)) }
 {
     let base = greatest_base(reports);
     let count = last_number(reports).saturating_sub(base);
@@ -30,9 +70,14 @@ pub fn plan_of(alloc: Global, sizes: &Sizes, reports: &[Report]) -> Result<Plan,
 }
 
 /// The rows that a plan has for a number.
-fn planned(alloc: Global, sizes: &Sizes, reports: &[Report], s: u64) -> Result<Rows, Want>
-    requires { IsTrue (are_spelled reports.now) }
-    ensures { IfOk result (λ rows. (g : Group) → sizes.now.n ≡ g.n → rows ≡ rules.planned g reports.now s) }
+fn planned<R: BringsReport>(
+    alloc: Global,
+    sizes: &Sizes,
+    reports: &[R],
+    s: u64,
+) -> Result<Rows, Want>
+    requires { IsTrue (are_spelled (map R.brought reports.now)) }
+    ensures { IfOk result (λ rows. (g : Group) → sizes.now.n ≡ g.n → rows ≡ rules.planned g (map R.brought reports.now) s) }
 {
     match chosen(reports, s) {
         Some(certificate) => certificate.rows.copy(),
@@ -51,22 +96,22 @@ fn empty_rows(alloc: Global, sizes: &Sizes) -> Result<Rows, Want>
     Ok(rows)
 }
 
-fn greatest_base(reports: &[Report]) -> u64
-    ensures { result ≡ base_of reports.now }
+fn greatest_base<R: BringsReport>(reports: &[R]) -> u64
+    ensures { result ≡ base_of (map R.brought reports.now) }
 {
     let mut base = 0;
-    for report in reports {
-        base = report.base.max(base);
+    for holder in reports {
+        base = holder.report().base.max(base);
     }
     base
 }
 
-fn last_number(reports: &[Report]) -> u64
-    ensures { result ≡ last_of reports.now }
+fn last_number<R: BringsReport>(reports: &[R]) -> u64
+    ensures { result ≡ last_of (map R.brought reports.now) }
 {
     let mut last = 0;
-    for report in reports {
-        last = last_among(report.certificates.as_slice(), last);
+    for holder in reports {
+        last = last_among(holder.report().certificates.as_slice(), last);
     }
     last
 }
@@ -82,13 +127,13 @@ fn last_among(certificates: &[Certificate], least: u64) -> u64
 }
 
 /// The certificate that the reports bring for a number, if any.
-fn chosen(reports: &[Report], s: u64) -> Option<&Certificate>
-    requires { IsTrue (are_spelled reports.now) }
-    ensures { option_copied result ≡ rules.chosen reports.now s }
+fn chosen<R: BringsReport>(reports: &[R], s: u64) -> Option<&Certificate>
+    requires { IsTrue (are_spelled (map R.brought reports.now)) }
+    ensures { option_copied result ≡ rules.chosen (map R.brought reports.now) s }
 {
     let mut best = None;
-    for report in reports {
-        best = best_among(best, report.certificates.as_slice(), s);
+    for holder in reports {
+        best = best_among(best, holder.report().certificates.as_slice(), s);
     }
     best
 }

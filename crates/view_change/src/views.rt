@@ -15,7 +15,7 @@ ghost use Rattle.protocol_rules.specs.Order.{plan_known};
 ghost use Rattle.view_change.specs.Planning.{are_spelled};
 ghost use Rattle.view_change.specs.Kept.{AreViewsOf, at_view, first_new_view, plan_in_new_view, present_reports, is_report_owed, is_new_view_owed};
 
-use crate::plans::plan_of;
+use crate::plans::plan_of_new_view;
 use message_types::{Body, Certificate, Mark, NewView, Plan, Report, Signed};
 use plain_lists::{Copied, Items, Want};
 use quorum_sets::{Sizes, VoterSet};
@@ -122,8 +122,7 @@ impl Views {
         if self.plans.contains_key(&v) {
             return Ok(());
         }
-        let reports = bodies_of(self.alloc, frame.body.reports.as_slice())?;
-        let plan = plan_of(self.alloc, &self.sizes, reports.as_slice())?;
+        let plan = plan_of_new_view(self.alloc, &self.sizes, &frame.body)?;
         self.plans.insert(v, plan)?;
         self.view = view_after(self.view, v <= MOST_VIEW, v);
         Ok(())
@@ -333,14 +332,4 @@ fn copied<T: Copied>(alloc: Global, items: &[T]) -> Result<Items<T>, Want>
         copies.push(item.copy()?)?;
     }
     Ok(copies)
-}
-
-fn bodies_of(alloc: Global, reports: &[Signed<Report>]) -> Result<Items<Report>, Want>
-    ensures { IfOk result (λ bodies. bodies ≡ map (λ r. r.body) reports.now) }
-{
-    let mut bodies = Items::new(alloc);
-    for report in reports {
-        bodies.push(report.body.copy()?)?;
-    }
-    Ok(bodies)
 }

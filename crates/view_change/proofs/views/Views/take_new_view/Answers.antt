@@ -21,8 +21,7 @@ returns-clause-ok c = λ g me known said is.
     new_view-taken g me c.args.self.now _ known said c.args.frame.now c.in_ok-plan.plan (nat_le c.args.frame.now.body.v 255)
     (ap (λ (v : Kept). is_some (at_view v.plans c.args.frame.now.body.v)) (sym c.self.view_is)
     ∙ sym (ap is_some (at_view-is c.self.inside.plans c.args.frame.now.body.v)) ∙ sym c.contains_key.ensures ∙ c.if-contains_key.false)
-    (c.in_ok-plan.ensures g (ap (λ (v : Kept). v.group.n) c.self.view_is ∙ is.masters)
-    ∙ ap (λ (rs : List Report). plan_of g rs) (c.as_slice-2.ensures ∙ c.in_ok-reports.ensures ∙ ap (λ (fs : List (Signed Report)). map (λ f. f.body) fs) c.as_slice.ensures)) refl
+    (c.in_ok-plan.ensures g (ap (λ (v : Kept). v.group.n) c.self.view_is ∙ is.masters)) refl
     (ap (λ (v : Kept). v.group) c.self.view_is) (ap (λ (v : Kept). v.me) c.self.view_is)
     (c.view_after-self-inside.ensures ∙ ap (λ (v : Kept). if nat_le c.args.frame.now.body.v 255 then max v.view c.args.frame.now.body.v else v.view) c.self.view_is)
     (ap (λ (v : Kept). v.suspects) c.self.view_is) (ap (λ (v : Kept). v.reports) c.self.view_is)
