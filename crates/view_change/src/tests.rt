@@ -1,5 +1,6 @@
-ghost use Rattle.std.specs.Prelude.{◌≡◌, ℕ, [], true, IfOk, OnOk, map};
+ghost use Rattle.std.specs.Prelude.{◌≡◌, ◌++◌, [], true, IfOk, IfSome, OnOk, map};
 ghost use Rattle.std.specs.List.{list_all};
+ghost use Rattle.std.specs.Option.{option_to_list};
 ghost use Rattle.view_change.specs.Planning.{is_spelled, are_spelled};
 
 use crate::{Views, plan_of};
@@ -220,8 +221,7 @@ fn a_plan_starts_above_the_greatest_base(rt: HostRuntime) -> Result<(), Fail> {
     Ok(())
 }
 
-/// Of two certificates of one view the one of the lesser digest is planned: SHA-256 gives the rows with number
-/// FIRST a lesser digest than those with number SECOND.
+/// The digest of rows with number 2 begins with the byte 0x1d, that of rows with number 1 with 0x7c.
 #[test]
 fn the_least_digest_of_one_view_is_planned(rt: HostRuntime) -> Result<(), Fail> {
     let alloc = rt.alloc();
