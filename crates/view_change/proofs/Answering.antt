@@ -1,19 +1,17 @@
 -- What the views of the words known answer, and what the bodies said change.
-use Rattle.std.proofs.Common.{◌≡◌, ℕ, zero, suc, ◌+◌, ◌-◌, ◌%◌, ◌<◌, ◌≤◌, Bool, true, false, cond, ◌||◌, ◌&&◌, not, List, [], ◌∷◌, ◌++◌, Option, Some, None, filter, length, map, max, take, get_or, set, nat_eq, nat_le, nat_lt, refl, sym, ◌∙◌, ap, inl, inr, ◌⊎◌, arith, if◌then◌else◌, unwrap_or, slice_index_or, get_or-set_same, get_or-set_other, add-one, length-append}
+use Rattle.std.proofs.Common.{◌≡◌, ℕ, zero, suc, ◌+◌, ◌-◌, ◌%◌, ◌<◌, ◌≤◌, Bool, true, false, ◌||◌, ◌&&◌, not, List, [], ◌∷◌, ◌++◌, Option, Some, None, length, map, take, nat_eq, nat_le, refl, sym, ◌∙◌, ap, arith, if◌then◌else◌, slice_index_or, add-one, length-append}
 use mir.Val.{bool_byte}
 use Rattle.std.specs.List.{list_any, filter_map, flat_map}
 use Rattle.std.specs.Option.{option_map, is_some, option_to_list}
-use Rattle.std.proofs.lemmas.Bool.{cases_eq, eq-eqb, ne_eqb, eqb-true, le-leb, leb-true, cond-true, cond-false}
+use Rattle.std.proofs.lemmas.Bool.{ne_eqb, le-leb, leb-true, cond-true, cond-false}
 use Rattle.std.proofs.Math.Bool.{and-true}
 use Rattle.std.proofs.lemmas.List.Elements.{filter_map-append}
-use Rattle.std.proofs.lemmas.List.Folds.{list_any-append}
 use Rattle.std.proofs.lemmas.List.Concat.{flat_map-cons}
 use Rattle.message_types.specs.declared.signed.Signed.{Signed}
 use Rattle.message_types.specs.declared.ordering.Mark.{Mark}
 use Rattle.message_types.specs.declared.ordering.Certificate.{Certificate}
 use Rattle.message_types.specs.declared.views.Report.{Report}
 use Rattle.message_types.specs.declared.views.NewView.{NewView}
-use Rattle.message_types.specs.declared.views.Plan.{Plan}
 use Rattle.message_types.specs.declared.body.Body.{Body}
 use Rattle.message_types.specs.declared.body.Body.TheVariants as body
 use Rattle.quorum_sets.specs.Masters.{has_master, numbers_below}
@@ -27,7 +25,7 @@ use Rattle.protocol_rules.specs.Facts.{tells, facts_of}
 use Rattle.protocol_rules.specs.Order.{plan_in, plan_known}
 use Rattle.protocol_rules.specs.Views.{view, is_open, is_suspect, is_suspected, is_opened, report_by, new_view_in, first_reports, reports_said, new_views_said, report_due, new_view_due}
 use Rattle.view_change.specs.Kept.{Kept, AreViewsOf, at_view, at_place, suspects_of, first_report, first_new_view, plan_in_new_view, present_reports, is_report_owed, is_new_view_owed}
-use Rattle.view_change.proofs.Reached.{greatest_to-le, quorum-same, quorum-none, masters_few}
+use Rattle.view_change.proofs.Reached.{greatest_to-le, quorum-same, quorum-none}
 use Rattle.view_change.proofs.Known.{most_view-is, opened-is, view-is, reached}
 
 -- the plan facts that the words tell are those of the new views

@@ -1,21 +1,18 @@
 -- Where words are in their places, their rows have spellings.
-use Rattle.std.proofs.Common.{◌≡◌, ℕ, ◌≤◌, Bool, true, false, cond, ◌&&◌, List, [], ◌∷◌, ◌++◌, length, map, nat_eq, nat_le, nat_lt, refl, sym, ◌∙◌, ap, arith, if◌then◌else◌}
+use Rattle.std.proofs.Common.{◌≡◌, ℕ, ◌≤◌, Bool, true, false, cond, ◌&&◌, List, [], ◌∷◌, length, map, nat_eq, nat_le, nat_lt, refl, sym, ◌∙◌, arith}
 use Rattle.std.specs.List.{list_all, flat_map}
-use Rattle.std.specs.Str.{bytes_eq}
 use Rattle.std.proofs.lemmas.Bool.{and_parts, and_from, eqb-true, le-leb}
 use Rattle.std.proofs.lemmas.List.Folds.{list_all-append}
 use Rattle.message_types.specs.declared.signed.Signed.{Signed}
 use Rattle.message_types.specs.declared.ordering.Certificate.{Certificate}
 use Rattle.message_types.specs.declared.views.Report.{Report}
 use Rattle.message_types.specs.declared.views.NewView.{NewView}
-use Rattle.message_types.specs.declared.body.Body.{Body}
 use Rattle.message_types.specs.declared.body.Body.TheVariants as body
-use Rattle.message_types.specs.Digests.{digest_of_rows}
 use Rattle.message_types.specs.Spelling.{row_fits, rows_fit}
 use Rattle.message_types.specs.Parts.{as_frame, parts, inside_report}
-use Rattle.protocol_rules.specs.Group.{Group, most_number, most_view, window, mark_step}
+use Rattle.protocol_rules.specs.Group.{Group, most_number}
 use Rattle.protocol_rules.specs.Plans.{certificates_of}
-use Rattle.protocol_rules.specs.Places.{in_place, is_row, are_rows, is_view, certificate_in_place, report_in_place}
+use Rattle.protocol_rules.specs.Places.{in_place, is_row, are_rows, certificate_in_place, report_in_place}
 use Rattle.view_change.specs.Planning.{is_spelled, are_spelled}
 
 row-spelled : (g : Group) (row : List ℕ) → g.n ≤ 14 → is_row g row ≡ true → row_fits row ≡ true

@@ -1,9 +1,9 @@
 -- What a word known changes.
-use Rattle.std.proofs.Common.{◌≡◌, ℕ, zero, suc, ◌+◌, ◌-◌, ◌<◌, ◌≤◌, Bool, true, false, cond, ◌||◌, ◌&&◌, List, [], ◌∷◌, ◌++◌, Option, Some, None, filter, length, map, max, nat_eq, nat_le, nat_lt, refl, sym, ◌∙◌, ap, inl, inr, ◌⊎◌, arith, if◌then◌else◌, unwrap_or, slice_index_or}
-use Rattle.std.specs.List.{list_any, filter_map, flat_map}
+use Rattle.std.proofs.Common.{◌≡◌, ℕ, ◌+◌, ◌-◌, ◌<◌, ◌≤◌, Bool, true, false, ◌||◌, ◌&&◌, List, [], ◌∷◌, ◌++◌, Option, Some, None, max, nat_eq, nat_le, refl, sym, ◌∙◌, ap, inl, inr, ◌⊎◌, arith, if◌then◌else◌, unwrap_or, slice_index_or}
+use Rattle.std.specs.List.{list_any, filter_map}
 use Rattle.std.specs.Option.{option_map, is_some}
-use Rattle.std.proofs.lemmas.Bool.{cases_eq, cases_lt, eq-eqb, ne_eqb, eqb-true, le-leb, leb-true, leb-false, cond-true, cond-false, and_parts, lt-ltb}
-use Rattle.std.proofs.lemmas.List.Elements.{filter_map-append, filter-append}
+use Rattle.std.proofs.lemmas.Bool.{cases_eq, eq-eqb, ne_eqb, eqb-true, leb-true, leb-false, and_parts}
+use Rattle.std.proofs.lemmas.List.Elements.{filter_map-append}
 use Rattle.std.proofs.lemmas.List.Folds.{list_any-append}
 use Rattle.message_types.specs.declared.signed.Signed.{Signed}
 use Rattle.message_types.specs.declared.views.Report.{Report}
@@ -16,7 +16,7 @@ use Rattle.quorum_sets.specs.Masters.{has_master, with_master}
 use Rattle.quorum_sets.specs.Quorum.{has_quorum}
 use Rattle.protocol_rules.specs.Words.{first_of_list, greatest_to, or_else}
 use Rattle.protocol_rules.specs.Group.{Group, most_view}
-use Rattle.protocol_rules.specs.Views.{view, is_suspect, is_suspected, is_opened, report_by, new_view_in, is_open}
+use Rattle.protocol_rules.specs.Views.{view, is_suspect, is_suspected, is_opened, report_by, new_view_in}
 use Rattle.view_change.specs.Kept.{Kept, AreViewsOf, at_view, at_place, suspects_of, first_report, first_new_view, plan_in_new_view}
 use Rattle.view_change.proofs.Reached.{greatest_to-same, greatest_to-raised, quorum-same, quorum-fewer, has_with_master}
 

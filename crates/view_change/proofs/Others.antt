@@ -1,11 +1,11 @@
 -- Which words and which bodies count.
-use Rattle.std.proofs.Common.{◌≡◌, ℕ, ◌-◌, Bool, true, false, cond, ◌||◌, ◌&&◌, List, [], ◌∷◌, ◌++◌, Option, Some, None, filter, refl, sym, ◌∙◌, ap}
+use Rattle.std.proofs.Common.{◌≡◌, ℕ, ◌-◌, Bool, true, false, cond, ◌||◌, List, [], ◌∷◌, ◌++◌, Option, Some, None, filter, refl, sym, ◌∙◌, ap}
 use Rattle.std.specs.List.{list_any, filter_map}
 use Rattle.std.specs.Option.{option_map, is_some}
 use Rattle.message_types.specs.declared.signed.Signed.{Signed}
 use Rattle.message_types.specs.declared.body.Body.{Body}
 use Rattle.message_types.specs.declared.body.Body.TheVariants as body
-use Rattle.protocol_rules.specs.Words.{first_of_list, greatest_to, or_else}
+use Rattle.protocol_rules.specs.Words.{first_of_list, or_else}
 use Rattle.protocol_rules.specs.Group.{Group, most_view}
 use Rattle.protocol_rules.specs.Views.{view, is_suspect, is_suspected, is_opened, report_by, new_view_in, reports_said, new_views_said}
 use Rattle.view_change.specs.Kept.{Kept, AreViewsOf, first_report, first_new_view, plan_in_new_view, is_view_word}

@@ -1,8 +1,7 @@
 -- The greatest view that is reached.
-use Rattle.std.proofs.Common.{◌≡◌, ℕ, zero, suc, ◌+◌, ◌*◌, ◌-◌, ◌<◌, ◌≤◌, Bool, true, false, cond, ◌||◌, ◌&&◌, List, [], ◌∷◌, ◌++◌, length, max, nat_eq, nat_le, nat_lt, refl, sym, ◌∙◌, ap, inl, inr, ◌⊎◌, arith, if◌then◌else◌, IsTrue, ◌↔◌}
-use Rattle.std.specs.List.{list_any}
-use Rattle.std.proofs.lemmas.Bool.{cases_eq, le-leb, leb-true, cond-true, cond-false}
-use Rattle.quorum_sets.specs.Masters.{numbers_below, has_master, voters, with_master}
+use Rattle.std.proofs.Common.{◌≡◌, ℕ, zero, suc, ◌+◌, ◌*◌, ◌<◌, ◌≤◌, Bool, true, false, cond, ◌||◌, List, [], length, max, nat_eq, nat_le, refl, sym, ◌∙◌, ap, inl, inr, ◌⊎◌, arith, IsTrue, ◌↔◌}
+use Rattle.std.proofs.lemmas.Bool.{cases_eq, le-leb, leb-true, cond-true}
+use Rattle.quorum_sets.specs.Masters.{has_master, voters, with_master}
 use Rattle.quorum_sets.specs.Quorum.{has_quorum}
 use Rattle.quorum_sets.specs.declared.sizes.Sizes.{Sizes}
 use Rattle.quorum_sets.proofs.MastersLemmas.{voters_same, length-voters-suc, voters-zero, voters_none, has_master-voters_below}

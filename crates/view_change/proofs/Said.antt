@@ -1,26 +1,22 @@
 -- What the bodies said change, and the views where nothing is known or said.
-use Rattle.std.proofs.Common.{◌≡◌, ℕ, zero, suc, ◌+◌, ◌<◌, ◌≤◌, Bool, true, false, cond, ◌||◌, ◌&&◌, not, List, [], ◌∷◌, ◌++◌, Option, Some, None, length, take, get_or, set, nat_eq, refl, sym, ◌∙◌, ap, inl, inr, ◌⊎◌, arith, if◌then◌else◌, unwrap_or, slice_index_or, get_or-set_same, get_or-set_other}
+use Rattle.std.proofs.Common.{◌≡◌, ℕ, zero, suc, ◌<◌, ◌≤◌, Bool, true, false, ◌||◌, ◌&&◌, List, [], ◌∷◌, ◌++◌, Option, Some, None, length, take, get_or, set, nat_eq, refl, sym, ◌∙◌, ap, inl, inr, ◌⊎◌, if◌then◌else◌, unwrap_or, slice_index_or, get_or-set_same, get_or-set_other}
 use Rattle.std.specs.Prelude.{replicate}
-use Rattle.std.specs.List.{list_any, filter_map}
-use Rattle.std.specs.Option.{option_map, is_some, option_to_list}
-use Rattle.std.proofs.lemmas.Bool.{cases_eq, eq-eqb, ne_eqb, cond-true, cond-false}
+use Rattle.std.specs.List.{list_any}
+use Rattle.std.specs.Option.{is_some, option_to_list}
+use Rattle.std.proofs.lemmas.Bool.{cases_eq, eq-eqb, ne_eqb}
 use Rattle.std.proofs.lemmas.List.Folds.{list_any-append}
 use Rattle.message_types.specs.declared.signed.Signed.{Signed}
 use Rattle.message_types.specs.declared.ordering.Mark.{Mark}
 use Rattle.message_types.specs.declared.ordering.Certificate.{Certificate}
-use Rattle.message_types.specs.declared.views.Report.{Report}
 use Rattle.message_types.specs.declared.body.Body.{Body}
-use Rattle.message_types.specs.declared.body.Body.TheVariants as body
-use Rattle.quorum_sets.specs.Masters.{has_master, numbers_below, voters}
-use Rattle.quorum_sets.specs.Quorum.{has_quorum}
-use Rattle.quorum_sets.proofs.MastersLemmas.{voters_none}
-use Rattle.protocol_rules.specs.Words.{first_of_list, greatest_to}
-use Rattle.protocol_rules.specs.Group.{Group, most_view, leader_of}
-use Rattle.protocol_rules.specs.Views.{view, is_suspected, is_opened, first_reports, reports_said, new_views_said, report_due, new_view_due}
-use Rattle.view_change.specs.Kept.{Kept, AreViewsOf, at_view, at_place, suspects_of, first_report, first_new_view, plan_in_new_view}
+use Rattle.quorum_sets.specs.Masters.{has_master}
+use Rattle.protocol_rules.specs.Words.{greatest_to}
+use Rattle.protocol_rules.specs.Group.{Group, most_view}
+use Rattle.protocol_rules.specs.Views.{view, first_reports, reports_said, new_views_said, report_due, new_view_due}
+use Rattle.view_change.specs.Kept.{Kept, AreViewsOf, at_view, at_place, first_report, first_new_view}
 use Rattle.view_change.proofs.Reached.{greatest_to-same, quorum-none}
-use Rattle.view_change.proofs.Known.{most_view-is, view-is, reached}
-use Rattle.view_change.proofs.Answering.{report_with, new_view_with, report_is_due, new_view_is_due, view-le}
+use Rattle.view_change.proofs.Known.{view-is, reached}
+use Rattle.view_change.proofs.Answering.{report_with, new_view_with, report_is_due, new_view_is_due}
 
 is_there : {X : Type 0} (o : Option X) (x : X) → option_to_list o ≡ x ∷ [] → is_some o ≡ true
 is_there None x e = absurd (cc)

@@ -1,8 +1,7 @@
 -- What a master keeps of suspicions, reports and new views, and when it is what these words and bodies make of it.
-use Rattle.std.specs.Prelude.{◌≡◌, ℕ, ◌≤◌, ◌<◌, ◌-◌, ◌%◌, Bool, true, false, ◌&&◌, not, List, [], Option, Some, None, length, nat_eq, nat_le, slice_index_or, if◌then◌else◌, map}
+use Rattle.std.specs.Prelude.{◌≡◌, ℕ, ◌≤◌, ◌<◌, ◌-◌, ◌%◌, Bool, true, false, ◌&&◌, not, List, [], Option, length, nat_eq, nat_le, slice_index_or, map}
 use Rattle.std.specs.List.{list_any, filter_map}
-use Rattle.std.specs.Option.{option_map, unwrap_or, is_some}
-use Rattle.std.specs.Ordering.{nat_cmp}
+use Rattle.std.specs.Option.{option_map, unwrap_or}
 use Rattle.std.specs.Map.{lookup}
 use Rattle.message_types.specs.declared.signed.Signed.{Signed}
 use Rattle.message_types.specs.declared.views.Report.{Report}

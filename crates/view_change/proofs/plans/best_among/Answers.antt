@@ -1,4 +1,4 @@
-use Rattle.std.proofs.Common.{◌≡◌, true, List, subst, sym}
+use Rattle.std.proofs.Common.{◌≡◌, true, subst, sym}
 use Rattle.std.specs.Option.{option_copied, IfSome}
 use Rattle.view_change.specs.Planning.{is_spelled}
 use Rattle.view_change.proofs.Best.{best-step, better-spelled, all_at}

@@ -2,7 +2,7 @@ use Rattle.std.proofs.Common.{◌≡◌, ◌++◌, List, take, filter, IsTrue}
 use Rattle.std.specs.Option.{option_copied, IfSome}
 use Rattle.message_types.specs.declared.ordering.Certificate.{Certificate}
 use Rattle.protocol_rules.specs.Words.{best_by}
-use Rattle.protocol_rules.specs.Plans.{goes_before, certificates_of}
+use Rattle.protocol_rules.specs.Plans.{goes_before}
 use Rattle.view_change.specs.Planning.{is_for, is_spelled}
 use Rattle.view_change.proofs.plans.best_among.Given as goal
 

@@ -1,5 +1,4 @@
-use Rattle.std.proofs.Common.{◌≡◌, ◌++◌, true, ap, ◌∙◌, filter, take, map, sym, List}
-use Rattle.std.specs.Option.{option_copied}
+use Rattle.std.proofs.Common.{◌++◌, ap, ◌∙◌, filter, take, map, List}
 use Rattle.std.specs.List.{list_all}
 use Rattle.message_types.specs.declared.ordering.Certificate.{Certificate}
 use Rattle.message_types.specs.declared.views.Report.{Report}

@@ -1,4 +1,4 @@
-use Rattle.std.proofs.Common.{◌≡◌, ◌++◌, ◌∷◌, [], List, ℕ, ap, ◌∙◌}
+use Rattle.std.proofs.Common.{◌++◌, ◌∷◌, [], List, ℕ, ap, ◌∙◌}
 use Rattle.view_change.proofs.Best.{empty_rows-start, empty_rows-more}
 use Rattle.view_change.proofs.plans.empty_rows.Goals as goal
 

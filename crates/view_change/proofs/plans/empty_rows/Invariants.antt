@@ -1,4 +1,4 @@
-use Rattle.std.proofs.Common.{◌≡◌, map, []}
+use Rattle.std.proofs.Common.{◌≡◌, map}
 use Rattle.quorum_sets.specs.Masters.{numbers_below}
 use Rattle.view_change.proofs.Best.{no_row}
 use Rattle.view_change.proofs.plans.empty_rows.Given as goal

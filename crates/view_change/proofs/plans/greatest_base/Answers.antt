@@ -1,6 +1,5 @@
-use Rattle.std.proofs.Common.{◌≡◌, max, map, ap, sym, ◌∙◌, take}
+use Rattle.std.proofs.Common.{max, map, ap, ◌∙◌}
 use Rattle.message_types.specs.declared.views.Report.{Report}
-use Rattle.protocol_rules.specs.Words.{greatest_of}
 use Rattle.view_change.proofs.Best.{greatest-more, below_mapped, mapped_at, all_bases}
 use Rattle.view_change.proofs.plans.greatest_base.Goals as goal
 

@@ -1,4 +1,4 @@
-use Rattle.std.proofs.Common.{◌≡◌, List, max, map, ap, ◌∙◌}
+use Rattle.std.proofs.Common.{List, max, map, ap, ◌∙◌}
 use Rattle.message_types.specs.declared.views.Report.{Report}
 use Rattle.protocol_rules.specs.Words.{greatest_of}
 use Rattle.protocol_rules.specs.Plans.{certificates_of}

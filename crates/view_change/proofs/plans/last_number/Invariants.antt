@@ -1,4 +1,4 @@
-use Rattle.std.proofs.Common.{◌≡◌, map, take, max}
+use Rattle.std.proofs.Common.{◌≡◌, map, take}
 use Rattle.protocol_rules.specs.Words.{greatest_of}
 use Rattle.protocol_rules.specs.Plans.{certificates_of}
 use Rattle.view_change.proofs.plans.last_number.Given as goal

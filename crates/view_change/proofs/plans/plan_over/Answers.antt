@@ -1,4 +1,4 @@
-use Rattle.std.proofs.Common.{◌≡◌, ◌-◌, ◌+◌, map, ap, sym, ◌∙◌, arith}
+use Rattle.std.proofs.Common.{map, ◌∙◌, arith}
 use Rattle.view_change.proofs.Best.{plan-start, plan-more, plan-is}
 use Rattle.view_change.proofs.plans.plan_over.Goals as goal
 

@@ -1,8 +1,8 @@
-use Rattle.std.proofs.Common.{◌≡◌, ◌≤◌, ◌+◌, ap, sym, ◌∙◌, length, arith}
+use Rattle.std.proofs.Common.{◌≡◌, ◌+◌, ap, ◌∙◌, length, arith}
 use Rattle.std.specs.List.{filter_map}
 use Rattle.std.specs.Option.{is_some}
 use Rattle.quorum_sets.specs.Masters.{numbers_below}
-use Rattle.view_change.specs.Kept.{Kept, at_place}
+use Rattle.view_change.specs.Kept.{at_place}
 use Rattle.view_change.proofs.Maps.{at_place-is}
 use Rattle.view_change.proofs.Reached.{masters_few}
 use Rattle.view_change.proofs.Answering.{reports-start, count-more, count-few}

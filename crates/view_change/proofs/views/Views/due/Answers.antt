@@ -1,7 +1,7 @@
-use Rattle.std.proofs.Common.{◌≡◌, ◌++◌, ◌≤◌, ◌<◌, ◌||◌, Bool, false, List, length, set, slice_index_or, ap, sym, ◌∙◌, refl, arith}
+use Rattle.std.proofs.Common.{◌≡◌, ◌++◌, ◌||◌, false, List, length, set, slice_index_or, ap, ◌∙◌, refl, arith}
 use Rattle.std.specs.Option.{option_to_list, is_some}
 use Rattle.message_types.specs.declared.body.Body.{Body}
-use Rattle.protocol_rules.specs.Views.{report_due, new_view_due}
+use Rattle.protocol_rules.specs.Views.{report_due}
 use Rattle.view_change.specs.Kept.{Kept}
 use Rattle.view_change.proofs.Said.{counted, both_pushed}
 use Rattle.view_change.proofs.views.Views.due.Goals as goal

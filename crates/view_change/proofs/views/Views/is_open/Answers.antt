@@ -1,4 +1,4 @@
-use Rattle.std.proofs.Common.{◌≡◌, nat_eq, ap, sym, ◌∙◌}
+use Rattle.std.proofs.Common.{nat_eq, ap, ◌∙◌}
 use Rattle.std.specs.Option.{is_some}
 use Rattle.view_change.specs.Kept.{Kept, at_view}
 use Rattle.view_change.proofs.Maps.{at_view-is}

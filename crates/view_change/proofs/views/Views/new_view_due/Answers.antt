@@ -1,4 +1,4 @@
-use Rattle.std.proofs.Common.{◌≡◌, ap, sym, ◌∙◌}
+use Rattle.std.proofs.Common.{ap, sym, ◌∙◌}
 use Rattle.view_change.specs.Kept.{Kept}
 use Rattle.view_change.proofs.Answering.{no_new_view, one_new_view}
 use Rattle.view_change.proofs.views.Views.new_view_due.Goals as goal

@@ -1,8 +1,8 @@
-use Rattle.std.proofs.Common.{◌≡◌, ◌≤◌, ◌-◌, [], List, ℕ, Option, false, ap, arith, sym, ◌∙◌, unwrap_or, slice_index_or}
+use Rattle.std.proofs.Common.{◌≡◌, ◌-◌, [], List, ℕ, Option, false, ap, arith, sym, ◌∙◌, unwrap_or, slice_index_or}
 use Rattle.std.specs.Option.{option_copied}
 use Rattle.quorum_sets.specs.Masters.{has_master}
 use Rattle.quorum_sets.specs.Quorum.{has_quorum}
-use Rattle.view_change.specs.Kept.{Kept, at_view, suspects_of}
+use Rattle.view_change.specs.Kept.{Kept, suspects_of}
 use Rattle.view_change.proofs.Maps.{at_view-is}
 use Rattle.view_change.proofs.Reached.{quorum-is, quorum_some}
 use Rattle.view_change.proofs.Answering.{owed_by, owed_by_none}

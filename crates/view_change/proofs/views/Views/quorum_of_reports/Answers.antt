@@ -1,8 +1,8 @@
-use Rattle.std.proofs.Common.{◌≡◌, ◌++◌, List, take, ap, sym, ◌∙◌}
+use Rattle.std.proofs.Common.{◌++◌, take, ap, ◌∙◌}
 use Rattle.std.specs.List.{filter_map}
 use Rattle.std.specs.Option.{option_to_list}
 use Rattle.quorum_sets.specs.Masters.{numbers_below}
-use Rattle.view_change.specs.Kept.{Kept, at_place}
+use Rattle.view_change.specs.Kept.{at_place}
 use Rattle.view_change.proofs.Maps.{at_place-is}
 use Rattle.view_change.proofs.Answering.{taken-start, reports-more}
 use Rattle.view_change.proofs.views.Views.quorum_of_reports.Goals as goal

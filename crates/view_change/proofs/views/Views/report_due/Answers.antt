@@ -1,4 +1,4 @@
-use Rattle.std.proofs.Common.{◌≡◌, ap, sym, ◌∙◌}
+use Rattle.std.proofs.Common.{ap, sym, ◌∙◌}
 use Rattle.view_change.specs.Kept.{Kept}
 use Rattle.view_change.proofs.Answering.{no_report, one_report}
 use Rattle.view_change.proofs.views.Views.report_due.Goals as goal

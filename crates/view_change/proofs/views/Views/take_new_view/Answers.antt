@@ -1,9 +1,5 @@
-use Rattle.std.proofs.Common.{◌≡◌, Some, List, IsTrue, max, nat_eq, nat_le, refl, ap, sym, ◌∙◌, map, if◌then◌else◌}
+use Rattle.std.proofs.Common.{Some, max, nat_eq, nat_le, refl, ap, sym, ◌∙◌, if◌then◌else◌}
 use Rattle.std.specs.Option.{is_some}
-use Rattle.message_types.specs.declared.signed.Signed.{Signed}
-use Rattle.message_types.specs.declared.views.Report.{Report}
-use Rattle.protocol_rules.specs.Plans.{plan_of}
-use Rattle.view_change.specs.Planning.{are_spelled}
 use Rattle.view_change.specs.Kept.{Kept, at_view}
 use Rattle.view_change.proofs.Maps.{at_view-is, view_put}
 use Rattle.view_change.proofs.Known.{new_view-passed, new_view-taken}

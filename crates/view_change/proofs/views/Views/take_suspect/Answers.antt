@@ -1,4 +1,4 @@
-use Rattle.std.proofs.Common.{◌≡◌, ◌≤◌, ◌+◌, ◌⊎◌, ℕ, inl, inr, ap, sym, ◌∙◌, arith, Some, [], max, nat_eq, if◌then◌else◌, unwrap_or}
+use Rattle.std.proofs.Common.{◌≡◌, ◌≤◌, ◌+◌, ◌⊎◌, inl, inr, ap, ◌∙◌, arith, Some, max, nat_eq, if◌then◌else◌}
 use Rattle.quorum_sets.specs.Masters.{with_master, has_master}
 use Rattle.quorum_sets.specs.Quorum.{has_quorum}
 use Rattle.view_change.specs.Kept.{Kept, at_view, suspects_of}
