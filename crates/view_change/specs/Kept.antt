@@ -1,4 +1,5 @@
--- What a master keeps of suspicions, reports and new views, and when it is what these words and bodies make of it.
+-- What a master keeps of suspicions, reports and new views, and when it is what these words and bodies make of it, by the
+-- rules of Prime and PBFT in protocol_rules. (How it is kept is this project's own.)
 use Rattle.std.specs.Prelude.{◌≡◌, ℕ, ◌≤◌, ◌<◌, ◌-◌, ◌%◌, Bool, true, false, ◌&&◌, not, List, [], Option, length, nat_eq, nat_le, slice_index_or, map}
 use Rattle.std.specs.List.{list_any, filter_map}
 use Rattle.std.specs.Option.{option_map, unwrap_or}

@@ -1,4 +1,4 @@
-ghost use Rattle.std.specs.Prelude.{◌≡◌, ◌++◌, ℕ, List, IsTrue, IfOk, IfSome, option_copied, filter, map, max};
+ghost use Rattle.std.specs.Prelude.{◌≡◌, ◌++◌, List, IsTrue, IfOk, IfSome, option_copied, filter, map, max};
 ghost use Rattle.std.specs.List.{list_all};
 ghost use Rattle.message_types.specs.declared.ordering.Certificate.{Certificate as CertificateWord};
 ghost use Rattle.message_types.specs.declared.views.Report.{Report as ReportWord};

@@ -1,13 +1,11 @@
-ghost use Rattle.std.specs.Prelude.{◌≡◌, ◌≢◌, ◌++◌, ◌∷◌, ◌<◌, ◌≤◌, ◌-◌, ◌%◌, ℕ, Bool, ◌&&◌, not, false, List, [], Option, Some, None, IsTrue, OnOk, OnErr, IfOk, length, map, max, nat_eq, nat_le, is_some, unwrap_or, option_copied, slice_set, take, ◌||◌, if◌then◌else◌};
+ghost use Rattle.std.specs.Prelude.{◌≡◌, ◌≢◌, ◌++◌, ◌∷◌, ◌≤◌, ℕ, false, List, [], IsTrue, OnOk, OnErr, IfOk, length, map, max, is_some, unwrap_or, option_copied, slice_set, take, ◌||◌, if◌then◌else◌};
 ghost use Rattle.std.specs.Option.{option_to_list, option_map};
-ghost use Rattle.std.specs.List.{filter_map, slice_index_or};
+ghost use Rattle.std.specs.List.{slice_index_or};
 ghost use Rattle.message_types.specs.declared.signed.Signed.{Signed as SignedWord};
 ghost use Rattle.message_types.specs.declared.body.Body.{Body as Word};
 ghost use Rattle.message_types.specs.declared.views.Report.{Report as ReportWord};
 ghost use Rattle.message_types.specs.declared.body.Body.TheVariants as body;
 ghost use Rattle.message_types.specs.Parts.{as_frame};
-ghost use Rattle.quorum_sets.specs.Masters.{has_master, with_master, numbers_below};
-ghost use Rattle.quorum_sets.specs.Quorum.{has_quorum};
 ghost use Rattle.protocol_rules.specs.Group.{Group, group_of};
 ghost use Rattle.protocol_rules.specs.Views as rules;
 ghost use Rattle.protocol_rules.specs.Facts.{facts_of};
