@@ -1,0 +1,393 @@
+-- What a word known changes.
+use Rattle.std.proofs.Common.{◌≡◌, ℕ, ◌+◌, ◌-◌, ◌<◌, ◌≤◌, Bool, true, false, ◌||◌, ◌&&◌, List, [], ◌∷◌, ◌++◌, Option, Some, None, max, nat_eq, nat_le, refl, sym, ◌∙◌, ap, inl, inr, ◌⊎◌, arith, if◌then◌else◌, unwrap_or, slice_index_or}
+use Rattle.std.specs.List.{list_any, filter_map}
+use Rattle.std.specs.Option.{option_map, is_some}
+use Rattle.std.proofs.lemmas.Bool.{cases_eq, eq-eqb, ne_eqb, eqb-true, leb-true, leb-false, and_parts}
+use Rattle.std.proofs.lemmas.List.Elements.{filter_map-append}
+use Rattle.std.proofs.lemmas.List.Folds.{list_any-append}
+use Rattle.message_types.specs.declared.signed.Signed.{Signed}
+use Rattle.message_types.specs.declared.views.Report.{Report}
+use Rattle.message_types.specs.declared.views.NewView.{NewView}
+use Rattle.message_types.specs.declared.views.Plan.{Plan}
+use Rattle.message_types.specs.declared.body.Body.{Body}
+use Rattle.message_types.specs.declared.body.Body.TheVariants as body
+use Rattle.message_types.specs.Parts.{as_frame}
+use Rattle.quorum_sets.specs.Masters.{has_master, with_master}
+use Rattle.quorum_sets.specs.Quorum.{has_quorum}
+use Rattle.protocol_rules.specs.Words.{first_of_list, greatest_to, or_else}
+use Rattle.protocol_rules.specs.Group.{Group, most_view}
+use Rattle.protocol_rules.specs.Views.{view, is_suspect, is_suspected, is_opened, report_by, new_view_in}
+use Rattle.view_change.specs.Kept.{Kept, AreViewsOf, at_view, at_place, suspects_of, first_report, first_new_view, plan_in_new_view}
+use Rattle.view_change.proofs.Reached.{greatest_to-same, greatest_to-raised, quorum-same, quorum-fewer, has_with_master}
+
+pub most_view-is : most_view ≡ 255
+unfolding most_view
+most_view-is = refl
+
+pub or_none : {X : Type 0} (o : Option X) → or_else o None ≡ o
+or_none None = refl
+or_none (Some x) = refl
+
+first-append : {X : Type 0} (xs ys : List X) → first_of_list (xs ++ ys) ≡ or_else (first_of_list xs) (first_of_list ys)
+first-append [] ys = refl
+first-append (x ∷ xs) ys = refl
+
+one_of : {X Y : Type 0} (h : X → Option Y) (x : X) → first_of_list (filter_map h (x ∷ [])) ≡ h x
+one_of h x = at (h x) refl
+  where
+    at : (o : Option _) → h x ≡ o → first_of_list (filter_map h (x ∷ [])) ≡ o
+    at None e = rw e refl
+    at (Some y) e = rw e refl
+
+first_more : {X Y : Type 0} (h : X → Option Y) (xs : List X) (x : X) → first_of_list (filter_map h (xs ++ x ∷ [])) ≡ or_else (first_of_list (filter_map h xs)) (h x)
+first_more h xs x = ap first_of_list (filter_map-append h xs (x ∷ [])) ∙ first-append (filter_map h xs) (filter_map h (x ∷ [])) ∙ ap (or_else (first_of_list (filter_map h xs))) (one_of h x)
+
+pub first_report-more : (known : List (Signed Body)) (f : Signed Body) (v j : ℕ) → first_report (known ++ f ∷ []) v j ≡ or_else (first_report known v j) (report_by v j f)
+unfolding first_report
+first_report-more known f v j = first_more (report_by v j) known f
+
+pub first_new_view-more : (known : List (Signed Body)) (f : Signed Body) (v : ℕ) → first_new_view (known ++ f ∷ []) v ≡ or_else (first_new_view known v) (new_view_in v f)
+unfolding first_new_view
+first_new_view-more known f v = first_more (new_view_in v) known f
+
+some_first : {X Y : Type 0} (h : X → Option Y) (xs : List X) → list_any (λ x. is_some (h x)) xs ≡ is_some (first_of_list (filter_map h xs))
+some_first h [] = refl
+some_first h (x ∷ xs) = at (h x) refl (some_first h xs)
+  where
+    at : (o : Option _) → h x ≡ o → list_any (λ y. is_some (h y)) xs ≡ is_some (first_of_list (filter_map h xs)) → list_any (λ y. is_some (h y)) (x ∷ xs) ≡ is_some (first_of_list (filter_map h (x ∷ xs)))
+    at None e less = rw e less
+    at (Some y) e less = rw e refl
+
+pub opened-is : (known : List (Signed Body)) (v : ℕ) → is_opened known v ≡ is_some (first_new_view known v)
+unfolding first_new_view
+opened-is known v = some_first (new_view_in v) known
+
+-- whether a view is reached
+abbrev pub reached : Group → List (Signed Body) → ℕ → Bool
+reached g known v = is_suspected g known (v - 1) || is_opened known v
+
+pub view-is : (g : Group) (known : List (Signed Body)) → view g known ≡ greatest_to (reached g known) most_view
+unfolding view
+view-is g known = refl
+
+-- a word that is no vote of the group for a view that another follows
+abbrev pub NoVote : Group → Signed Body → Type 0
+NoVote g f = (v j : ℕ) → v < most_view → j < g.n → is_suspect v j f ≡ false
+
+or_false : (b : Bool) → (b || (false || false)) ≡ b
+or_false true = refl
+or_false false = refl
+
+votes-passed : (g : Group) (known : List (Signed Body)) (f : Signed Body) → NoVote g f → (v j : ℕ) → v < most_view → j < g.n → list_any (is_suspect v j) (known ++ f ∷ []) ≡ list_any (is_suspect v j) known
+votes-passed g known f none v j low few = list_any-append (is_suspect v j) known (f ∷ []) ∙ ap (λ b. list_any (is_suspect v j) known || (b || false)) (none v j low few) ∙ or_false (list_any (is_suspect v j) known)
+
+opened-passed : (known : List (Signed Body)) (f : Signed Body) → ((v : ℕ) → first_new_view (known ++ f ∷ []) v ≡ first_new_view known v) → (v : ℕ) → is_opened (known ++ f ∷ []) v ≡ is_opened known v
+opened-passed known f same v = opened-is (known ++ f ∷ []) v ∙ ap is_some (same v) ∙ sym (opened-is known v)
+
+suspected-passed : (g : Group) (known : List (Signed Body)) (f : Signed Body) → NoVote g f → (v : ℕ) → v < most_view → is_suspected g (known ++ f ∷ []) v ≡ is_suspected g known v
+suspected-passed g known f none v low = quorum-same g.n g.q (λ j. list_any (is_suspect v j) (known ++ f ∷ [])) (λ j. list_any (is_suspect v j) known) (λ j few. votes-passed g known f none v j low few)
+
+view-passed : (g : Group) (known : List (Signed Body)) (f : Signed Body) → NoVote g f → ((v : ℕ) → first_new_view (known ++ f ∷ []) v ≡ first_new_view known v) → view g (known ++ f ∷ []) ≡ view g known
+view-passed g known f none same =
+    view-is g (known ++ f ∷ [])
+    ∙ greatest_to-same (reached g (known ++ f ∷ [])) (reached g known) most_view
+    (λ v least most. ap (λ b. b || is_opened (known ++ f ∷ []) v) (suspected-passed g known f none (v - 1) (omega arith)) ∙ ap (λ b. is_suspected g known (v - 1) || b) (opened-passed known f same v))
+    ∙ sym (view-is g known)
+
+-- a word that changes nothing
+pub passed : (g : Group) (me : ℕ) (kept : Kept) (known : List (Signed Body)) (said : List Body) (f : Signed Body) → NoVote g f
+    → ((v j : ℕ) → or_else (first_report known v j) (report_by v j f) ≡ first_report known v j) → ((v : ℕ) → or_else (first_new_view known v) (new_view_in v f) ≡ first_new_view known v)
+    → AreViewsOf g me kept known said → AreViewsOf g me kept (known ++ f ∷ []) said
+passed g me kept known said f none reports opens is = record {
+  masters = is.masters;
+  quorum = is.quorum;
+  own = is.own;
+  view = is.view ∙ sym (view-passed g known f none (λ v. first_new_view-more known f v ∙ opens v));
+  suspects = λ v j low few. is.suspects v j low few ∙ sym (votes-passed g known f none v j low few);
+  reports = λ v j. is.reports v j ∙ sym (first_report-more known f v j ∙ reports v j);
+  plans = λ v. is.plans v ∙ ap (option_map (plan_in_new_view g)) (sym (first_new_view-more known f v ∙ opens v));
+  reported = is.reported;
+  opened = is.opened;
+}
+
+abbrev pub suspect_of : ℕ → ℕ → List ℕ → Signed Body
+suspect_of signer v sig = record { signer = signer; body = body.Suspect record { v = v }; sig = sig }
+
+-- a vote of no master of the group, or for a view that none follows
+pub suspect-passed : (g : Group) (me : ℕ) (kept : Kept) (known : List (Signed Body)) (said : List Body) (signer v : ℕ) (sig : List ℕ) → (g.n ≤ signer) ⊎ (255 ≤ v)
+    → AreViewsOf g me kept known said → AreViewsOf g me kept (known ++ suspect_of signer v sig ∷ []) said
+suspect-passed g me kept known said signer v sig out is =
+    passed g me kept known said (suspect_of signer v sig) (λ w j low few. by out w j low few) (λ w j. or_none (first_report known w j)) (λ w. or_none (first_new_view known w)) is
+  where
+    none : (a b : Bool) → b ≡ false → (a && b) ≡ false
+    none true b e = e
+    none false b e = refl
+
+    by : (g.n ≤ signer) ⊎ (255 ≤ v) → (w j : ℕ) → w < most_view → j < g.n → (nat_eq signer j && nat_eq v w) ≡ false
+    by (inl le) w j low few = ap (λ b. b && nat_eq v w) (ne_eqb signer j (λ (e : signer ≡ j). omega arith))
+    by (inr le) w j low few = let top : most_view ≡ 255 = most_view-is in none (nat_eq signer j) (nat_eq v w) (ne_eqb v w (λ (e : v ≡ w). omega arith))
+
+-- the votes with one more
+voted : (known : List (Signed Body)) (signer v : ℕ) (sig : List ℕ) (w j : ℕ) → list_any (is_suspect w j) (known ++ suspect_of signer v sig ∷ []) ≡ (list_any (is_suspect w j) known || ((nat_eq signer j && nat_eq v w) || false))
+voted known signer v sig w j = list_any-append (is_suspect w j) known (suspect_of signer v sig ∷ [])
+
+own_vote : (a b c : Bool) → c ≡ true → (b || a) ≡ (a || ((b && c) || false))
+own_vote true true true e = refl
+own_vote true false true e = refl
+own_vote false true true e = refl
+own_vote false false true e = refl
+own_vote a b false e = absurd (let f : false ≡ true = e in cc)
+
+other_vote : (a b c : Bool) → c ≡ false → a ≡ (a || ((b && c) || false))
+other_vote true b false e = refl
+other_vote false true false e = refl
+other_vote false false false e = refl
+other_vote a b true e = absurd (let f : true ≡ false = e in cc)
+
+eq_sym : (a b : ℕ) → nat_eq a b ≡ nat_eq b a
+eq_sym a b = at (cases_eq a b)
+  where
+    at : (a ≡ b) ⊎ (a ≡ b → ⊥) → nat_eq a b ≡ nat_eq b a
+    at (inl e) = eq-eqb a b e ∙ sym (eq-eqb b a (sym e))
+    at (inr ne) = ne_eqb a b ne ∙ sym (ne_eqb b a (λ (e : b ≡ a). ne (sym e)))
+
+opened-same : (known : List (Signed Body)) (signer v : ℕ) (sig : List ℕ) (w : ℕ) → is_opened (known ++ suspect_of signer v sig ∷ []) w ≡ is_opened known w
+opened-same known signer v sig w = opened-passed known (suspect_of signer v sig) (λ u. first_new_view-more known (suspect_of signer v sig) u ∙ or_none (first_new_view known u)) w
+
+-- a vote for another view
+vote-elsewhere : (known : List (Signed Body)) (signer v : ℕ) (sig : List ℕ) (w j : ℕ) → (v ≡ w → ⊥) → list_any (is_suspect w j) known ≡ list_any (is_suspect w j) (known ++ suspect_of signer v sig ∷ [])
+vote-elsewhere known signer v sig w j ne = other_vote (list_any (is_suspect w j) known) (nat_eq signer j) (nat_eq v w) (ne_eqb v w ne) ∙ sym (voted known signer v sig w j)
+
+suspected-elsewhere : (g : Group) (known : List (Signed Body)) (signer v : ℕ) (sig : List ℕ) (w : ℕ) → (v ≡ w → ⊥) → is_suspected g known w ≡ is_suspected g (known ++ suspect_of signer v sig ∷ []) w
+suspected-elsewhere g known signer v sig w ne = quorum-same g.n g.q (λ j. list_any (is_suspect w j) known) (λ j. list_any (is_suspect w j) (known ++ suspect_of signer v sig ∷ [])) (λ j few. vote-elsewhere known signer v sig w j ne)
+
+-- a set that was the voters before is, with the signer, that of the voters now
+vote-here : (known : List (Signed Body)) (signer v : ℕ) (sig : List ℕ) (before masters : List ℕ) (j : ℕ) → j < 14 → masters ≡ with_master before signer → has_master before j ≡ list_any (is_suspect v j) known
+    → has_master masters j ≡ list_any (is_suspect v j) (known ++ suspect_of signer v sig ∷ [])
+vote-here known signer v sig before masters j few joined was =
+    ap (λ ms. has_master ms j) joined ∙ has_with_master before signer j few ∙ ap (λ b. b || has_master before j) (eq_sym j signer) ∙ ap (λ b. nat_eq signer j || b) was
+    ∙ own_vote (list_any (is_suspect v j) known) (nat_eq signer j) (nat_eq v v) (eq-eqb v v refl) ∙ sym (voted known signer v sig v j)
+
+still_voted : (a b : Bool) → a ≡ true → (a || (b || false)) ≡ true
+still_voted true b e = refl
+still_voted false b e = absurd (let f : false ≡ true = e in cc)
+
+-- the view once a quorum suspects its leader, and while none does
+view-raised : (g : Group) (known : List (Signed Body)) (signer v : ℕ) (sig : List ℕ) → v < 255 → is_suspected g (known ++ suspect_of signer v sig ∷ []) v ≡ true → view g (known ++ suspect_of signer v sig ∷ []) ≡ max (view g known) (v + 1)
+view-raised g known signer v sig low enough =
+    let top : most_view ≡ 255 = most_view-is in
+    let back : v + 1 - 1 ≡ v = omega arith in
+    view-is g (known ++ suspect_of signer v sig ∷ [])
+    ∙ greatest_to-raised (reached g known) (reached g (known ++ suspect_of signer v sig ∷ [])) (v + 1) most_view (omega arith)
+    (ap (λ k. is_suspected g (known ++ suspect_of signer v sig ∷ []) k || is_opened (known ++ suspect_of signer v sig ∷ []) (v + 1)) back ∙ ap (λ b. b || is_opened (known ++ suspect_of signer v sig ∷ []) (v + 1)) enough)
+    (λ w ne least most. elsewhere w (λ (e : v ≡ w - 1). let same : w ≡ v + 1 = omega arith in ne same))
+    ∙ ap (λ k. max k (v + 1)) (sym (view-is g known))
+  where
+    elsewhere : (w : ℕ) → (v ≡ w - 1 → ⊥) → reached g known w ≡ reached g (known ++ suspect_of signer v sig ∷ []) w
+    elsewhere w ne = ap (λ b. b || is_opened known w) (suspected-elsewhere g known signer v sig (w - 1) ne) ∙ ap (λ b. is_suspected g (known ++ suspect_of signer v sig ∷ []) (w - 1) || b) (sym (opened-same known signer v sig w))
+
+view-stays : (g : Group) (known : List (Signed Body)) (signer v : ℕ) (sig : List ℕ) → is_suspected g (known ++ suspect_of signer v sig ∷ []) v ≡ false → view g (known ++ suspect_of signer v sig ∷ []) ≡ view g known
+view-stays g known signer v sig few =
+    view-is g (known ++ suspect_of signer v sig ∷ [])
+    ∙ sym (greatest_to-same (reached g known) (reached g (known ++ suspect_of signer v sig ∷ [])) most_view (λ w least most. at w (cases_eq v (w - 1)))) ∙ sym (view-is g known)
+  where
+    failed : is_suspected g known v ≡ false
+    failed = quorum-fewer g.n g.q (λ j. list_any (is_suspect v j) known) (λ j. list_any (is_suspect v j) (known ++ suspect_of signer v sig ∷ []))
+        (λ j below is. voted known signer v sig v j ∙ still_voted (list_any (is_suspect v j) known) (nat_eq signer j && nat_eq v v) is) few
+
+    same : (w : ℕ) → (v ≡ w - 1) ⊎ (v ≡ w - 1 → ⊥) → is_suspected g known (w - 1) ≡ is_suspected g (known ++ suspect_of signer v sig ∷ []) (w - 1)
+    same w (inl e) = ap (is_suspected g known) (sym e) ∙ failed ∙ sym few ∙ ap (is_suspected g (known ++ suspect_of signer v sig ∷ [])) e
+    same w (inr ne) = suspected-elsewhere g known signer v sig (w - 1) ne
+
+    at : (w : ℕ) → (v ≡ w - 1) ⊎ (v ≡ w - 1 → ⊥) → reached g known w ≡ reached g (known ++ suspect_of signer v sig ∷ []) w
+    at w c = ap (λ b. b || is_opened known w) (same w c) ∙ ap (λ b. is_suspected g (known ++ suspect_of signer v sig ∷ []) (w - 1) || b) (sym (opened-same known signer v sig w))
+
+view-voted : (g : Group) (known : List (Signed Body)) (signer v : ℕ) (sig : List ℕ) (r : Bool) (old new : ℕ) → v < 255 → r ≡ is_suspected g (known ++ suspect_of signer v sig ∷ []) v → old ≡ view g known → new ≡ (if r then max old (v + 1) else old)
+    → new ≡ view g (known ++ suspect_of signer v sig ∷ [])
+view-voted g known signer v sig true old new low e was now = now ∙ ap (λ k. max k (v + 1)) was ∙ sym (view-raised g known signer v sig low (sym e))
+view-voted g known signer v sig false old new low e was now = now ∙ was ∙ sym (view-stays g known signer v sig (sym e))
+
+pub suspect-taken : (g : Group) (me : ℕ) (kept new : Kept) (known : List (Signed Body)) (said : List Body) (signer v : ℕ) (sig masters : List ℕ) (r : Bool) → g.n ≤ 14 → v < 255
+    → masters ≡ with_master (suspects_of kept v) signer → r ≡ has_quorum g.n g.q (has_master masters)
+    → new.group ≡ kept.group → new.me ≡ kept.me → new.view ≡ (if r then max kept.view (v + 1) else kept.view) → ((w : ℕ) → at_view new.suspects w ≡ (if nat_eq v w then Some masters else at_view kept.suspects w))
+    → new.reports ≡ kept.reports → new.plans ≡ kept.plans → new.reported ≡ kept.reported → new.opened ≡ kept.opened
+    → AreViewsOf g me kept known said → AreViewsOf g me new (known ++ suspect_of signer v sig ∷ []) said
+suspect-taken g me kept new known said signer v sig masters r few low joined enough group own now votes reports plans reported opened is = record {
+  masters = ap (λ (h : Group). h.n) group ∙ is.masters;
+  quorum = ap (λ (h : Group). h.q) group ∙ is.quorum;
+  own = own ∙ is.own;
+  view = view-voted g known signer v sig r kept.view new.view low (enough ∙ quorum-same g.n g.q (has_master masters) (λ j. list_any (is_suspect v j) (known ++ suspect_of signer v sig ∷ [])) here) is.view now;
+  suspects = λ w j below small. ap (λ o. has_master (unwrap_or o []) j) (votes w) ∙ at w j below small (cases_eq v w);
+  reports = λ w j. ap (λ es. at_place es w j) reports ∙ is.reports w j ∙ sym (first_report-more known (suspect_of signer v sig) w j ∙ or_none (first_report known w j));
+  plans = λ w. ap (λ es. at_view es w) plans ∙ is.plans w ∙ ap (option_map (plan_in_new_view g)) (sym (first_new_view-more known (suspect_of signer v sig) w ∙ or_none (first_new_view known w)));
+  reported = λ w most. ap (λ bs. slice_index_or bs w false) reported ∙ is.reported w most;
+  opened = λ w most. ap (λ bs. slice_index_or bs w false) opened ∙ is.opened w most;
+}
+  where
+    top : most_view ≡ 255
+    top = most_view-is
+
+    here : (j : ℕ) → j < g.n → has_master masters j ≡ list_any (is_suspect v j) (known ++ suspect_of signer v sig ∷ [])
+    here j small = let most : most_view ≡ 255 = top in vote-here known signer v sig (suspects_of kept v) masters j (omega arith) joined (is.suspects v j (omega arith) small)
+
+    at : (w j : ℕ) → w < most_view → j < g.n → (v ≡ w) ⊎ (v ≡ w → ⊥) → has_master (unwrap_or (if nat_eq v w then Some masters else at_view kept.suspects w) []) j ≡ list_any (is_suspect w j) (known ++ suspect_of signer v sig ∷ [])
+    at w j below small (inl e) =
+        ap (λ b. has_master (unwrap_or (if b then Some masters else at_view kept.suspects w) []) j) (eq-eqb v w e) ∙ here j small ∙ ap (λ u. list_any (is_suspect u j) (known ++ suspect_of signer v sig ∷ [])) e
+    at w j below small (inr ne) =
+        ap (λ b. has_master (unwrap_or (if b then Some masters else at_view kept.suspects w) []) j) (ne_eqb v w ne) ∙ is.suspects w j below small ∙ vote-elsewhere known signer v sig w j ne
+
+-- a report
+abbrev pub report_word : Signed Report → Signed Body
+report_word f = as_frame body.Report f
+
+report_kept : {X : Type 0} (o p : Option X) → is_some o ≡ true → or_else o p ≡ o
+report_kept None p e = absurd (let f : false ≡ true = e in cc)
+report_kept (Some x) p e = refl
+
+by_report : (f : Signed Report) (v j : ℕ) → report_by v j (report_word f) ≡ (if nat_eq f.signer j && nat_eq f.body.v v then Some f else None)
+by_report f v j = refl
+
+own_place : (f : Signed Report) (v j : ℕ) → (nat_eq f.signer j && nat_eq f.body.v v) ≡ true → (f.signer ≡ j) × (f.body.v ≡ v)
+own_place f v j e = let both : (nat_eq f.signer j ≡ true) × (nat_eq f.body.v v ≡ true) = and_parts (nat_eq f.signer j) (nat_eq f.body.v v) e in (eqb-true f.signer j both.0, eqb-true f.body.v v both.1)
+
+-- one of a master that has one of that view
+pub report-passed : (g : Group) (me : ℕ) (kept : Kept) (known : List (Signed Body)) (said : List Body) (f : Signed Report) → is_some (at_place kept.reports f.body.v f.signer) ≡ true
+    → AreViewsOf g me kept known said → AreViewsOf g me kept (known ++ report_word f ∷ []) said
+report-passed g me kept known said f there is = passed g me kept known said (report_word f) (λ w j low few. refl) (λ w j. at w j (nat_eq f.signer j && nat_eq f.body.v w) refl) (λ w. or_none (first_new_view known w)) is
+  where
+    at : (w j : ℕ) (b : Bool) → (nat_eq f.signer j && nat_eq f.body.v w) ≡ b → or_else (first_report known w j) (report_by w j (report_word f)) ≡ first_report known w j
+    at w j true e =
+        let place : (f.signer ≡ j) × (f.body.v ≡ w) = own_place f w j e in
+        report_kept (first_report known w j) (report_by w j (report_word f)) (ap is_some (sym (is.reports w j)) ∙ ap (λ u. is_some (at_place kept.reports u j)) (sym place.1) ∙ ap (λ i. is_some (at_place kept.reports f.body.v i)) (sym place.0) ∙ there)
+    at w j false e = ap (λ b. or_else (first_report known w j) (if b then Some f else None)) e ∙ or_none (first_report known w j)
+
+-- the first of its master for its view
+pub report-taken : (g : Group) (me : ℕ) (kept new : Kept) (known : List (Signed Body)) (said : List Body) (f : Signed Report) → is_some (at_place kept.reports f.body.v f.signer) ≡ false
+    → new.group ≡ kept.group → new.me ≡ kept.me → new.view ≡ kept.view → new.suspects ≡ kept.suspects
+    → ((w j : ℕ) → at_place new.reports w j ≡ (if nat_eq f.body.v w && nat_eq f.signer j then Some f else at_place kept.reports w j))
+    → new.plans ≡ kept.plans → new.reported ≡ kept.reported → new.opened ≡ kept.opened
+    → AreViewsOf g me kept known said → AreViewsOf g me new (known ++ report_word f ∷ []) said
+report-taken g me kept new known said f fresh group own same suspects reports plans reported opened is = record {
+  masters = ap (λ (h : Group). h.n) group ∙ is.masters;
+  quorum = ap (λ (h : Group). h.q) group ∙ is.quorum;
+  own = own ∙ is.own;
+  view = same ∙ is.view ∙ sym (view-passed g known (report_word f) (λ w j low few. refl) (λ w. first_new_view-more known (report_word f) w ∙ or_none (first_new_view known w)));
+  suspects = λ w j low few. ap (λ es. has_master (unwrap_or (at_view es w) []) j) suspects ∙ is.suspects w j low few ∙ sym (votes-passed g known (report_word f) (λ w j low few. refl) w j low few);
+  reports = λ w j. reports w j ∙ at w j (nat_eq f.signer j && nat_eq f.body.v w) refl ∙ sym (first_report-more known (report_word f) w j);
+  plans = λ w. ap (λ es. at_view es w) plans ∙ is.plans w ∙ ap (option_map (plan_in_new_view g)) (sym (first_new_view-more known (report_word f) w ∙ or_none (first_new_view known w)));
+  reported = λ w most. ap (λ bs. slice_index_or bs w false) reported ∙ is.reported w most;
+  opened = λ w most. ap (λ bs. slice_index_or bs w false) opened ∙ is.opened w most;
+}
+  where
+    and_comm : (a b : Bool) → (a && b) ≡ (b && a)
+    and_comm true true = refl
+    and_comm true false = refl
+    and_comm false true = refl
+    and_comm false false = refl
+
+    none : {X : Type 0} (o : Option X) → is_some o ≡ false → o ≡ None
+    none None e = refl
+    none (Some x) e = absurd (let h : true ≡ false = e in cc)
+
+    at : (w j : ℕ) (b : Bool) → (nat_eq f.signer j && nat_eq f.body.v w) ≡ b → (if nat_eq f.body.v w && nat_eq f.signer j then Some f else at_place kept.reports w j) ≡ or_else (first_report known w j) (if nat_eq f.signer j && nat_eq f.body.v w then Some f else None)
+    at w j true e =
+        let place : (f.signer ≡ j) × (f.body.v ≡ w) = own_place f w j e in
+        let empty : first_report known w j ≡ None = none (first_report known w j) (ap is_some (sym (is.reports w j)) ∙ ap (λ u. is_some (at_place kept.reports u j)) (sym place.1) ∙ ap (λ i. is_some (at_place kept.reports f.body.v i)) (sym place.0) ∙ fresh) in
+        ap (λ b. if b then Some f else at_place kept.reports w j) (and_comm (nat_eq f.body.v w) (nat_eq f.signer j) ∙ e)
+        ∙ sym (ap (λ o. or_else o (if nat_eq f.signer j && nat_eq f.body.v w then Some f else None)) empty ∙ ap (λ b. if b then Some f else None) e)
+    at w j false e =
+        ap (λ b. if b then Some f else at_place kept.reports w j) (and_comm (nat_eq f.body.v w) (nat_eq f.signer j) ∙ e) ∙ is.reports w j
+        ∙ sym (ap (λ b. or_else (first_report known w j) (if b then Some f else None)) e ∙ or_none (first_report known w j))
+
+-- a new view
+abbrev pub new_view_word : Signed NewView → Signed Body
+new_view_word f = as_frame body.NewView f
+
+plan_there : {X Y : Type 0} (h : X → Y) (o : Option X) → is_some (option_map h o) ≡ is_some o
+plan_there h None = refl
+plan_there h (Some x) = refl
+
+no_plan : {X : Type 0} (o : Option X) → is_some o ≡ false → o ≡ None
+no_plan None e = refl
+no_plan (Some x) e = absurd (let h : true ≡ false = e in cc)
+
+-- one of a view that is open
+pub new_view-passed : (g : Group) (me : ℕ) (kept : Kept) (known : List (Signed Body)) (said : List Body) (f : Signed NewView) → is_some (at_view kept.plans f.body.v) ≡ true
+    → AreViewsOf g me kept known said → AreViewsOf g me kept (known ++ new_view_word f ∷ []) said
+new_view-passed g me kept known said f there is = passed g me kept known said (new_view_word f) (λ w j low few. refl) (λ w j. or_none (first_report known w j)) (λ w. at w (cases_eq f.body.v w)) is
+  where
+    at : (w : ℕ) → (f.body.v ≡ w) ⊎ (f.body.v ≡ w → ⊥) → or_else (first_new_view known w) (if nat_eq f.body.v w then Some f else None) ≡ first_new_view known w
+    at w (inl e) =
+        report_kept (first_new_view known w) (if nat_eq f.body.v w then Some f else None)
+        (sym (plan_there (plan_in_new_view g) (first_new_view known w)) ∙ ap is_some (sym (is.plans w)) ∙ ap (λ u. is_some (at_view kept.plans u)) (sym e) ∙ there)
+    at w (inr ne) = ap (λ b. or_else (first_new_view known w) (if b then Some f else None)) (ne_eqb f.body.v w ne) ∙ or_none (first_new_view known w)
+
+suspected-by_others : (g : Group) (known : List (Signed Body)) (f : Signed NewView) (v : ℕ) → is_suspected g known v ≡ is_suspected g (known ++ new_view_word f ∷ []) v
+suspected-by_others g known f v =
+    quorum-same g.n g.q (λ j. list_any (is_suspect v j) known) (λ j. list_any (is_suspect v j) (known ++ new_view_word f ∷ []))
+    (λ j few. sym (list_any-append (is_suspect v j) known (new_view_word f ∷ []) ∙ or_false (list_any (is_suspect v j) known)))
+
+opened-elsewhere : (known : List (Signed Body)) (f : Signed NewView) (v : ℕ) → (f.body.v ≡ v → ⊥) → is_opened known v ≡ is_opened (known ++ new_view_word f ∷ []) v
+opened-elsewhere known f v ne =
+    sym (opened-is (known ++ new_view_word f ∷ []) v ∙ ap is_some (first_new_view-more known (new_view_word f) v ∙ ap (λ b. or_else (first_new_view known v) (if b then Some f else None)) (ne_eqb f.body.v v ne) ∙ or_none (first_new_view known v))
+    ∙ sym (opened-is known v))
+
+or_some : {X : Type 0} (o : Option X) (x : X) → is_some (or_else o (Some x)) ≡ true
+or_some None x = refl
+or_some (Some y) x = refl
+
+opened-here : (known : List (Signed Body)) (f : Signed NewView) → is_opened (known ++ new_view_word f ∷ []) f.body.v ≡ true
+opened-here known f =
+    opened-is (known ++ new_view_word f ∷ []) f.body.v
+    ∙ ap is_some (first_new_view-more known (new_view_word f) f.body.v ∙ ap (λ b. or_else (first_new_view known f.body.v) (if b then Some f else None)) (eq-eqb f.body.v f.body.v refl))
+    ∙ or_some (first_new_view known f.body.v) f
+
+or_true : (b : Bool) → (b || true) ≡ true
+or_true true = refl
+or_true false = refl
+
+view-elsewhere : (g : Group) (known : List (Signed Body)) (f : Signed NewView) (w : ℕ) → (w ≡ f.body.v → ⊥) → reached g known w ≡ reached g (known ++ new_view_word f ∷ []) w
+view-elsewhere g known f w ne =
+    ap (λ b. b || is_opened known w) (suspected-by_others g known f (w - 1)) ∙ ap (λ b. is_suspected g (known ++ new_view_word f ∷ []) (w - 1) || b) (opened-elsewhere known f w (λ (e : f.body.v ≡ w). ne (sym e)))
+
+view-opened : (g : Group) (known : List (Signed Body)) (f : Signed NewView) (old new : ℕ) (r : Bool) → r ≡ nat_le f.body.v 255 → old ≡ view g known → new ≡ (if r then max old f.body.v else old) → new ≡ view g (known ++ new_view_word f ∷ [])
+view-opened g known f old new true e was now =
+    let low : f.body.v ≤ 255 = leb-true f.body.v 255 (sym e) in
+    let top : most_view ≡ 255 = most_view-is in
+    now ∙ ap (λ k. max k f.body.v) was
+    ∙ sym (view-is g (known ++ new_view_word f ∷ []) ∙ greatest_to-raised (reached g known) (reached g (known ++ new_view_word f ∷ [])) f.body.v most_view (omega arith)
+    (ap (λ b. is_suspected g (known ++ new_view_word f ∷ []) (f.body.v - 1) || b) (opened-here known f) ∙ or_true (is_suspected g (known ++ new_view_word f ∷ []) (f.body.v - 1)))
+    (λ w ne least most. view-elsewhere g known f w ne) ∙ ap (λ k. max k f.body.v) (sym (view-is g known)))
+view-opened g known f old new false e was now =
+    let top : most_view ≡ 255 = most_view-is in
+    let high : 255 < f.body.v = leb-false f.body.v 255 (sym e) in
+    now ∙ was ∙ view-is g known
+    ∙ greatest_to-same (reached g known) (reached g (known ++ new_view_word f ∷ [])) most_view (λ w least most. view-elsewhere g known f w (λ (same : w ≡ f.body.v). omega arith)) ∙ sym (view-is g (known ++ new_view_word f ∷ []))
+
+-- the first of its view
+pub new_view-taken : (g : Group) (me : ℕ) (kept new : Kept) (known : List (Signed Body)) (said : List Body) (f : Signed NewView) (plan : Plan) (r : Bool) → is_some (at_view kept.plans f.body.v) ≡ false
+    → plan ≡ plan_in_new_view g f → r ≡ nat_le f.body.v 255
+    → new.group ≡ kept.group → new.me ≡ kept.me → new.view ≡ (if r then max kept.view f.body.v else kept.view) → new.suspects ≡ kept.suspects → new.reports ≡ kept.reports
+    → ((w : ℕ) → at_view new.plans w ≡ (if nat_eq f.body.v w then Some plan else at_view kept.plans w))
+    → new.reported ≡ kept.reported → new.opened ≡ kept.opened
+    → AreViewsOf g me kept known said → AreViewsOf g me new (known ++ new_view_word f ∷ []) said
+new_view-taken g me kept new known said f plan r fresh made low group own now suspects reports plans reported opened is = record {
+  masters = ap (λ (h : Group). h.n) group ∙ is.masters;
+  quorum = ap (λ (h : Group). h.q) group ∙ is.quorum;
+  own = own ∙ is.own;
+  view = view-opened g known f kept.view new.view r low is.view now;
+  suspects = λ w j below few. ap (λ es. has_master (unwrap_or (at_view es w) []) j) suspects ∙ is.suspects w j below few ∙ sym (votes-passed g known (new_view_word f) (λ w j low few. refl) w j below few);
+  reports = λ w j. ap (λ es. at_place es w j) reports ∙ is.reports w j ∙ sym (first_report-more known (new_view_word f) w j ∙ or_none (first_report known w j));
+  plans = λ w. plans w ∙ at w (cases_eq f.body.v w) ∙ ap (option_map (plan_in_new_view g)) (sym (first_new_view-more known (new_view_word f) w));
+  reported = λ w most. ap (λ bs. slice_index_or bs w false) reported ∙ is.reported w most;
+  opened = λ w most. ap (λ bs. slice_index_or bs w false) opened ∙ is.opened w most;
+}
+  where
+    at : (w : ℕ) → (f.body.v ≡ w) ⊎ (f.body.v ≡ w → ⊥) → (if nat_eq f.body.v w then Some plan else at_view kept.plans w) ≡ option_map (plan_in_new_view g) (or_else (first_new_view known w) (if nat_eq f.body.v w then Some f else None))
+    at w (inl e) =
+        let empty : first_new_view known w ≡ None = no_plan (first_new_view known w) (sym (plan_there (plan_in_new_view g) (first_new_view known w)) ∙ ap is_some (sym (is.plans w)) ∙ ap (λ u. is_some (at_view kept.plans u)) (sym e) ∙ fresh) in
+        ap (λ b. if b then Some plan else at_view kept.plans w) (eq-eqb f.body.v w e) ∙ ap Some made
+        ∙ sym (ap (λ o. option_map (plan_in_new_view g) (or_else o (if nat_eq f.body.v w then Some f else None))) empty ∙ ap (λ b. option_map (plan_in_new_view g) (if b then Some f else None)) (eq-eqb f.body.v w e))
+    at w (inr ne) =
+        ap (λ b. if b then Some plan else at_view kept.plans w) (ne_eqb f.body.v w ne) ∙ is.plans w
+        ∙ sym (ap (λ b. option_map (plan_in_new_view g) (or_else (first_new_view known w) (if b then Some f else None))) (ne_eqb f.body.v w ne) ∙ ap (option_map (plan_in_new_view g)) (or_none (first_new_view known w)))

@@ -1,0 +1,119 @@
+-- The greatest view that is reached.
+use Rattle.std.proofs.Common.{◌≡◌, ℕ, zero, suc, ◌+◌, ◌*◌, ◌<◌, ◌≤◌, Bool, true, false, cond, ◌||◌, List, [], length, max, nat_eq, nat_le, refl, sym, ◌∙◌, ap, inl, inr, ◌⊎◌, arith, IsTrue, ◌↔◌}
+use Rattle.std.proofs.lemmas.Bool.{cases_eq, le-leb, leb-true, cond-true}
+use Rattle.quorum_sets.specs.Masters.{has_master, voters, with_master}
+use Rattle.quorum_sets.specs.Quorum.{has_quorum}
+use Rattle.quorum_sets.specs.declared.sizes.Sizes.{Sizes}
+use Rattle.quorum_sets.proofs.MastersLemmas.{voters_same, length-voters-suc, voters-zero, voters_none, has_master-voters_below}
+use Rattle.protocol_rules.specs.Words.{greatest_to}
+
+pub greatest_to-le : (p : ℕ → Bool) (m : ℕ) → greatest_to p m ≤ m
+unfolding greatest_to
+greatest_to-le p zero = omega arith
+greatest_to-le p (suc m) = at (p (suc m)) (greatest_to-le p m)
+  where
+    at : (b : Bool) → greatest_to p m ≤ m → cond b (suc m) (greatest_to p m) ≤ suc m
+    at true less = omega arith
+    at false less = omega arith
+
+-- tests that agree
+pub greatest_to-same : (p q : ℕ → Bool) (m : ℕ) → ((v : ℕ) → 1 ≤ v → v ≤ m → p v ≡ q v) → greatest_to p m ≡ greatest_to q m
+unfolding greatest_to
+greatest_to-same p q zero same = refl
+greatest_to-same p q (suc m) same =
+    let less : greatest_to p m ≡ greatest_to q m = greatest_to-same p q m (λ v least most. same v least (omega arith)) in
+    ap (λ b. cond b (suc m) (greatest_to p m)) (same (suc m) (omega arith) (omega arith)) ∙ ap (λ k. cond (q (suc m)) (suc m) k) less
+
+-- one number more passes
+pub greatest_to-raised : (p q : ℕ → Bool) (w m : ℕ) → w ≤ m → q w ≡ true → ((v : ℕ) → (v ≡ w → ⊥) → 1 ≤ v → v ≤ m → p v ≡ q v) → greatest_to q m ≡ max (greatest_to p m) w
+unfolding greatest_to
+greatest_to-raised p q w zero most passes same = omega arith
+greatest_to-raised p q w (suc m) most passes same =
+    by_place (cases_eq w (suc m)) (λ (ne : w ≡ suc m → ⊥). greatest_to-raised p q w m (omega arith) passes (λ v other least less. same v other least (omega arith)))
+  where
+    low : greatest_to p (suc m) ≤ suc m
+    low = greatest_to-le p (suc m)
+
+    at : (b : Bool) → greatest_to q m ≡ max (greatest_to p m) w → cond b (suc m) (greatest_to q m) ≡ max (cond b (suc m) (greatest_to p m)) w
+    at true below = omega arith
+    at false below = below
+
+    by_place : (w ≡ suc m) ⊎ (w ≡ suc m → ⊥) → ((w ≡ suc m → ⊥) → greatest_to q m ≡ max (greatest_to p m) w) → greatest_to q (suc m) ≡ max (greatest_to p (suc m)) w
+    by_place (inl e) below =
+        let top : greatest_to q (suc m) ≡ suc m = cond-true (q (suc m)) (suc m) (greatest_to q m) (ap q (sym e) ∙ passes) in
+        let bound : greatest_to p (suc m) ≤ suc m = low in
+        omega arith
+    by_place (inr ne) below =
+        at (q (suc m)) (below ne) ∙ ap (λ b. max (cond b (suc m) (greatest_to p m)) w) (sym (same (suc m) (λ (e : suc m ≡ w). ne (sym e)) (omega arith) (omega arith)))
+
+-- quorums of tests that agree
+pub quorum-same : (n q : ℕ) (s t : ℕ → Bool) → ((j : ℕ) → j < n → s j ≡ t j) → has_quorum n q s ≡ has_quorum n q t
+unfolding has_quorum
+quorum-same n q s t same = ap (λ (xs : List ℕ). nat_le q (length xs)) (voters_same s t n same)
+
+decided : (r : Bool) (a b : ℕ) → IsTrue r ↔ (a ≤ b) → r ≡ nat_le a b
+decided true a b h = sym (le-leb a b (h.0 refl))
+decided false a b h = at (nat_le a b) refl
+  where
+    at : (t : Bool) → nat_le a b ≡ t → false ≡ t
+    at true e = h.1 (leb-true a b e)
+    at false e = refl
+
+-- what a set of voters answers
+pub quorum-is : (n q : ℕ) (masters : List ℕ) (r : Bool) → IsTrue r ↔ (q ≤ length (voters (has_master masters) n)) → r ≡ has_quorum n q (has_master masters)
+unfolding has_quorum
+quorum-is n q masters r h = decided r q (length (voters (has_master masters) n)) h
+
+fewer : (s t : ℕ → Bool) (n : ℕ) → ((j : ℕ) → j < n → s j ≡ true → t j ≡ true) → length (voters s n) ≤ length (voters t n)
+fewer s t zero more = rw (voters-zero s, voters-zero t) (omega arith)
+fewer s t (suc n) more =
+    let less : length (voters s n) ≤ length (voters t n) = fewer s t n (λ j lt. more j (omega arith)) in
+    rw (length-voters-suc s n, length-voters-suc t n) (at (s n) (t n) (more n (omega arith)) less)
+  where
+    at : (a b : Bool) → (a ≡ true → b ≡ true) → length (voters s n) ≤ length (voters t n) → length (voters s n) + cond a 1 0 ≤ length (voters t n) + cond b 1 0
+    at true true h less = omega arith
+    at true false h less = absurd (let e : false ≡ true = h refl in cc)
+    at false true h less = omega arith
+    at false false h less = omega arith
+
+-- where a quorum fails with more votes, it failed before
+pub quorum-fewer : (n q : ℕ) (s t : ℕ → Bool) → ((j : ℕ) → j < n → s j ≡ true → t j ≡ true) → has_quorum n q t ≡ false → has_quorum n q s ≡ false
+unfolding has_quorum
+quorum-fewer n q s t more fails = at (nat_le q (length (voters s n))) refl
+  where
+    at : (b : Bool) → nat_le q (length (voters s n)) ≡ b → b ≡ false
+    at false e = refl
+    at true e =
+        let enough : q ≤ length (voters s n) = leb-true q (length (voters s n)) e in
+        let less : length (voters s n) ≤ length (voters t n) = fewer s t n more in
+        let holds : nat_le q (length (voters t n)) ≡ true = le-leb q (length (voters t n)) (omega arith) in
+        sym holds ∙ fails
+
+-- a set with one master more
+pub has_with_master : (masters : List ℕ) (m j : ℕ) → j < 14 → has_master (with_master masters m) j ≡ (nat_eq j m || has_master masters j)
+has_with_master masters m j lt = has_master-voters_below (λ x. nat_eq x m || has_master masters x) 14 j lt
+
+-- no group has more than 14 masters
+pub masters_few : (sizes : Sizes) → sizes.n ≤ 14
+masters_few sizes = few sizes.f sizes.k sizes.n sizes.group.at_most_three_intruded sizes.group.at_most_two_away sizes.all
+  where
+    few : (f k n : ℕ) → f ≤ 3 → k ≤ 2 → n ≡ 3 * f + 2 * k + 1 → n ≤ 14
+    few f k n most away e = omega arith
+
+-- nobody is no quorum
+pub quorum-none : (n q : ℕ) → 1 ≤ q → has_quorum n q (has_master []) ≡ false
+unfolding has_quorum
+quorum-none n q least = ap (λ (xs : List ℕ). nat_le q (length xs)) (voters_none n) ∙ above q least
+  where
+    above : (q : ℕ) → 1 ≤ q → nat_le q 0 ≡ false
+    above q h = by (nat_le q 0) refl
+      where
+        by : (b : Bool) → nat_le q 0 ≡ b → b ≡ false
+        by true e = let low : q ≤ 0 = leb-true q 0 e in absurd (omega arith)
+        by false e = refl
+
+pub quorum_some : (sizes : Sizes) → 1 ≤ sizes.q
+quorum_some sizes = some sizes.f sizes.k sizes.q sizes.quorum
+  where
+    some : (f k q : ℕ) → q ≡ 2 * f + k + 1 → 1 ≤ q
+    some f k q e = omega arith
