@@ -5,3 +5,5 @@ pub mod Told
 pub mod Words
 pub mod Taken
 pub mod Masters
+pub mod Start
+pub mod Rising

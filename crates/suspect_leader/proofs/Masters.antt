@@ -3,6 +3,7 @@ use Rattle.std.proofs.Common.{◌≡◌, ℕ, zero, suc, ◌+◌, ◌-◌, ◌*�
 use Rattle.std.specs.List.{filter_map, cons_option, slice_index_or}
 use Rattle.std.specs.Option.{option_to_list, option_map, unwrap_or}
 use Rattle.std.specs.Prelude.{slice_index}
+use Rattle.std.proofs.lemmas.Bool.{le-leb, lt-leb}
 use Rattle.std.proofs.lemmas.List.{map-append, length-map, length-append}
 use Rattle.std.proofs.lemmas.List.Elements.{filter_map-append}
 use Rattle.quorum_sets.specs.Masters.{numbers_below}
@@ -13,7 +14,7 @@ use Rattle.message_types.specs.declared.body.Body.{Body}
 use Rattle.protocol_rules.specs.Words.{in_order, greatest_of, first_of_list, best_by}
 use Rattle.protocol_rules.specs.Group.{Group}
 use Rattle.protocol_rules.specs.Measures.{Told, report_in, bound_in, round_trip_in, turnaround, acceptable, round_trips, own_bound}
-use Rattle.suspect_leader.specs.Kept.{Kept, IsMeasureOf, told_at, figure_of, figure_at}
+use Rattle.suspect_leader.specs.Kept.{Kept, IsMeasureOf, told_at, figure_of, figure_at, turnaround_kept, acceptable_kept, figures_kept, bound_kept}
 use Rattle.suspect_leader.proofs.Words.{one_told, later_trip}
 use Rattle.suspect_leader.proofs.Ranks.{length_in_order}
 
@@ -89,7 +90,7 @@ pub ranked_some : (f : ℕ → Option ℕ) (n : ℕ) → length (in_order (filte
 ranked_some f n = omega (arith, length_in_order (filter_map f (numbers_below n)), filter_map_few f n)
 
 pub turnaround_is : (g : Group) (me : ℕ) (kept : Kept) (told : List Told) (known : List (Signed Body)) (said : List Body) (v : ℕ) → IsMeasureOf g me kept told known said
-    → slice_index (in_order (map (λ j. unwrap_or (told_at kept.reports v j) 0) (numbers_below kept.group.n))) kept.group.f ≡ turnaround g known v
+    → turnaround_kept kept v ≡ turnaround g known v
 unfolding turnaround
 turnaround_is g me kept told known said v is =
     ap (λ n. slice_index (in_order (map (λ j. unwrap_or (told_at kept.reports v j) 0) (numbers_below n))) kept.group.f) is.masters
@@ -97,7 +98,7 @@ turnaround_is g me kept told known said v is =
     ∙ ap (λ xs. slice_index (in_order xs) g.f) (map_below (λ j. unwrap_or (told_at kept.reports v j) 0) (λ j. greatest_of (filter_map (report_in v j) known)) g.n (λ j lt. is.reports v j lt))
 
 pub acceptable_is : (g : Group) (me : ℕ) (kept : Kept) (told : List Told) (known : List (Signed Body)) (said : List Body) (v : ℕ) → IsMeasureOf g me kept told known said
-    → slice_index (reverse (in_order (map (λ j. unwrap_or (told_at kept.bounds v j) 16) (numbers_below kept.group.n)))) kept.group.f ≡ acceptable g known v
+    → acceptable_kept kept v ≡ acceptable g known v
 unfolding acceptable
 acceptable_is g me kept told known said v is =
     ap (λ n. slice_index (reverse (in_order (map (λ j. unwrap_or (told_at kept.bounds v j) 16) (numbers_below n)))) kept.group.f) is.masters
@@ -137,14 +138,27 @@ round_trips_are g me kept told known said is =
     (λ j lt. ap (λ i. cond (nat_eq j i) None (option_map figure_of (slice_index_or kept.trips j None))) is.own ∙ ap (λ o. cond (nat_eq j me) None (option_map figure_of o)) (is.trips j lt) ∙ cond_not (nat_eq j me) (option_map figure_of (best_by later_trip (filter_map (round_trip_in me j) known))))
     ∙ sym (figures_are (λ m. best_by later_trip (filter_map (round_trip_in me m) known)) (λ m. not (nat_eq m me)) (numbers_below g.n))
 
-abbrev pub bound_of : Kept → Option ℕ
-bound_of kept =
-    cond (nat_le (kept.group.q - 1) (length (filter_map (figure_at kept) (numbers_below kept.group.n))))
-    (Some (slice_index (reverse (in_order (filter_map (figure_at kept) (numbers_below kept.group.n)))) kept.group.f)) None
-
-pub own_bound_is : (g : Group) (me : ℕ) (kept : Kept) (told : List Told) (known : List (Signed Body)) (said : List Body) → IsMeasureOf g me kept told known said → bound_of kept ≡ own_bound g me known
+pub own_bound_is : (g : Group) (me : ℕ) (kept : Kept) (told : List Told) (known : List (Signed Body)) (said : List Body) → IsMeasureOf g me kept told known said → bound_kept kept ≡ own_bound g me known
 unfolding own_bound
 own_bound_is g me kept told known said is =
     ap (λ xs. cond (nat_le (kept.group.q - 1) (length xs)) (Some (slice_index (reverse (in_order xs)) kept.group.f)) None) (round_trips_are g me kept told known said is)
     ∙ ap (λ q. cond (nat_le (q - 1) (length (round_trips g me known))) (Some (slice_index (reverse (in_order (round_trips g me known))) kept.group.f)) None) is.quorum
     ∙ ap (λ f. cond (nat_le (g.q - 1) (length (round_trips g me known))) (Some (slice_index (reverse (in_order (round_trips g me known))) f)) None) is.intruded
+
+pub quorum_size : (sizes : Sizes) → sizes.f + 2 ≤ sizes.q
+quorum_size sizes = some sizes.f sizes.k sizes.q sizes.group.some_may_be_intruded sizes.quorum
+  where
+    some : (f k q : ℕ) → 1 ≤ f → q ≡ 2 * f + k + 1 → f + 2 ≤ q
+    some f k q least e = omega arith
+
+-- the own bound by how many figures there are
+pub bound_none : (kept : Kept) (ranked : List ℕ) → ranked ≡ in_order (figures_kept kept) → length ranked + 1 < kept.group.q → None ≡ bound_kept kept
+bound_none kept ranked e few =
+    let count : length ranked ≡ length (figures_kept kept) = ap length e ∙ length_in_order (figures_kept kept) in
+    sym (ap (λ b. cond b (Some (slice_index (reverse (in_order (figures_kept kept))) kept.group.f)) None) (lt-leb (kept.group.q - 1) (length (figures_kept kept)) (omega arith)))
+
+pub bound_some : (kept : Kept) (ranked : List ℕ) (x : ℕ) → ranked ≡ in_order (figures_kept kept) → kept.group.q ≤ length ranked + 1 → x ≡ slice_index (reverse ranked) kept.group.f → Some x ≡ bound_kept kept
+bound_some kept ranked x e enough is =
+    let count : length ranked ≡ length (figures_kept kept) = ap length e ∙ length_in_order (figures_kept kept) in
+    ap Some (is ∙ ap (λ l. slice_index (reverse l) kept.group.f) e)
+    ∙ sym (ap (λ b. cond b (Some (slice_index (reverse (in_order (figures_kept kept))) kept.group.f)) None) (le-leb (kept.group.q - 1) (length (figures_kept kept)) (omega arith)))

@@ -1,6 +1,9 @@
 -- The sets of sayings as lists.
-use Rattle.std.proofs.Common.{◌≡◌, Bool, true, false, cond, ◌&&◌, ◌||◌, not, List, [], ◌∷◌, Option, Some, None, refl, sym, ◌∙◌, ap}
-use Rattle.std.specs.List.{list_any}
+use Rattle.std.proofs.Common.{◌≡◌, ℕ, ◌+◌, ◌<◌, ◌≤◌, ◌++◌, ◌-◌, suc, length, take, drop, arith, Bool, true, false, cond, ◌&&◌, ◌||◌, not, List, [], ◌∷◌, Option, Some, None, refl, sym, ◌∙◌, ap}
+use Rattle.std.specs.List.{list_any, slice_index_or}
+use Rattle.std.proofs.lemmas.List.{take_more}
+use Rattle.std.proofs.Math.Seq.{take-length}
+use Rattle.std.proofs.lemmas.List.Folds.{list_any-append}
 use Rattle.std.specs.Ordering.{is_eq, match_ordering}
 use Rattle.std.specs.declared.cmp.Ordering.{Ordering}
 use Rattle.std.specs.declared.cmp.Ordering.TheVariants.{Less, Equal, Greater}
@@ -89,3 +92,48 @@ settled_one old new x s word e u = among_removed old new x s u ∙ cond_false (s
 
 pub settled_none : (keys : List Saying) (s : Saying) (word : Body) → saying_in word ≡ None → is_among keys s ≡ (not (says s word) && is_among keys s)
 settled_none keys s word e = sym (ap (λ b. not b && is_among keys s) (says_none s word e))
+
+or_front : (a b d : Bool) → (b || (a || d)) ≡ ((a || b) || d)
+or_front true true d = refl
+or_front true false d = refl
+or_front false true d = refl
+or_front false false d = refl
+
+-- one body counted, and then the rest
+pub counted_one : (old put : BTreeSet Saying) (new : List Saying) (x s : Saying) (word : Body) (rest : List Body) → saying_in word ≡ Some x → Updates order old put x true
+    → is_among new s ≡ (list_any (says s) rest || is_among put.keys s) → is_among new s ≡ (list_any (says s) (word ∷ rest) || is_among old.keys s)
+counted_one old put new x s word rest e u more =
+    more ∙ ap (λ b. list_any (says s) rest || b) (among_put old put x s u) ∙ or_front (same_saying x s) (list_any (says s) rest) (is_among old.keys s)
+    ∙ ap (λ b. (b || list_any (says s) rest) || is_among old.keys s) (sym (says_one s x word e))
+
+pub counted_none : (old new : List Saying) (s : Saying) (word : Body) (rest : List Body) → saying_in word ≡ None
+    → is_among new s ≡ (list_any (says s) rest || is_among old s) → is_among new s ≡ (list_any (says s) (word ∷ rest) || is_among old s)
+counted_none old new s word rest e more = more ∙ ap (λ b. (b || list_any (says s) rest) || is_among old s) (sym (says_none s word e))
+
+-- taken back after want of memory
+pub taken_back : (old : BTreeSet Saying) (put after : List Saying) (x : Saying) (fresh : Bool) → put ≡ insert_key order old.keys x → fresh ≡ not (list_any (is_at (order x)) old.keys) → fresh ≡ true → after ≡ remove_key (is_at (order x)) put → after ≡ old.keys
+taken_back old put after x fresh one is new gone =
+    gone ∙ ap (remove_key (is_at (order x))) one ∙ taken_out old.keys x (said_is old x (list_any (is_at (order x)) old.keys) refl ∙ not_true (list_any (is_at (order x)) old.keys) (sym is ∙ new))
+  where
+    not_true : (b : Bool) → not b ≡ true → b ≡ false
+    not_true true e = absurd (true≢false (sym e))
+    not_true false e = refl
+
+pub settled_more : (s : Saying) (bodies : List Body) (i : ℕ) (word d : Body) (before now : List Saying) (first : List Saying) → i < length bodies → word ≡ slice_index_or bodies i d
+    → is_among now s ≡ (not (says s word) && is_among before s) → is_among before s ≡ (not (list_any (says s) (take i bodies)) && is_among first s)
+    → is_among now s ≡ (not (list_any (says s) (take (i + 1) bodies)) && is_among first s)
+settled_more s bodies i word d before now first lt at step was =
+    step ∙ ap (λ b. not (says s word) && b) was ∙ both (says s word) (list_any (says s) (take i bodies)) (is_among first s)
+    ∙ ap (λ b. not b && is_among first s) (sym (ap (list_any (says s)) (take_more bodies i d lt ∙ ap (λ w. take i bodies ++ w ∷ []) (sym at)) ∙ list_any-append (says s) (take i bodies) (word ∷ [])))
+  where
+    both : (a b f : Bool) → (not a && (not b && f)) ≡ (not (b || (a || false)) && f)
+    both true true f = refl
+    both true false f = refl
+    both false true f = refl
+    both false false f = refl
+
+pub opened : (bodies : List Body) (first : Body) → 1 ≤ length bodies → first ≡ slice_index_or bodies 0 first → bodies ≡ first ∷ take (length bodies - 1) (drop 1 bodies)
+opened [] first some at = absurd (omega arith)
+opened (word ∷ rest) first some at =
+    let less : suc (length rest) - 1 ≡ length rest = omega arith in
+    ap (λ w. w ∷ rest) (sym at) ∙ ap (λ l. first ∷ l) (sym (ap (λ n. take n rest) less ∙ take-length rest))

@@ -15,6 +15,7 @@ use Rattle.message_types.specs.declared.body.Body.TheVariants as body
 use Rattle.protocol_rules.specs.Words.{greatest_of, first_of_list, best_by, or_else}
 use Rattle.protocol_rules.specs.Group.{Group}
 use Rattle.protocol_rules.specs.Measures.{Told, report_in, bound_in, round_trip_in, ping_in, pong_in, pongs_said, round_trips_said}
+use Rattle.suspect_leader.specs.declared.heard.Heard.TheVariants as heard
 use Rattle.suspect_leader.specs.declared.saying.Saying.{Saying}
 use Rattle.suspect_leader.specs.declared.saying.Saying.TheVariants.{Ping, Pong, RoundTrip, Report, Bound, Vote}
 use Rattle.suspect_leader.specs.Sayings.{heard_in, is_measure, says, same_saying, is_among, is_pending}
@@ -361,7 +362,7 @@ took_pong g me kept told known said signer b sig pending within mine more is = r
         at true e =
             let in_group : nat_lt to g.n ≡ true = ap (λ m. nat_lt m g.n) (sym (eqb-true signer to e)) ∙ within in
             let one : filter_map (pong_in me to) (known ++ f ∷ []) ≡ filter_map (pong_in me to) known ++ b.number ∷ [] =
-                told_after (pong_in me to) known f (Some b.number) (ap (λ t. cond (t && nat_eq b.to me) (Some b.number) None) e ∙ ap (λ t. cond t (Some b.number) None) mine) in
+            told_after (pong_in me to) known f (Some b.number) (ap (λ t. cond (t && nat_eq b.to me) (Some b.number) None) e ∙ ap (λ t. cond t (Some b.number) None) mine) in
             ap (λ t. nat_eq b.number number && not (list_any (round_trips_said to number) said) || (t && list_any (nat_eq number) (filter_map (pong_in me to) known) && not (list_any (round_trips_said to number) said))) in_group
             ∙ ap (λ t. t && not (list_any (round_trips_said to number) said) || (list_any (nat_eq number) (filter_map (pong_in me to) known) && not (list_any (round_trips_said to number) said))) (eq_swap b.number number)
             ∙ sym (one_asked (list_any (nat_eq number) (filter_map (pong_in me to) known)) (nat_eq number b.number) (not (list_any (round_trips_said to number) said)))
@@ -384,3 +385,24 @@ trip_set trips signer j now b within is = at (nat_eq signer j) refl
     at : (c : Bool) → nat_eq signer j ≡ c → get_or (set trips signer (Some now)) j None ≡ cond c (Some (later_of (get_or trips j None) b)) (get_or trips j None)
     at true e = ap (λ k. get_or (set trips signer (Some now)) k None) (sym (eqb-true signer j e)) ∙ get_or-set_same trips signer (Some now) None within ∙ ap Some (is ∙ ap (λ k. later_of (get_or trips k None) b) (eqb-true signer j e))
     at false e = get_or-set_other trips signer j (Some now) None (λ h. eqb-false signer j e (sym h))
+
+-- what a body is that tells one of the measures
+pub heard_ping : (word : Body) (b : PingWord) → heard_in word ≡ Some (heard.Ping b) → word ≡ body.Ping b
+heard_ping word b = elim word as (λ w. heard_in w ≡ Some (heard.Ping b) → w ≡ body.Ping b) [ body.Ping x ↦ λ e. cc | body.Pong x ↦ λ e. absurd (cc) | body.Rtt x ↦ λ e. absurd (cc) | body.TatReport x ↦ λ e. absurd (cc) | body.TatBound x ↦ λ e. absurd (cc) | _ ↦ λ e. absurd (cc) ]
+
+pub heard_pong : (word : Body) (b : PongWord) → heard_in word ≡ Some (heard.Pong b) → word ≡ body.Pong b
+heard_pong word b = elim word as (λ w. heard_in w ≡ Some (heard.Pong b) → w ≡ body.Pong b) [ body.Pong x ↦ λ e. cc | body.Ping x ↦ λ e. absurd (cc) | body.Rtt x ↦ λ e. absurd (cc) | body.TatReport x ↦ λ e. absurd (cc) | body.TatBound x ↦ λ e. absurd (cc) | _ ↦ λ e. absurd (cc) ]
+
+pub heard_trip : (word : Body) (b : Rtt) → heard_in word ≡ Some (heard.RoundTrip b) → word ≡ body.Rtt b
+heard_trip word b = elim word as (λ w. heard_in w ≡ Some (heard.RoundTrip b) → w ≡ body.Rtt b) [ body.Rtt x ↦ λ e. cc | body.Pong x ↦ λ e. absurd (cc) | body.Ping x ↦ λ e. absurd (cc) | body.TatReport x ↦ λ e. absurd (cc) | body.TatBound x ↦ λ e. absurd (cc) | _ ↦ λ e. absurd (cc) ]
+
+pub heard_report : (word : Body) (b : TatReport) → heard_in word ≡ Some (heard.Report b) → word ≡ body.TatReport b
+heard_report word b = elim word as (λ w. heard_in w ≡ Some (heard.Report b) → w ≡ body.TatReport b) [ body.TatReport x ↦ λ e. cc | body.Pong x ↦ λ e. absurd (cc) | body.Rtt x ↦ λ e. absurd (cc) | body.Ping x ↦ λ e. absurd (cc) | body.TatBound x ↦ λ e. absurd (cc) | _ ↦ λ e. absurd (cc) ]
+
+pub heard_bound : (word : Body) (b : TatBound) → heard_in word ≡ Some (heard.Bound b) → word ≡ body.TatBound b
+heard_bound word b = elim word as (λ w. heard_in w ≡ Some (heard.Bound b) → w ≡ body.TatBound b) [ body.TatBound x ↦ λ e. cc | body.Pong x ↦ λ e. absurd (cc) | body.Rtt x ↦ λ e. absurd (cc) | body.TatReport x ↦ λ e. absurd (cc) | body.Ping x ↦ λ e. absurd (cc) | _ ↦ λ e. absurd (cc) ]
+
+pub at_body : {g : Group} {me : ℕ} {kept : Kept} {told : List Told} {said : List Body} (known : List (Signed Body)) (signer : ℕ) (sig : List ℕ) (word other : Body) → word ≡ other
+    → IsMeasureOf g me kept told (known ++ record { signer = signer; body = other; sig = sig } ∷ []) said
+    → IsMeasureOf g me kept told (known ++ record { signer = signer; body = word; sig = sig } ∷ []) said
+at_body {g} {me} {kept} {told} {said} known signer sig word other e is = subst (λ w. IsMeasureOf g me kept told (known ++ record { signer = signer; body = w; sig = sig } ∷ []) said) (sym e) is

@@ -5,10 +5,9 @@ ghost use Rattle.message_types.specs.declared.signed.Signed.{Signed as SignedWor
 ghost use Rattle.message_types.specs.declared.body.Body.{Body as Word};
 ghost use Rattle.message_types.specs.declared.body.Body.TheVariants as body;
 ghost use Rattle.protocol_rules.specs.Group.{Group, group_of};
-ghost use Rattle.protocol_rules.specs.Measures.{Told, ticks_of, waited, pings_due, tat_reports_due, tat_bounds_due, suspects_due};
-ghost use Rattle.protocol_rules.specs.Measures as rules;
+ghost use Rattle.protocol_rules.specs.Measures.{Told, turnaround, acceptable, pings_due};
 ghost use Rattle.suspect_leader.specs.Sayings.{is_among, ticks_of_round_trip};
-ghost use Rattle.suspect_leader.specs.Kept.{IsMeasureOf, waited_in, answer_to, measures_due, figure_at, later_of, ticks_in};
+ghost use Rattle.suspect_leader.specs.Kept.{IsMeasureOf, waited_in, answer_to, measures_due, figure_at, later_of, ticks_in, turnaround_kept, acceptable_kept, bound_kept, report_due_kept, bound_due_kept, vote_due_kept, due_kept};
 
 use crate::answers::{count, owe, push_if, settle};
 use crate::heard::{Heard, heard_of};
@@ -138,25 +137,17 @@ impl Measure {
     /// How long the leader of view `v` takes, in ticks: the `f + 1`st lowest of the masters' greatest reports.
     pub fn leader_turnaround(&self, v: u64) -> u64
         ensures { (g : Group) (me : ℕ) (told : List Told) (known : List (SignedWord Word)) (said : List Word)
-            → IsMeasureOf g me self.now told known said → result ≡ rules.turnaround g known v }
+            → IsMeasureOf g me self.now told known said → result ≡ turnaround g known v }
     {
-        let mut reports = Ranked::new();
-        for master in 0..self.sizes.n {
-            reports.put(told(&self.reports, v, master).unwrap_or(0));
-        }
-        reports.lowest(self.sizes.f as usize)
+        self.turnaround_told(v)
     }
 
     /// How long it may take, in ticks: the `f + 1`st highest of the masters' first bounds.
     pub fn acceptable(&self, v: u64) -> u64
         ensures { (g : Group) (me : ℕ) (told : List Told) (known : List (SignedWord Word)) (said : List Word)
-            → IsMeasureOf g me self.now told known said → result ≡ rules.acceptable g known v }
+            → IsMeasureOf g me self.now told known said → result ≡ acceptable g known v }
     {
-        let mut bounds = Ranked::new();
-        for master in 0..self.sizes.n {
-            bounds.put(told(&self.bounds, v, master).unwrap_or(FIRST_BOUND));
-        }
-        bounds.highest(self.sizes.f as usize)
+        self.acceptable_told(v)
     }
 
     /// What to say at an event, in view `view`, once the event was told and its words were taken: a ping, the pongs
@@ -176,8 +167,7 @@ impl Measure {
     }
 
     fn listed(&self, view: u64, at_tick: bool) -> Result<Vec<Body>, Want>
-        ensures { IfOk result (λ bodies. (g : Group) (me : ℕ) (told : List Told) (known : List (SignedWord Word)) (said : List Word)
-            → IsMeasureOf g me self.now told known said → bodies.items ≡ measures_due g me told known said view at_tick) }
+        ensures { IfOk result (λ bodies. bodies.items ≡ due_kept self.now view at_tick) }
     {
         let mut bodies = Vec::new(self.alloc);
         push_if(&mut bodies, self.ping_due(at_tick))?;
@@ -186,6 +176,26 @@ impl Measure {
         push_if(&mut bodies, self.bound_due(view, at_tick))?;
         push_if(&mut bodies, self.vote_due(view, at_tick))?;
         Ok(bodies)
+    }
+
+    fn turnaround_told(&self, v: u64) -> u64
+        ensures { result ≡ turnaround_kept self.now v }
+    {
+        let mut reports = Ranked::new();
+        for master in 0..self.sizes.n {
+            reports.put(told(&self.reports, v, master).unwrap_or(0));
+        }
+        reports.lowest(self.sizes.f as usize)
+    }
+
+    fn acceptable_told(&self, v: u64) -> u64
+        ensures { result ≡ acceptable_kept self.now v }
+    {
+        let mut bounds = Ranked::new();
+        for master in 0..self.sizes.n {
+            bounds.put(told(&self.bounds, v, master).unwrap_or(FIRST_BOUND));
+        }
+        bounds.highest(self.sizes.f as usize)
     }
 
     fn waited_in(&self, view: u64) -> u64
@@ -269,31 +279,29 @@ impl Measure {
     {
         match *saying {
             Saying::Pong { to, number } => Some(Body::Pong(Pong { to, number })),
-            Saying::RoundTrip { to, number } => {
-                if self.said.contains(&Saying::Ping { number }) {
-                    Some(Body::Rtt(Rtt {
-                        to,
-                        number,
-                        ticks: ticks_since(self.ticks, number),
-                    }))
-                } else {
-                    None
-                }
+            Saying::RoundTrip { to, number } if self.has_said(Saying::Ping { number }) => {
+                Some(Body::Rtt(Rtt {
+                    to,
+                    number,
+                    ticks: ticks_since(self.ticks, number),
+                }))
             }
             _ => None,
         }
     }
 
+    fn has_said(&self, saying: Saying) -> bool
+        ensures { result ≡ is_among self.now.said saying }
+    {
+        self.said.contains(&saying)
+    }
+
     fn report_due(&self, view: u64, at_tick: bool) -> Option<Body>
-        ensures { (g : Group) (me : ℕ) (told : List Told) (known : List (SignedWord Word)) (said : List Word)
-            → IsMeasureOf g me self.now told known said → option_to_list result ≡ tat_reports_due said view (waited view told) at_tick }
+        ensures { option_to_list result ≡ report_due_kept self.now view at_tick }
     {
         let ticks = self.waited_in(view);
-        if at_tick
-            && 0 < ticks
-            && ticks % REPORT_STEP == 0
-            && !self.said.contains(&Saying::Report { v: view, ticks })
-        {
+        let is_new = !self.has_said(Saying::Report { v: view, ticks });
+        if at_tick && 0 < ticks && ticks % REPORT_STEP == 0 && is_new {
             Some(Body::TatReport(TatReport { v: view, ticks }))
         } else {
             None
@@ -301,25 +309,23 @@ impl Measure {
     }
 
     fn bound_due(&self, view: u64, at_tick: bool) -> Option<Body>
-        ensures { (g : Group) (me : ℕ) (told : List Told) (known : List (SignedWord Word)) (said : List Word)
-            → IsMeasureOf g me self.now told known said → option_to_list result ≡ tat_bounds_due g me known said view at_tick }
+        ensures { option_to_list result ≡ bound_due_kept self.now view at_tick }
     {
-        if !at_tick || self.said.contains(&Saying::Bound { v: view }) {
-            return None;
-        }
+        let is_new = !self.has_said(Saying::Bound { v: view });
         let ticks = self.own_bound()?;
-        Some(Body::TatBound(TatBound { v: view, ticks }))
+        if at_tick && is_new {
+            Some(Body::TatBound(TatBound { v: view, ticks }))
+        } else {
+            None
+        }
     }
 
     fn vote_due(&self, view: u64, at_tick: bool) -> Option<Body>
-        ensures { (g : Group) (me : ℕ) (told : List Told) (known : List (SignedWord Word)) (said : List Word)
-            → IsMeasureOf g me self.now told known said → option_to_list result ≡ suspects_due g known said view at_tick }
+        ensures { option_to_list result ≡ vote_due_kept self.now view at_tick }
     {
-        if at_tick
-            && view < MOST_VIEW
-            && self.acceptable(view) < self.leader_turnaround(view)
-            && !self.said.contains(&Saying::Vote { v: view })
-        {
+        let is_slow = self.acceptable_told(view) < self.turnaround_told(view);
+        let is_new = !self.has_said(Saying::Vote { v: view });
+        if at_tick && view < MOST_VIEW && is_slow && is_new {
             Some(Body::Suspect(Suspect { v: view }))
         } else {
             None
@@ -328,8 +334,7 @@ impl Measure {
 
     /// The master's own bound, once `q - 1` others have told it a round trip.
     fn own_bound(&self) -> Option<u64>
-        ensures { (g : Group) (me : ℕ) (told : List Told) (known : List (SignedWord Word)) (said : List Word)
-            → IsMeasureOf g me self.now told known said → result ≡ rules.own_bound g me known }
+        ensures { result ≡ bound_kept self.now }
     {
         let mut figures = Ranked::new();
         for master in 0..self.sizes.n {

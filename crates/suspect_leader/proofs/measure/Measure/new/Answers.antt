@@ -1,4 +1,7 @@
+use Rattle.std.proofs.Common.{refl}
+use Rattle.protocol_rules.specs.Group.{group_of}
+use Rattle.suspect_leader.proofs.Start.{start, no_trip_at}
 use Rattle.suspect_leader.proofs.measure.Measure.new.Goals as goal
 
 pub returns : goal.returns
-returns c = ?
+returns c = λ clients. start (group_of c.args.sizes clients) c.args.me _ refl refl refl refl refl refl ? ? (no_trip_at 14) ? ?

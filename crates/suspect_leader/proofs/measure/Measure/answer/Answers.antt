@@ -1,7 +1,0 @@
-use Rattle.suspect_leader.proofs.measure.Measure.answer.Goals as goal
-
-pub returns-then-contains : goal.returns-then-contains
-returns-then-contains c = ?
-
-pub returns-else-contains : goal.returns-else-contains
-returns-else-contains c = ?
