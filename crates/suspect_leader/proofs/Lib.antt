@@ -7,3 +7,5 @@ pub mod Taken
 pub mod Masters
 pub mod Start
 pub mod Rising
+pub mod Owed
+pub mod Due
