@@ -33,14 +33,18 @@ votes_are g me kept told known said v at_tick is =
     ∙ ap (λ x. cond (at_tick && nat_lt v 255 && nat_lt x (turnaround_kept kept v) && not (list_any (says (Vote v)) said)) (body.Suspect record { v = v } ∷ []) []) (acceptable_is g me kept told known said v is)
     ∙ ap (λ x. cond (at_tick && nat_lt v 255 && nat_lt (acceptable g known v) x && not (list_any (says (Vote v)) said)) (body.Suspect record { v = v } ∷ []) []) (turnaround_is g me kept told known said v is)
 
+joined : (a a' b p t r r' d d' v v' : List Body) → a ≡ a' → b ≡ p ++ t → r ≡ r' → d ≡ d' → v ≡ v' → a ++ b ++ r ++ d ++ v ≡ a' ++ p ++ t ++ r' ++ d' ++ v'
+joined a a' b p t r r' d d' v v' one two three four five =
+    ap (λ x. x ++ b ++ r ++ d ++ v) one ∙ ap (λ x. a' ++ x ++ r ++ d ++ v) two ∙ ap (λ x. a' ++ (p ++ t) ++ x ++ d ++ v) three ∙ ap (λ x. a' ++ (p ++ t) ++ r' ++ x ++ v) four ∙ ap (λ x. a' ++ (p ++ t) ++ r' ++ d' ++ x) five
+    ∙ ap (λ x. x ++ r' ++ d' ++ v') (sym (append_assoc a' p t))
+
 pub due_is : (g : Group) (me : ℕ) (kept : Kept) (told : List Told) (known : List (Signed Body)) (said : List Body) (v : ℕ) (at_tick : Bool) → Rising kept.pending → IsMeasureOf g me kept told known said → due_kept kept v at_tick ≡ measures_due g me told known said v at_tick
 due_is g me kept told known said v at_tick up is =
-    six (ap (λ t. pings_due t at_tick) is.ticks)
+    joined (pings_due kept.ticks at_tick) (pings_due (ticks_of told) at_tick) (filter_map (answer_to kept.ticks kept.said) kept.pending) (pongs_due g me known said) (round_trips_due g me known said (ticks_of told))
+    (report_due_kept kept v at_tick) (tat_reports_due said v (waited v told) at_tick) (bound_due_kept kept v at_tick) (tat_bounds_due g me known said v at_tick) (vote_due_kept kept v at_tick) (suspects_due g known said v at_tick)
+    (ap (λ t. pings_due t at_tick) is.ticks)
     (answers_are g me known said kept.ticks kept.pending kept.said up is.pending is.counted ∙ ap (λ t. pongs_due g me known said ++ round_trips_due g me known said t) is.ticks)
     (reports_are g me kept told known said v at_tick is) (bounds_are g me kept told known said v at_tick is) (votes_are g me kept told known said v at_tick is)
-  where
-    six : {a a' b p t r r' d d' s s' : List Body} → a ≡ a' → b ≡ p ++ t → r ≡ r' → d ≡ d' → s ≡ s' → a ++ b ++ r ++ d ++ s ≡ a' ++ p ++ t ++ r' ++ d' ++ s'
-    six {a} {a'} {b} {p} {t} {r} {r'} {d} {d'} {s} {s'} one two three four five = ?
 
 or_swap : (a b : Bool) → (a || b) ≡ (b || a)
 or_swap true true = refl
@@ -48,29 +52,22 @@ or_swap true false = refl
 or_swap false true = refl
 or_swap false false = refl
 
+trip_less : (l a n m : Bool) → (not m && (l && a && not n)) ≡ (l && a && not (n || m))
+trip_less false a n true = refl
+trip_less false a n false = refl
+trip_less true false n true = refl
+trip_less true false n false = refl
+trip_less true true true true = refl
+trip_less true true true false = refl
+trip_less true true false true = refl
+trip_less true true false false = refl
+
 owed_less : (l e a n m : Bool) → (not m && (l && e && a && not n)) ≡ (l && e && a && not (n || m))
-owed_less false e a n m = at m
-  where
-    at : (b : Bool) → (not b && false) ≡ false
-    at true = refl
-    at false = refl
-owed_less true false a n m = at m
-  where
-    at : (b : Bool) → (not b && false) ≡ false
-    at true = refl
-    at false = refl
-owed_less true true false n m = at m
-  where
-    at : (b : Bool) → (not b && false) ≡ false
-    at true = refl
-    at false = refl
-owed_less true true true true m = at m
-  where
-    at : (b : Bool) → (not b && false) ≡ false
-    at true = refl
-    at false = refl
-owed_less true true true false true = refl
-owed_less true true true false false = refl
+owed_less false e a n true = refl
+owed_less false e a n false = refl
+owed_less true false a n true = refl
+owed_less true false a n false = refl
+owed_less true true a n m = trip_less true a n m
 
 and_nothing : (b : Bool) → (not b && false) ≡ false
 and_nothing true = refl
@@ -82,7 +79,7 @@ still_owed g me known said bodies (Pong to number) =
     owed_less (nat_lt to g.n) (not (nat_eq to me)) (list_any (nat_eq number) (filter_map (ping_in to) known)) (list_any (pongs_said to number) said) (list_any (pongs_said to number) bodies)
     ∙ ap (λ b. nat_lt to g.n && not (nat_eq to me) && list_any (nat_eq number) (filter_map (ping_in to) known) && not b) (sym (list_any-append (pongs_said to number) said bodies))
 still_owed g me known said bodies (RoundTrip to number) =
-    owed_less (nat_lt to g.n) true (list_any (nat_eq number) (filter_map (pong_in me to) known)) (list_any (round_trips_said to number) said) (list_any (round_trips_said to number) bodies)
+    trip_less (nat_lt to g.n) (list_any (nat_eq number) (filter_map (pong_in me to) known)) (list_any (round_trips_said to number) said) (list_any (round_trips_said to number) bodies)
     ∙ ap (λ b. nat_lt to g.n && list_any (nat_eq number) (filter_map (pong_in me to) known) && not b) (sym (list_any-append (round_trips_said to number) said bodies))
 still_owed g me known said bodies (Ping number) = and_nothing (list_any (says (Ping number)) bodies)
 still_owed g me known said bodies (Report v ticks) = and_nothing (list_any (says (Report v ticks)) bodies)

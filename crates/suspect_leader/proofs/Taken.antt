@@ -1,6 +1,6 @@
 -- What a word known changes.
 use Rattle.std.proofs.Common.{◌≡◌, ℕ, ◌<◌, ◌≤◌, Bool, true, false, cond, ◌&&◌, ◌||◌, not, List, [], ◌∷◌, ◌++◌, Option, Some, None, is_some, filter, max, nat_eq, nat_lt, length, get_or, set, get_or-set_same, get_or-set_other, refl, sym, ◌∙◌, ap, subst, arith}
-use Rattle.std.specs.List.{list_any, filter_map, slice_index_or}
+use Rattle.std.specs.List.{list_any, filter_map, cons_option, slice_index_or}
 use Rattle.std.specs.Option.{option_to_list, unwrap_or}
 use Rattle.std.proofs.lemmas.Bool.{eqb-true, eqb-false, eq-eqb, ltb-true, lt-ltb, true≢false}
 use Rattle.std.proofs.lemmas.List.Folds.{list_any-append}
@@ -406,3 +406,72 @@ pub at_body : {g : Group} {me : ℕ} {kept : Kept} {told : List Told} {said : Li
     → IsMeasureOf g me kept told (known ++ record { signer = signer; body = other; sig = sig } ∷ []) said
     → IsMeasureOf g me kept told (known ++ record { signer = signer; body = word; sig = sig } ∷ []) said
 at_body {g} {me} {kept} {told} {said} known signer sig word other e is = subst (λ w. IsMeasureOf g me kept told (known ++ record { signer = signer; body = w; sig = sig } ∷ []) said) (sym e) is
+
+-- only measures count
+is_none : {Y : Type 0} (p : Signed Body → Option Y) → ((f : Signed Body) → is_measure f ≡ false → p f ≡ None) → (known : List (Signed Body)) → filter_map p (filter is_measure known) ≡ filter_map p known
+is_none p none [] = refl
+is_none {Y} p none (f ∷ rest) = at (is_measure f) refl (is_none p none rest)
+  where
+    at : (b : Bool) → is_measure f ≡ b → filter_map p (filter is_measure rest) ≡ filter_map p rest → filter_map p (cond (is_measure f) (f ∷ filter is_measure rest) (filter is_measure rest)) ≡ cons_option (p f) (filter_map p rest)
+    at true e more = ap (λ b. filter_map p (cond b (f ∷ filter is_measure rest) (filter is_measure rest))) e ∙ ap (cons_option (p f)) more
+    at false e more = ap (λ b. filter_map p (cond b (f ∷ filter is_measure rest) (filter is_measure rest))) e ∙ more ∙ ap (λ o. cons_option o (filter_map p rest)) (sym (none f e))
+
+other_kind : (word : Body) (signer : ℕ) (sig : List ℕ) → is_measure record { signer = signer; body = word; sig = sig } ≡ false → heard_in word ≡ None
+other_kind word signer sig = elim word as (λ w. is_measure record { signer = signer; body = w; sig = sig } ≡ false → heard_in w ≡ None) [ body.Ping b ↦ λ e. absurd (cc) | body.Pong b ↦ λ e. absurd (cc) | body.Rtt b ↦ λ e. absurd (cc) | body.TatReport b ↦ λ e. absurd (cc) | body.TatBound b ↦ λ e. absurd (cc) | _ ↦ λ e. refl ]
+
+silent : (me master : ℕ) (f : Signed Body) → is_measure f ≡ false → IsSilent me master f
+silent me master f e = kind_silent me master f (other_kind f.body f.signer f.sig e)
+
+pub only_measures : (g : Group) (me : ℕ) (kept : Kept) (told : List Told) (known : List (Signed Body)) (said : List Body) → IsMeasureOf g me kept told (filter is_measure known) said → IsMeasureOf g me kept told known said
+only_measures g me kept told known said is = record {
+  masters = is.masters;
+  intruded = is.intruded;
+  quorum = is.quorum;
+  own = is.own;
+  ticks = is.ticks;
+  waiting = is.waiting;
+  reports = λ v master lt. is.reports v master lt ∙ ap greatest_of (is_none (report_in v master) (λ f e. (silent me master f e).report v) known);
+  bounds = λ v master lt. is.bounds v master lt ∙ ap first_of_list (is_none (bound_in v master) (λ f e. (silent me master f e).bound v) known);
+  trips = λ master lt. is.trips master lt ∙ ap (best_by later_trip) (is_none (round_trip_in me master) (λ f e. (silent me master f e).trip) known);
+  pending = λ s. is.pending s ∙ pending_of s;
+  counted = is.counted;
+}
+  where
+    no_ping : (to : ℕ) (f : Signed Body) → is_measure f ≡ false → ping_in to f ≡ None
+    no_ping to f e = ping_by f.body f.signer f.sig e
+      where
+        ping_by : (word : Body) (signer : ℕ) (sig : List ℕ) → is_measure record { signer = signer; body = word; sig = sig } ≡ false → ping_in to record { signer = signer; body = word; sig = sig } ≡ None
+        ping_by word signer sig = elim word as (λ w. is_measure record { signer = signer; body = w; sig = sig } ≡ false → ping_in to record { signer = signer; body = w; sig = sig } ≡ None) [ body.Ping b ↦ λ e. absurd (cc) | _ ↦ λ e. refl ]
+
+    pending_of : (s : Saying) → is_pending g me (filter is_measure known) said s ≡ is_pending g me known said s
+    pending_of (Pong to number) = ap (λ l. nat_lt to g.n && not (nat_eq to me) && list_any (nat_eq number) l && not (list_any (pongs_said to number) said)) (is_none (ping_in to) (no_ping to) known)
+    pending_of (RoundTrip to number) = ap (λ l. nat_lt to g.n && list_any (nat_eq number) l && not (list_any (round_trips_said to number) said)) (is_none (pong_in me to) (λ f e. (silent me to f e).pong) known)
+    pending_of (Ping number) = refl
+    pending_of (Report v ticks) = refl
+    pending_of (Bound v) = refl
+    pending_of (Vote v) = refl
+
+-- only these kinds count of what was said
+pub only_own_kinds : (g : Group) (me : ℕ) (kept : Kept) (told : List Told) (known : List (Signed Body)) (said other : List Body) → ((s : Saying) → list_any (says s) other ≡ list_any (says s) said)
+    → IsMeasureOf g me kept told known said → IsMeasureOf g me kept told known other
+only_own_kinds g me kept told known said other same is = record {
+  masters = is.masters;
+  intruded = is.intruded;
+  quorum = is.quorum;
+  own = is.own;
+  ticks = is.ticks;
+  waiting = is.waiting;
+  reports = is.reports;
+  bounds = is.bounds;
+  trips = is.trips;
+  pending = λ s. is.pending s ∙ sym (pending_of s);
+  counted = λ s. is.counted s ∙ sym (same s);
+}
+  where
+    pending_of : (s : Saying) → is_pending g me known other s ≡ is_pending g me known said s
+    pending_of (Pong to number) = ap (λ b. nat_lt to g.n && not (nat_eq to me) && list_any (nat_eq number) (filter_map (ping_in to) known) && not b) (same (Pong to number))
+    pending_of (RoundTrip to number) = ap (λ b. nat_lt to g.n && list_any (nat_eq number) (filter_map (pong_in me to) known) && not b) (same (RoundTrip to number))
+    pending_of (Ping number) = refl
+    pending_of (Report v ticks) = refl
+    pending_of (Bound v) = refl
+    pending_of (Vote v) = refl

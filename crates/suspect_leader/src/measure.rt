@@ -160,22 +160,21 @@ impl Measure {
             → IsMeasureOf g me self.old told known said → IsMeasureOf g me self.new told known (said ++ bodies.items)) }
         ensures err { OnErr result (self.new ≡ self.old) }
     {
-        let bodies = self.listed(view, at_tick)?;
+        let mut bodies = Vec::with_capacity(self.alloc, self.pending.len())?;
+        self.list(&mut bodies, view, at_tick)?;
         count(&mut self.said, bodies.as_slice())?;
         settle(&mut self.pending, bodies.as_slice());
         Ok(bodies)
     }
 
-    fn listed(&self, view: u64, at_tick: bool) -> Result<Vec<Body>, Want>
-        ensures { IfOk result (λ bodies. bodies.items ≡ due_kept self.now view at_tick) }
+    fn list(&self, bodies: &mut Vec<Body, Global>, view: u64, at_tick: bool) -> Result<(), Want>
+        ensures { OnOk result (bodies.new.items ≡ bodies.old.items ++ due_kept self.now view at_tick) }
     {
-        let mut bodies = Vec::new(self.alloc);
-        push_if(&mut bodies, self.ping_due(at_tick))?;
-        self.push_answers(&mut bodies)?;
-        push_if(&mut bodies, self.report_due(view, at_tick))?;
-        push_if(&mut bodies, self.bound_due(view, at_tick))?;
-        push_if(&mut bodies, self.vote_due(view, at_tick))?;
-        Ok(bodies)
+        push_if(bodies, self.ping_due(at_tick))?;
+        self.push_answers(bodies)?;
+        push_if(bodies, self.report_due(view, at_tick))?;
+        push_if(bodies, self.bound_due(view, at_tick))?;
+        push_if(bodies, self.vote_due(view, at_tick))
     }
 
     fn turnaround_told(&self, v: u64) -> u64
