@@ -65,7 +65,8 @@ impl Model for Measure {
 impl Measure {
     /// The measures of master `me` where it was told of no event, knows no word and said nothing.
     pub fn new(alloc: Global, sizes: Sizes, me: u32) -> Measure
-        ensures { (clients : ℕ) → IsMeasureOf (group_of sizes clients) me result [] [] [] }
+        ensures ticks { result.ticks ≡ 0 }
+        ensures nothing { (clients : ℕ) → IsMeasureOf (group_of sizes clients) me result [] [] [] }
     {
         Measure {
             alloc,
@@ -86,6 +87,7 @@ impl Measure {
     pub fn tick(&mut self, view: u64, waits: bool) -> Result<(), Want>
         requires { self.old.ticks < 2 ^ 32 }
         ensures ok { IsOk result }
+        ensures ticks { self.new.ticks ≡ self.old.ticks + 1 }
         ensures told { (g : Group) (me : ℕ) (told : List Told) (known : List (SignedWord Word)) (said : List Word)
             → IsMeasureOf g me self.old told known said
             → IsMeasureOf g me self.new (told ++ record { is_tick = true; view = view; waits = waits } ∷ []) known said }
@@ -99,7 +101,8 @@ impl Measure {
 
     /// Is told of an event that is no tick.
     pub fn still(&mut self, view: u64, waits: bool)
-        ensures { (g : Group) (me : ℕ) (told : List Told) (known : List (SignedWord Word)) (said : List Word)
+        ensures ticks { self.new.ticks ≡ self.old.ticks }
+        ensures told { (g : Group) (me : ℕ) (told : List Told) (known : List (SignedWord Word)) (said : List Word)
             → IsMeasureOf g me self.old told known said
             → IsMeasureOf g me self.new (told ++ record { is_tick = false; view = view; waits = waits } ∷ []) known said }
     {
@@ -111,6 +114,7 @@ impl Measure {
     /// Takes the next word known. Only pings, pongs, round trips, tatreports and tatbounds of masters change anything.
     pub fn take(&mut self, signer: u32, body: &Body) -> Result<(), Want>
         requires { ticks_of_round_trip body.now ≤ 4294967296 }
+        ensures ticks { self.new.ticks ≡ self.old.ticks }
         ensures ok { OnOk result ((g : Group) (me : ℕ) (told : List Told) (known : List (SignedWord Word)) (said : List Word) (sig : List ℕ)
             → IsMeasureOf g me self.old told known said
             → IsMeasureOf g me self.new told (known ++ record { signer = signer; body = body.now; sig = sig } ∷ []) said) }
@@ -154,6 +158,7 @@ impl Measure {
     /// and the round trips owed, how long the leader has kept the master waiting, its own bound, and a vote. They
     /// count as said.
     pub fn due(&mut self, view: u64, at_tick: bool) -> Result<Vec<Body>, Want>
+        ensures ticks { self.new.ticks ≡ self.old.ticks }
         ensures bodies { IfOk result (λ bodies. (g : Group) (me : ℕ) (told : List Told) (known : List (SignedWord Word)) (said : List Word)
             → IsMeasureOf g me self.old told known said → bodies.items ≡ measures_due g me told known said view at_tick) }
         ensures counted { IfOk result (λ bodies. (g : Group) (me : ℕ) (told : List Told) (known : List (SignedWord Word)) (said : List Word)
@@ -206,6 +211,7 @@ impl Measure {
 
     fn take_ping(&mut self, signer: u32, word: Ping) -> Result<(), Want>
         requires { signer < self.old.group.n }
+        ensures ticks { self.new.ticks ≡ self.old.ticks }
         ensures ok { OnOk result ((g : Group) (me : ℕ) (told : List Told) (known : List (SignedWord Word)) (said : List Word) (sig : List ℕ)
             → IsMeasureOf g me self.old told known said
             → IsMeasureOf g me self.new told (known ++ record { signer = signer; body = body.Ping word; sig = sig } ∷ []) said) }
@@ -223,6 +229,7 @@ impl Measure {
 
     fn take_pong(&mut self, signer: u32, word: Pong) -> Result<(), Want>
         requires { signer < self.old.group.n }
+        ensures ticks { self.new.ticks ≡ self.old.ticks }
         ensures ok { OnOk result ((g : Group) (me : ℕ) (told : List Told) (known : List (SignedWord Word)) (said : List Word) (sig : List ℕ)
             → IsMeasureOf g me self.old told known said
             → IsMeasureOf g me self.new told (known ++ record { signer = signer; body = body.Pong word; sig = sig } ∷ []) said) }
@@ -241,7 +248,8 @@ impl Measure {
     fn take_round_trip(&mut self, signer: u32, word: Rtt)
         requires signer { signer < self.old.group.n }
         requires ticks { word.ticks ≤ 4294967296 }
-        ensures { (g : Group) (me : ℕ) (told : List Told) (known : List (SignedWord Word)) (said : List Word) (sig : List ℕ)
+        ensures ticks { self.new.ticks ≡ self.old.ticks }
+        ensures known { (g : Group) (me : ℕ) (told : List Told) (known : List (SignedWord Word)) (said : List Word) (sig : List ℕ)
             → IsMeasureOf g me self.old told known said
             → IsMeasureOf g me self.new told (known ++ record { signer = signer; body = body.Rtt word; sig = sig } ∷ []) said }
     {

@@ -38,7 +38,7 @@ returns-in-Some-Bound-clause-ok c = on_ok_weaker c.keep_first.result (λ more g 
 pub returns-in-Some-RoundTrip-clause-ok : goal.returns-in-Some-RoundTrip-clause-ok
 returns-in-Some-RoundTrip-clause-ok c = λ g me told known said sig is.
     at_body known c.args.signer sig c.args.body.now (body.Rtt c.in-Some-RoundTrip.word) (heard_trip c.args.body.now c.in-Some-RoundTrip.word (sym c.heard_of.ensures ∙ c.in-Some-RoundTrip.is ∙ ap Some c.in-Some-RoundTrip.field-0-is))
-    (c.take_round_trip.ensures g me told known said sig is)
+    (c.take_round_trip.ensures.known g me told known said sig is)
 
 pub take_round_trip-requires : goal.take_round_trip-requires
 take_round_trip-requires c = record {

@@ -5,12 +5,12 @@ use Rattle.suspect_leader.proofs.Taken.{viewed, trip_passed, took_trip, trip_set
 use Rattle.suspect_leader.proofs.Masters.{masters_few}
 use Rattle.suspect_leader.proofs.measure.Measure.take_round_trip.Goals as goal
 
-pub returns-then-word-self : goal.returns-then-word-self
-returns-then-word-self c = λ g me told known said sig is.
+pub returns-then-word-self-clause-known : goal.returns-then-word-self-clause-known
+returns-then-word-self-clause-known c = λ g me told known said sig is.
     trip_passed g me c.args.self.now told known said c.args.signer c.args.word sig (ap (λ (k : Kept). nat_eq c.args.word.to k.me) (sym c.self.view_is) ∙ ne_eqb c.args.word.to c.self.inside.me c.if-word-self.true) is
 
-pub returns : goal.returns
-returns c = λ g me told known said sig is.
+pub returns-clause-known : goal.returns-clause-known
+returns-clause-known c = λ g me told known said sig is.
     let few : c.self.inside.sizes.n ≤ 14 = masters_few c.self.inside.sizes in
     let within : c.args.signer < c.self.inside.sizes.n = subst (λ (n : ℕ). c.args.signer < n) (sym (ap (λ (k : Kept). k.group.n) c.self.view_is)) c.requires.signer in
     took_trip g me _ told known said c.args.signer c.args.word sig _
