@@ -9,3 +9,4 @@ pub mod Start
 pub mod Rising
 pub mod Owed
 pub mod Due
+pub mod Places

@@ -26,7 +26,7 @@ each_filter {X} P p (x ∷ rest) all = at (p x) (each_filter P p rest all.1)
     at true more = (all.0, more)
     at false more = more
 
-each_append : {X : Type 0} (P : X → Type 0) (xs ys : List X) → Each P xs → Each P ys → Each P (xs ++ ys)
+pub each_append : {X : Type 0} (P : X → Type 0) (xs ys : List X) → Each P xs → Each P ys → Each P (xs ++ ys)
 each_append P [] ys one two = two
 each_append P (x ∷ rest) ys one two = (one.0, each_append P rest ys one.1 two)
 
@@ -39,7 +39,7 @@ abbrev pub Steps : List ℕ → Type 0
 Steps [] = Unit {0}
 Steps (x ∷ rest) = Each (λ y. x < y) rest × Steps rest
 
-each_put : (P : ℕ → Type 0) (x : ℕ) (l : List ℕ) → P x → Each P l → Each P (put_in_order x l)
+pub each_put : (P : ℕ → Type 0) (x : ℕ) (l : List ℕ) → P x → Each P l → Each P (put_in_order x l)
 each_put P x [] one all = (one, tt)
 each_put P x (y ∷ rest) one all = at (nat_le x y) (each_put P x rest one all.1)
   where

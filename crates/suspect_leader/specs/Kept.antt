@@ -8,6 +8,7 @@ use Rattle.message_types.specs.declared.body.Body.TheVariants as body
 use Rattle.quorum_sets.specs.Masters.{numbers_below}
 use Rattle.protocol_rules.specs.Words.{greatest_of, first_of_list, best_by, in_order, put_in_order}
 use Rattle.protocol_rules.specs.Group.{Group}
+use Rattle.protocol_rules.specs.Places.{in_place}
 use Rattle.protocol_rules.specs.Measures.{Told, ticks_of, waited, report_in, bound_in, round_trip_in, pings_due, pongs_due, round_trips_due, tat_reports_due, tat_bounds_due, suspects_due}
 use Rattle.suspect_leader.specs.declared.saying.Saying.{Saying}
 use Rattle.suspect_leader.specs.declared.saying.Saying.TheVariants.{Ping, Pong, RoundTrip, Report, Bound, Vote}
@@ -57,6 +58,10 @@ measures_due g me told known said view at_tick =
     pings_due (ticks_of told) at_tick ++ pongs_due g me known said ++ round_trips_due g me known said (ticks_of told)
     ++ tat_reports_due said view (waited view told) at_tick ++ tat_bounds_due g me known said view at_tick
     ++ suspects_due g known said view at_tick
+
+-- the body is in its place as a word of the master
+abbrev pub is_word_in_place : Group → ℕ → Body → Bool
+is_word_in_place g me word = in_place g record { signer = me; body = word; sig = [] }
 
 -- the body that answers: a round trip only once its ping was said
 abbrev pub answer_to : ℕ → List Saying → Saying → Option Body

@@ -1,13 +1,13 @@
 ghost use Rattle.std.specs.Prelude.{◌≡◌, ◌+◌, ◌-◌, ◌*◌, ◌<◌, ◌≤◌, ◌^◌, ℕ, Bool, true, false, List, [], ◌∷◌, ◌++◌, Option, IsOk, OnOk, OnErr, IfOk, option_map, nat_eq, nat_lt, not, if◌then◌else◌};
-ghost use Rattle.std.specs.List.{filter_map};
+ghost use Rattle.std.specs.List.{filter_map, list_all};
 ghost use Rattle.std.specs.Option.{option_to_list};
 ghost use Rattle.message_types.specs.declared.signed.Signed.{Signed as SignedWord};
 ghost use Rattle.message_types.specs.declared.body.Body.{Body as Word};
 ghost use Rattle.message_types.specs.declared.body.Body.TheVariants as body;
-ghost use Rattle.protocol_rules.specs.Group.{Group, group_of};
+ghost use Rattle.protocol_rules.specs.Group.{Group, group_of, most_view};
 ghost use Rattle.protocol_rules.specs.Measures.{Told, turnaround, acceptable, pings_due};
 ghost use Rattle.suspect_leader.specs.Sayings.{is_among, ticks_of_round_trip};
-ghost use Rattle.suspect_leader.specs.Kept.{IsMeasureOf, waited_in, answer_to, measures_due, figure_at, later_of, ticks_in, turnaround_kept, acceptable_kept, bound_kept, report_due_kept, bound_due_kept, vote_due_kept, due_kept};
+ghost use Rattle.suspect_leader.specs.Kept.{IsMeasureOf, waited_in, answer_to, measures_due, figure_at, later_of, ticks_in, turnaround_kept, acceptable_kept, bound_kept, report_due_kept, bound_due_kept, vote_due_kept, due_kept, is_word_in_place};
 
 use crate::answers::{count, owe, push_if, settle};
 use crate::heard::{Heard, heard_of};
@@ -163,6 +163,8 @@ impl Measure {
             → IsMeasureOf g me self.old told known said → bodies.items ≡ measures_due g me told known said view at_tick) }
         ensures counted { IfOk result (λ bodies. (g : Group) (me : ℕ) (told : List Told) (known : List (SignedWord Word)) (said : List Word)
             → IsMeasureOf g me self.old told known said → IsMeasureOf g me self.new told known (said ++ bodies.items)) }
+        ensures places { IfOk result (λ bodies. (g : Group) (me : ℕ) (told : List Told) (known : List (SignedWord Word)) (said : List Word)
+            → IsMeasureOf g me self.old told known said → me < g.n → view ≤ most_view → list_all (is_word_in_place g me) bodies.items ≡ true) }
         ensures err { OnErr result (self.new ≡ self.old) }
     {
         let mut bodies = Vec::with_capacity(self.alloc, self.pending.len())?;

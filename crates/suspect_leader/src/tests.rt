@@ -99,6 +99,7 @@ fn round_trips_make_the_own_bound(rt: HostRuntime) -> Result<(), Fail> {
         number: 1,
         ticks: 0,
     });
+    measure.tick(0, false)?;
     measure.take(1, &answered)?;
     measure.take(2, &answered)?;
     let due = measure.due(0, true)?;
@@ -131,6 +132,7 @@ fn waiting_is_reported(rt: HostRuntime) -> Result<(), Fail> {
 #[test]
 fn a_slow_leader_is_voted_against_once(rt: HostRuntime) -> Result<(), Fail> {
     let mut measure = Measure::new(rt.alloc(), Sizes::new(1, 0)?, 3);
+    measure.tick(0, false)?;
     take_reports(&mut measure, [24, 24, 24])?;
     let vote = measure.due(0, true)?;
     assert!(rt; matches!(vote.as_slice(), [Body::Suspect(Suspect { v: 0 })]));
