@@ -1,0 +1,12 @@
+pub mod Ranks
+pub mod Order
+pub mod Sets
+pub mod Told
+pub mod Words
+pub mod Taken
+pub mod Masters
+pub mod Start
+pub mod Rising
+pub mod Owed
+pub mod Due
+pub mod Places

@@ -1,0 +1,76 @@
+ghost use Rattle.std.specs.Prelude.{◌≡◌, ◌++◌, ◌||◌, ◌&&◌, not, OnOk, OnErr};
+ghost use Rattle.std.specs.List.{list_any};
+ghost use Rattle.std.specs.Option.{option_to_list};
+ghost use Rattle.suspect_leader.specs.declared.saying.Saying.{Saying as Say};
+ghost use Rattle.suspect_leader.specs.Sayings.{says, same_saying, is_among};
+
+use crate::saying::{Saying, saying_of};
+use message_types::Body;
+use plain_lists::Want;
+use std::alloc::Global;
+use std::collections::BTreeSet;
+
+pub(crate) fn push_if(bodies: &mut Vec<Body, Global>, body: Option<Body>) -> Result<(), Want>
+    ensures { OnOk result (bodies.new.items ≡ bodies.old.items ++ option_to_list body) }
+{
+    if let Some(body) = body {
+        bodies.push(body)?;
+    }
+    Ok(())
+}
+
+/// Notes that an answer is owed, unless it was given.
+pub(crate) fn owe(
+    pending: &mut BTreeSet<Saying, Global>,
+    said: &BTreeSet<Saying, Global>,
+    answer: Saying,
+) -> Result<(), Want>
+    ensures ok { OnOk result ((s : Say) → is_among pending.new.keys s ≡ ((same_saying answer s && not (is_among said.now.keys s)) || is_among pending.old.keys s)) }
+    ensures err { OnErr result (pending.new.keys ≡ pending.old.keys) }
+{
+    if said.contains(&answer) {
+        return Ok(());
+    }
+    pending.insert(answer)?;
+    Ok(())
+}
+
+/// Counts bodies as said, all of them or none. It calls itself once for each.
+pub(crate) fn count(said: &mut BTreeSet<Saying, Global>, bodies: &[Body]) -> Result<(), Want>
+    ensures ok { OnOk result ((s : Say) → is_among said.new.keys s ≡ (list_any (says s) bodies.now || is_among said.old.keys s)) }
+    ensures err { OnErr result (said.new.keys ≡ said.old.keys) }
+{
+    let [first, rest @ ..] = bodies else {
+        return Ok(());
+    };
+    let Some(saying) = saying_of(first) else {
+        return count(said, rest);
+    };
+    let is_new = said.insert(saying)?;
+    match count(said, rest) {
+        Ok(()) => Ok(()),
+        Err(want) => {
+            if is_new {
+                said.remove(&saying);
+            }
+            Err(want)
+        }
+    }
+}
+
+/// The answers given are no longer owed.
+pub(crate) fn settle(pending: &mut BTreeSet<Saying, Global>, bodies: &[Body])
+    ensures { (s : Say) → is_among pending.new.keys s ≡ (not (list_any (says s) bodies.now) && is_among pending.old.keys s) }
+{
+    for body in bodies {
+        settle_one(pending, body);
+    }
+}
+
+fn settle_one(pending: &mut BTreeSet<Saying, Global>, body: &Body)
+    ensures { (s : Say) → is_among pending.new.keys s ≡ (not (says s body.now) && is_among pending.old.keys s) }
+{
+    if let Some(saying) = saying_of(body) {
+        pending.remove(&saying);
+    }
+}

@@ -1,0 +1,387 @@
+ghost use Rattle.std.specs.Prelude.{◌≡◌, ◌+◌, ◌-◌, ◌*◌, ◌<◌, ◌≤◌, ◌^◌, ℕ, Bool, true, false, List, [], ◌∷◌, ◌++◌, Option, IsOk, OnOk, OnErr, IfOk, option_map, nat_eq, nat_lt, not, if◌then◌else◌};
+ghost use Rattle.std.specs.List.{filter_map, list_all};
+ghost use Rattle.std.specs.Option.{option_to_list};
+ghost use Rattle.message_types.specs.declared.signed.Signed.{Signed as SignedWord};
+ghost use Rattle.message_types.specs.declared.body.Body.{Body as Word};
+ghost use Rattle.message_types.specs.declared.body.Body.TheVariants as body;
+ghost use Rattle.protocol_rules.specs.Group.{Group, group_of, most_view};
+ghost use Rattle.protocol_rules.specs.Measures.{Told, turnaround, acceptable, pings_due};
+ghost use Rattle.suspect_leader.specs.Sayings.{is_among, ticks_of_round_trip};
+ghost use Rattle.suspect_leader.specs.Kept.{IsMeasureOf, waited_in, answer_to, measures_due, figure_at, later_of, ticks_in, turnaround_kept, acceptable_kept, bound_kept, report_due_kept, bound_due_kept, vote_due_kept, due_kept, is_word_in_place};
+
+use crate::answers::{count, owe, push_if, settle};
+use crate::heard::{Heard, heard_of};
+use crate::ranked::Ranked;
+use crate::saying::Saying;
+use crate::tables::{Table, keep_first, keep_greatest, told};
+use message_types::{Body, Ping, Pong, Rtt, Suspect, TatBound, TatReport};
+use plain_lists::Want;
+use quorum_sets::Sizes;
+use std::alloc::Global;
+use std::collections::{BTreeMap, BTreeSet};
+use std::marker::Model;
+
+/// Every so many ticks a ping is said.
+const PING_STEP: u64 = 16;
+
+/// A master tells at every so many ticks of waiting how long it has waited.
+const REPORT_STEP: u64 = 8;
+
+/// The last view, whose leader nobody votes against.
+const MOST_VIEW: u64 = 255;
+
+/// What a leader may take where a master has told no bound, in ticks.
+const FIRST_BOUND: u64 = 16;
+
+/// How long the leaders keep a master waiting, and how long they may.
+#[derive(Drop)]
+pub struct Measure {
+    alloc: Global,
+    sizes: Sizes,
+    me: u32,
+    ticks: u64,
+    view: u64,
+    waited: u64,
+    reports: Table,
+    bounds: Table,
+    trips: [Option<Rtt>; 14],
+    pending: BTreeSet<Saying, Global>,
+    said: BTreeSet<Saying, Global>,
+}
+
+impl Model for Measure {
+    ghost use Rattle.std.specs.Prelude.{◌≤◌, ℕ, None};
+    ghost use Rattle.std.specs.List.{slice_index_or};
+    ghost use Rattle.protocol_rules.specs.Group.{group_of};
+    ghost use Rattle.suspect_leader.specs.Kept.{Kept, ticks_in};
+
+    ghost Value = { Kept };
+
+    ghost view = { λ m. record { group = group_of m.sizes 0; me = m.me; ticks = m.ticks; view = m.view; waited = m.waited; reports = m.reports.entries; bounds = m.bounds.entries; trips = m.trips; pending = m.pending.keys; said = m.said.keys } };
+
+    ghost invariant = { λ m. (m.ticks ≤ 4294967296) × (m.waited ≤ m.ticks) × ((j : ℕ) → ticks_in (slice_index_or m.trips j None) ≤ 4294967296) };
+}
+
+impl Measure {
+    /// The measures of master `me` where it was told of no event, knows no word and said nothing.
+    pub fn new(alloc: Global, sizes: Sizes, me: u32) -> Measure
+        ensures ticks { result.ticks ≡ 0 }
+        ensures nothing { (clients : ℕ) → IsMeasureOf (group_of sizes clients) me result [] [] [] }
+    {
+        Measure {
+            alloc,
+            sizes,
+            me,
+            ticks: 0,
+            view: 0,
+            waited: 0,
+            reports: BTreeMap::new(alloc),
+            bounds: BTreeMap::new(alloc),
+            trips: [None; 14],
+            pending: BTreeSet::new(alloc),
+            said: BTreeSet::new(alloc),
+        }
+    }
+
+    /// Is told of a tick: the view at it, and whether the master then waits for the leader.
+    pub fn tick(&mut self, view: u64, waits: bool) -> Result<(), Want>
+        requires { self.old.ticks < 2 ^ 32 }
+        ensures ok { IsOk result }
+        ensures ticks { self.new.ticks ≡ self.old.ticks + 1 }
+        ensures told { (g : Group) (me : ℕ) (told : List Told) (known : List (SignedWord Word)) (said : List Word)
+            → IsMeasureOf g me self.old told known said
+            → IsMeasureOf g me self.new (told ++ record { is_tick = true; view = view; waits = waits } ∷ []) known said }
+    {
+        let before = self.waited_in(view);
+        self.ticks += 1;
+        self.view = view;
+        self.waited = if waits { before + 1 } else { 0 };
+        Ok(())
+    }
+
+    /// Is told of an event that is no tick.
+    pub fn still(&mut self, view: u64, waits: bool)
+        ensures ticks { self.new.ticks ≡ self.old.ticks }
+        ensures told { (g : Group) (me : ℕ) (told : List Told) (known : List (SignedWord Word)) (said : List Word)
+            → IsMeasureOf g me self.old told known said
+            → IsMeasureOf g me self.new (told ++ record { is_tick = false; view = view; waits = waits } ∷ []) known said }
+    {
+        let before = self.waited_in(view);
+        self.view = view;
+        self.waited = if waits { before } else { 0 };
+    }
+
+    /// Takes the next word known. Only pings, pongs, round trips, tatreports and tatbounds of masters change anything.
+    pub fn take(&mut self, signer: u32, body: &Body) -> Result<(), Want>
+        requires { ticks_of_round_trip body.now ≤ 4294967296 }
+        ensures ticks { self.new.ticks ≡ self.old.ticks }
+        ensures ok { OnOk result ((g : Group) (me : ℕ) (told : List Told) (known : List (SignedWord Word)) (said : List Word) (sig : List ℕ)
+            → IsMeasureOf g me self.old told known said
+            → IsMeasureOf g me self.new told (known ++ record { signer = signer; body = body.now; sig = sig } ∷ []) said) }
+        ensures err { OnErr result (self.new ≡ self.old) }
+    {
+        if signer >= self.sizes.n {
+            return Ok(());
+        }
+        match heard_of(body) {
+            Some(Heard::Ping(word)) => self.take_ping(signer, word),
+            Some(Heard::Pong(word)) => self.take_pong(signer, word),
+            Some(Heard::RoundTrip(word)) => {
+                self.take_round_trip(signer, word);
+                Ok(())
+            }
+            Some(Heard::Report(word)) => {
+                keep_greatest(&mut self.reports, word.v, signer, word.ticks)
+            }
+            Some(Heard::Bound(word)) => keep_first(&mut self.bounds, word.v, signer, word.ticks),
+            None => Ok(()),
+        }
+    }
+
+    /// How long the leader of view `v` takes, in ticks: the `f + 1`st lowest of the masters' greatest reports.
+    pub fn leader_turnaround(&self, v: u64) -> u64
+        ensures { (g : Group) (me : ℕ) (told : List Told) (known : List (SignedWord Word)) (said : List Word)
+            → IsMeasureOf g me self.now told known said → result ≡ turnaround g known v }
+    {
+        self.turnaround_told(v)
+    }
+
+    /// How long it may take, in ticks: the `f + 1`st highest of the masters' first bounds.
+    pub fn acceptable(&self, v: u64) -> u64
+        ensures { (g : Group) (me : ℕ) (told : List Told) (known : List (SignedWord Word)) (said : List Word)
+            → IsMeasureOf g me self.now told known said → result ≡ acceptable g known v }
+    {
+        self.acceptable_told(v)
+    }
+
+    /// What to say at an event, in view `view`, once the event was told and its words were taken: a ping, the pongs
+    /// and the round trips owed, how long the leader has kept the master waiting, its own bound, and a vote. They
+    /// count as said.
+    pub fn due(&mut self, view: u64, at_tick: bool) -> Result<Vec<Body>, Want>
+        ensures ticks { self.new.ticks ≡ self.old.ticks }
+        ensures bodies { IfOk result (λ bodies. (g : Group) (me : ℕ) (told : List Told) (known : List (SignedWord Word)) (said : List Word)
+            → IsMeasureOf g me self.old told known said → bodies.items ≡ measures_due g me told known said view at_tick) }
+        ensures counted { IfOk result (λ bodies. (g : Group) (me : ℕ) (told : List Told) (known : List (SignedWord Word)) (said : List Word)
+            → IsMeasureOf g me self.old told known said → IsMeasureOf g me self.new told known (said ++ bodies.items)) }
+        ensures places { IfOk result (λ bodies. (g : Group) (me : ℕ) (told : List Told) (known : List (SignedWord Word)) (said : List Word)
+            → IsMeasureOf g me self.old told known said → me < g.n → view ≤ most_view → list_all (is_word_in_place g me) bodies.items ≡ true) }
+        ensures err { OnErr result (self.new ≡ self.old) }
+    {
+        let mut bodies = Vec::with_capacity(self.alloc, self.pending.len())?;
+        self.list(&mut bodies, view, at_tick)?;
+        count(&mut self.said, bodies.as_slice())?;
+        settle(&mut self.pending, bodies.as_slice());
+        Ok(bodies)
+    }
+
+    fn list(&self, bodies: &mut Vec<Body, Global>, view: u64, at_tick: bool) -> Result<(), Want>
+        ensures { OnOk result (bodies.new.items ≡ bodies.old.items ++ due_kept self.now view at_tick) }
+    {
+        push_if(bodies, self.ping_due(at_tick))?;
+        self.push_answers(bodies)?;
+        push_if(bodies, self.report_due(view, at_tick))?;
+        push_if(bodies, self.bound_due(view, at_tick))?;
+        push_if(bodies, self.vote_due(view, at_tick))
+    }
+
+    fn turnaround_told(&self, v: u64) -> u64
+        ensures { result ≡ turnaround_kept self.now v }
+    {
+        let mut reports = Ranked::new();
+        for master in 0..self.sizes.n {
+            reports.put(told(&self.reports, v, master).unwrap_or(0));
+        }
+        reports.lowest(self.sizes.f as usize)
+    }
+
+    fn acceptable_told(&self, v: u64) -> u64
+        ensures { result ≡ acceptable_kept self.now v }
+    {
+        let mut bounds = Ranked::new();
+        for master in 0..self.sizes.n {
+            bounds.put(told(&self.bounds, v, master).unwrap_or(FIRST_BOUND));
+        }
+        bounds.highest(self.sizes.f as usize)
+    }
+
+    fn waited_in(&self, view: u64) -> u64
+        ensures value { result ≡ waited_in self.now view }
+        ensures few { result ≤ self.now.ticks }
+    {
+        if view == self.view { self.waited } else { 0 }
+    }
+
+    fn take_ping(&mut self, signer: u32, word: Ping) -> Result<(), Want>
+        requires { signer < self.old.group.n }
+        ensures ticks { self.new.ticks ≡ self.old.ticks }
+        ensures ok { OnOk result ((g : Group) (me : ℕ) (told : List Told) (known : List (SignedWord Word)) (said : List Word) (sig : List ℕ)
+            → IsMeasureOf g me self.old told known said
+            → IsMeasureOf g me self.new told (known ++ record { signer = signer; body = body.Ping word; sig = sig } ∷ []) said) }
+        ensures err { OnErr result (self.new ≡ self.old) }
+    {
+        if signer == self.me {
+            return Ok(());
+        }
+        let pong = Saying::Pong {
+            to: signer,
+            number: word.number,
+        };
+        owe(&mut self.pending, &self.said, pong)
+    }
+
+    fn take_pong(&mut self, signer: u32, word: Pong) -> Result<(), Want>
+        requires { signer < self.old.group.n }
+        ensures ticks { self.new.ticks ≡ self.old.ticks }
+        ensures ok { OnOk result ((g : Group) (me : ℕ) (told : List Told) (known : List (SignedWord Word)) (said : List Word) (sig : List ℕ)
+            → IsMeasureOf g me self.old told known said
+            → IsMeasureOf g me self.new told (known ++ record { signer = signer; body = body.Pong word; sig = sig } ∷ []) said) }
+        ensures err { OnErr result (self.new ≡ self.old) }
+    {
+        if word.to != self.me {
+            return Ok(());
+        }
+        let trip = Saying::RoundTrip {
+            to: signer,
+            number: word.number,
+        };
+        owe(&mut self.pending, &self.said, trip)
+    }
+
+    fn take_round_trip(&mut self, signer: u32, word: Rtt)
+        requires signer { signer < self.old.group.n }
+        requires ticks { word.ticks ≤ 4294967296 }
+        ensures ticks { self.new.ticks ≡ self.old.ticks }
+        ensures known { (g : Group) (me : ℕ) (told : List Told) (known : List (SignedWord Word)) (said : List Word) (sig : List ℕ)
+            → IsMeasureOf g me self.old told known said
+            → IsMeasureOf g me self.new told (known ++ record { signer = signer; body = body.Rtt word; sig = sig } ∷ []) said }
+    {
+        if word.to != self.me {
+            return;
+        }
+        let place = signer as usize;
+        self.trips[place] = Some(later(self.trips[place], word));
+    }
+
+    fn ping_due(&self, at_tick: bool) -> Option<Body>
+        ensures { option_to_list result ≡ pings_due self.now.ticks at_tick }
+    {
+        if at_tick && self.ticks % PING_STEP == 0 {
+            Some(Body::Ping(Ping {
+                number: self.ticks / PING_STEP,
+            }))
+        } else {
+            None
+        }
+    }
+
+    fn push_answers(&self, bodies: &mut Vec<Body, Global>) -> Result<(), Want>
+        ensures { OnOk result (bodies.new.items ≡ bodies.old.items ++ filter_map (answer_to self.now.ticks self.now.said) self.now.pending) }
+    {
+        for saying in &self.pending {
+            push_if(bodies, self.answer(saying))?;
+        }
+        Ok(())
+    }
+
+    fn answer(&self, saying: &Saying) -> Option<Body>
+        ensures { result ≡ answer_to self.now.ticks self.now.said saying.now }
+    {
+        match *saying {
+            Saying::Pong { to, number } => Some(Body::Pong(Pong { to, number })),
+            Saying::RoundTrip { to, number } if self.has_said(Saying::Ping { number }) => {
+                Some(Body::Rtt(Rtt {
+                    to,
+                    number,
+                    ticks: ticks_since(self.ticks, number),
+                }))
+            }
+            _ => None,
+        }
+    }
+
+    fn has_said(&self, saying: Saying) -> bool
+        ensures { result ≡ is_among self.now.said saying }
+    {
+        self.said.contains(&saying)
+    }
+
+    fn report_due(&self, view: u64, at_tick: bool) -> Option<Body>
+        ensures { option_to_list result ≡ report_due_kept self.now view at_tick }
+    {
+        let ticks = self.waited_in(view);
+        let is_new = !self.has_said(Saying::Report { v: view, ticks });
+        if at_tick && 0 < ticks && ticks % REPORT_STEP == 0 && is_new {
+            Some(Body::TatReport(TatReport { v: view, ticks }))
+        } else {
+            None
+        }
+    }
+
+    fn bound_due(&self, view: u64, at_tick: bool) -> Option<Body>
+        ensures { option_to_list result ≡ bound_due_kept self.now view at_tick }
+    {
+        let is_new = !self.has_said(Saying::Bound { v: view });
+        let ticks = self.own_bound()?;
+        if at_tick && is_new {
+            Some(Body::TatBound(TatBound { v: view, ticks }))
+        } else {
+            None
+        }
+    }
+
+    fn vote_due(&self, view: u64, at_tick: bool) -> Option<Body>
+        ensures { option_to_list result ≡ vote_due_kept self.now view at_tick }
+    {
+        let is_slow = self.acceptable_told(view) < self.turnaround_told(view);
+        let is_new = !self.has_said(Saying::Vote { v: view });
+        if at_tick && view < MOST_VIEW && is_slow && is_new {
+            Some(Body::Suspect(Suspect { v: view }))
+        } else {
+            None
+        }
+    }
+
+    /// The master's own bound, once `q - 1` others have told it a round trip.
+    fn own_bound(&self) -> Option<u64>
+        ensures { result ≡ bound_kept self.now }
+    {
+        let mut figures = Ranked::new();
+        for master in 0..self.sizes.n {
+            figures.put_if(self.figure(master));
+        }
+        if figures.len() + 1 < self.sizes.q as usize {
+            return None;
+        }
+        Some(figures.highest(self.sizes.f as usize))
+    }
+
+    /// What the latest round trip of another master makes of it.
+    fn figure(&self, master: u32) -> Option<u64>
+        requires { master < self.now.group.n }
+        ensures { result ≡ figure_at self.now master }
+    {
+        if master == self.me {
+            return None;
+        }
+        let trip = self.trips[master as usize]?;
+        Some(2 * trip.ticks + 4)
+    }
+}
+
+/// The later of two round trips.
+fn later(held: Option<Rtt>, word: Rtt) -> Rtt
+    ensures value { result ≡ later_of held word }
+    ensures one { (most : ℕ) → ticks_in held ≤ most → word.ticks ≤ most → result.ticks ≤ most }
+{
+    match held {
+        Some(best) if best.number >= word.number => best,
+        _ => word,
+    }
+}
+
+/// The ticks since the ping of this number was said.
+fn ticks_since(ticks: u64, number: u64) -> u64
+    ensures { result ≡ ticks - 16 * number }
+{
+    ticks.saturating_sub(number.saturating_mul(PING_STEP))
+}
