@@ -1,0 +1,4 @@
+pub mod Verifying
+pub mod Groups
+pub mod Signing
+pub mod Standing
