@@ -1,4 +1,5 @@
 pub mod Verifying
 pub mod Groups
+pub mod Levels
 pub mod Signing
 pub mod Standing

@@ -2,6 +2,8 @@
 //! signatures of bodies, of which up to 32 share one leaf of a key.
 #![tactic(auto)]
 
+mod frame_parts;
+mod groups;
 mod places;
 mod refusal;
 
