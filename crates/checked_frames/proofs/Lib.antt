@@ -1,2 +1,4 @@
 pub mod RowLaws
 pub mod GroupSteps
+pub mod KeyReads
+pub mod VerifyingLaws

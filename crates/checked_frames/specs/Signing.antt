@@ -1,6 +1,7 @@
 -- Which bytes sign a text. A signature field holds an HSS signature of the text, or, in its second version, one of a
 -- group of 2 to 32 bodies' message with the path that leads from the text to the group's root (this project's own).
-use Rattle.std.specs.Prelude.{ℕ, ◌+◌, ◌*◌, ◌/◌, Bool, false, ◌&&◌, ◌||◌, List, [], ◌∷◌, ◌++◌, length, take, drop, map, nat_eq, nat_le, nat_lt}
+use Rattle.std.specs.Prelude.{ℕ, ◌+◌, ◌*◌, ◌/◌, ◌<◌, IsTrue, Bool, false, ◌&&◌, ◌||◌, List, [], ◌∷◌, ◌++◌, length, take, drop, map, nat_eq, nat_le, nat_lt}
+use Rattle.std.specs.List.{slice_index_or}
 use Rattle.std.specs.Option.{option_map_or}
 use Rattle.byteorder.specs.Endian.{big_number}
 use Rattle.wire_parts.specs.Fields.{u16_bytes, u32_bytes}
@@ -56,3 +57,8 @@ field_at texts signed place = group_field place (length texts) (path_of (map lea
 unfoldable pub group_signatures : Key → ℕ → List (List ℕ) → List (List ℕ)
 group_signatures key m texts =
     map (field_at texts (signature_at key m (signed_message texts))) (numbers_below (length texts))
+
+-- each of the fields signs the text at its place
+abbrev pub EachSigns : List ℕ → List (List ℕ) → List (List ℕ) → Type 0
+EachSigns public texts fields =
+    (place : ℕ) → place < length texts → IsTrue (signs public (slice_index_or texts place []) (slice_index_or fields place []))

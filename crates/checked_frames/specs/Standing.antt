@@ -18,6 +18,9 @@ pub record Ring : Type 0 where
   pub group : Group
   pub publics : List (List ℕ)
 
+abbrev pub ring_of : Group → List (List ℕ) → Ring
+ring_of group publics = record { group = group; publics = publics }
+
 abbrev pub actors : Group → ℕ
 actors g = g.n + g.clients
 
@@ -66,3 +69,7 @@ IsFault refusal.Want first = Unit {0}
 IsFault (refusal.SignerUnknown signer) first = first ≡ Some (refusal.SignerUnknown signer)
 IsFault (refusal.Unsigned number) first = first ≡ Some (refusal.Unsigned number)
 IsFault (refusal.Misplaced number) first = first ≡ Some (refusal.Misplaced number)
+
+-- a part as what it says: its signer and its body
+abbrev pub said_by : Signed Body → ℕ × Body
+said_by part = (part.signer, part.body)

@@ -29,7 +29,7 @@ height_of code = 5 * (code - 4)
 -- these bytes are the LMS public key (section 5.3)
 abbrev pub is_key : PublicKey → List ℕ → Bool
 is_key key bytes =
-    bytes_eq bytes (key_bytes key) && list_any (λ h. nat_eq h key.height) (5 ∷ 10 ∷ 15 ∷ 20 ∷ 25 ∷ [])
+    bytes_eq bytes (key_bytes key) && list_any (nat_eq key.height) (5 ∷ 10 ∷ 15 ∷ 20 ∷ 25 ∷ [])
     && nat_eq (length key.id) 16 && nat_eq (length key.root) 32
 
 -- the key with the fields that stand in these bytes

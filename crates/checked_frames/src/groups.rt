@@ -92,7 +92,7 @@ fn level_above(alloc: Global, nodes: &[[u8; 32]]) -> Result<Items<[u8; 32]>, Wan
 }
 
 // Appends the levels from the one with these nodes on, and gives the level above them.
-fn put_levels(
+pub(crate) fn put_levels(
     alloc: Global,
     levels: &mut Items<Items<[u8; 32]>>,
     nodes: Items<[u8; 32]>,

@@ -2,9 +2,15 @@
 //! signatures of bodies, of which up to 32 share one leaf of a key.
 #![tactic(auto)]
 
+mod checked;
 mod frame_parts;
 mod groups;
+mod key_ring;
 mod places;
 mod refusal;
+mod signing;
 
+pub use crate::checked::{Checked, check, parts};
+pub use crate::key_ring::KeyRing;
 pub use crate::refusal::CheckRefusal;
+pub use crate::signing::signs;
