@@ -1,5 +1,4 @@
-ghost use Rattle.std.specs.Prelude.{◌≡◌, ◌++◌, ◌+◌, ◌<◌, ◌≤◌, ◌^◌, ℕ, List, length, OnOk, IfOk};
-ghost use Rattle.sha2.specs.Hashers.{Holds256};
+ghost use Rattle.std.specs.Prelude.{◌≡◌, ◌++◌, ◌+◌, ◌*◌, ◌<◌, ◌≤◌, length, OnOk, IfOk};
 ghost use Rattle.checked_frames.specs.Groups.{leaf_hash, joined_hash, level_above, raised, sibling, parent_hash, led_to, beside, path_up};
 ghost use Rattle.checked_frames.specs.Levels.{levels_up, path_through};
 
@@ -112,7 +111,8 @@ pub(crate) fn put_levels(
 // Appends the sibling's hash, where there is a sibling.
 fn put_beside(path: &mut Vec<u8>, nodes: &Items<[u8; 32]>, place: u32) -> Result<(), Want>
     requires { place < 65536 }
-    ensures { OnOk result (path.new.items ≡ path.old.items ++ beside nodes.now place) }
+    ensures added { OnOk result (path.new.items ≡ path.old.items ++ beside nodes.now place) }
+    ensures few { OnOk result (length path.new.items ≤ length path.old.items + 32) }
 {
     match nodes.get(sibling(place) as usize) {
         None => Ok(()),
@@ -123,7 +123,8 @@ fn put_beside(path: &mut Vec<u8>, nodes: &Items<[u8; 32]>, place: u32) -> Result
 /// Appends the siblings' hashes on the way up through these levels.
 pub(crate) fn put_path(path: &mut Vec<u8>, levels: &[Items<[u8; 32]>], place: u32) -> Result<(), Want>
     requires { place < 65536 }
-    ensures { OnOk result (path.new.items ≡ path.old.items ++ path_through levels.now place) }
+    ensures added { OnOk result (path.new.items ≡ path.old.items ++ path_through levels.now place) }
+    ensures few { OnOk result (length path.new.items ≤ length path.old.items + 32 * length levels.now) }
 {
     match levels.split_first() {
         None => Ok(()),
