@@ -1,7 +1,10 @@
 -- What is made of a verified signature signs each text of its group.
 use Rattle.std.proofs.Common.{◌≡◌, ◌≤◌, ◌<◌, ◌+◌, ◌*◌, ◌/◌, ◌^◌, ℕ, zero, suc, Bool, true, false, ◌&&◌, ◌||◌, List, [], ◌∷◌, ◌++◌, length, take, drop, map, get_or, Option, Some, None, refl, sym, ap, ◌∙◌, subst, arith, nat_eq, nat_lt, nat_le, eq-eqb, lt-ltb, le-leb, length-append, inl, inr}
 use Rattle.std.specs.Prelude.{slice_get}
+use Rattle.std.specs.List.{list_all}
 use Rattle.std.specs.Option.{option_map_or}
+use Rattle.wire_parts.specs.Fields.{u16_bytes, u32_bytes}
+use Rattle.wire_parts.specs.FieldLaws.{length-u16_bytes, length-u32_bytes}
 use Rattle.std.proofs.lemmas.Bool.{and_from, or_left, or_right, cases_lt}
 use Rattle.std.proofs.lemmas.List.{length-map, map-append, get_or-map, get_or_append_left}
 use Rattle.std.proofs.Math.Seq.{get_or-append_seam}
@@ -10,10 +13,10 @@ use Rattle.quorum_sets.specs.Masters.{numbers_below}
 use Rattle.quorum_sets.proofs.MastersLemmas.{numbers_below-suc}
 use Rattle.message_forms.specs.Batch.{batch_message}
 use Rattle.hash_signatures.specs.Verification.{Verifies}
-use Rattle.hash_signatures.specs.Signatures.{Key, signature_at}
+use Rattle.hash_signatures.specs.Signatures.{Key, signature_at, longest_signature}
 use Rattle.checked_frames.specs.Verifying.{verifies}
 use Rattle.checked_frames.specs.Groups.{leaf_hash, root_of, path_of, led_to, most_levels}
-use Rattle.checked_frames.specs.Signing.{group_field, hashes_in, group_verifies, signs_in_group, signs, signed_message, field_at, group_signatures, EachSigns}
+use Rattle.checked_frames.specs.Signing.{group_field, hashes_in, group_verifies, signs_in_group, signs, signed_message, field_at, group_signatures, EachSigns, field_fits}
 use Rattle.checked_frames.specs.Levels.{levels_up}
 use Rattle.checked_frames.specs.Kept.{field_through}
 use Rattle.checked_frames.proofs.PathLaws.{AreHashes, AreHashes-leaves, leads_to_root, path_size, path_through_levels}
@@ -204,3 +207,51 @@ pub verified_as : (public message whole signed : List ℕ) (key : Key) (m : ℕ)
 verified_as public message whole signed key m verified is e =
     let at_signed : Verifies public message (signature_at key m message) = subst (λ s. Verifies public message s) is verified in
     subst (λ x. Verifies public x (signature_at key m x)) e at_signed
+
+pub short_as : (message whole signed : List ℕ) (key : Key) (m : ℕ) → length signed ≤ longest_signature → signed ≡ signature_at key m message
+    → message ≡ whole → length (signature_at key m whole) ≤ longest_signature
+short_as message whole signed key m short is e =
+    subst (λ (x : List ℕ). length x ≤ longest_signature) (is ∙ ap (signature_at key m) e) short
+
+-- a field is a little longer than the signature in it
+group_field-len : (place count hashes : ℕ) (path signed : List ℕ) → hashes ≤ 5 → length path ≡ 32 * hashes
+    → length (group_field place count path signed) ≤ length signed + 170
+unfolding group_field
+group_field-len place count hashes path signed few size =
+    let head = u32_bytes 256 ++ u16_bytes place ++ u16_bytes count ++ u16_bytes (length path / 32) in
+    omega (
+      arith,
+      length-append (head ++ path) signed,
+      length-append head path,
+      length-append (u32_bytes 256 ++ u16_bytes place ++ u16_bytes count) (u16_bytes (length path / 32)),
+      length-append (u32_bytes 256 ++ u16_bytes place) (u16_bytes count),
+      length-append (u32_bytes 256) (u16_bytes place),
+      length-u32_bytes 256,
+      length-u16_bytes place,
+      length-u16_bytes count,
+      length-u16_bytes (length path / 32),
+    )
+
+field_at-len : (texts : List (List ℕ)) (signed : List ℕ) (place : ℕ) → length (field_at texts signed place) ≤ length signed + 170
+field_at-len [] signed place =
+    let (hashes, few, size) = path_of-size [] place tt in
+    group_field-len place 0 hashes (path_of [] place) signed few size
+field_at-len (text ∷ []) signed place = omega arith
+field_at-len (text ∷ next ∷ rest) signed place =
+    let leaves = map leaf_hash (text ∷ next ∷ rest) in
+    let (hashes, few, size) = path_of-size leaves place (AreHashes-leaves (text ∷ next ∷ rest)) in
+    group_field-len place (length (text ∷ next ∷ rest)) hashes (path_of leaves place) signed few size
+
+all_fit : (f : ℕ → List ℕ) (numbers : List ℕ) → ((k : ℕ) → field_fits (f k) ≡ true) → list_all field_fits (map f numbers) ≡ true
+all_fit f [] each = refl
+all_fit f (n ∷ numbers) each = and_from (field_fits (f n)) (list_all field_fits (map f numbers)) (each n) (all_fit f numbers each)
+
+-- the fields that a key gives are within a frame's limit
+pub group_fits : (texts : List (List ℕ)) (key : Key) (m : ℕ) (fields : List (List ℕ)) → length (signature_at key m (signed_message texts)) ≤ longest_signature
+    → fields ≡ group_signatures key m texts → list_all field_fits fields ≡ true
+unfolding group_signatures longest_signature
+group_fits texts key m fields short e =
+    let signed = signature_at key m (signed_message texts) in
+    ap (list_all field_fits) e
+    ∙ all_fit (field_at texts signed) (numbers_below (length texts))
+    (λ k. let len = field_at-len texts signed k in le-leb (length (field_at texts signed k)) 65536 (omega arith))

@@ -62,3 +62,7 @@ group_signatures key m texts =
 abbrev pub EachSigns : List ℕ → List (List ℕ) → List (List ℕ) → Type 0
 EachSigns public texts fields =
     (place : ℕ) → place < length texts → IsTrue (signs public (slice_index_or texts place []) (slice_index_or fields place []))
+
+-- within a frame's limit for signatures
+abbrev pub field_fits : List ℕ → Bool
+field_fits field = nat_le (length field) 65536

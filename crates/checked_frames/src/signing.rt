@@ -4,13 +4,13 @@ ghost use Rattle.byteorder.specs.Endian.{big_number};
 ghost use Rattle.quorum_sets.specs.Masters.{numbers_below};
 ghost use Rattle.message_types.specs.Texts.{body_text};
 ghost use Rattle.message_types.specs.Spelling.{body_fits};
-ghost use Rattle.hash_signatures.specs.Signatures.{all_leaves, key_public, signature_at};
+ghost use Rattle.hash_signatures.specs.Signatures.{all_leaves, key_public, signature_at, longest_signature};
 ghost use Rattle.hash_signatures.specs.State.{key_use};
 ghost use Rattle.hash_signatures.specs.Verification.{Verifies};
 ghost use Rattle.checked_frames.specs.Verifying.{verifies};
 ghost use Rattle.checked_frames.specs.Groups.{leaf_hash, root_of, path_of};
 ghost use Rattle.checked_frames.specs.Levels.{levels_up};
-ghost use Rattle.checked_frames.specs.Signing.{hashes_in, group_verifies, signs_in_group, signs, signed_message, group_signatures, EachSigns};
+ghost use Rattle.checked_frames.specs.Signing.{hashes_in, group_verifies, signs_in_group, signs, signed_message, group_signatures, EachSigns, field_fits};
 ghost use Rattle.checked_frames.specs.Kept.{field_through};
 
 use crate::groups::{leaf_hash, led_to, put_levels, put_path};
@@ -187,6 +187,7 @@ fn sign_several(
     ensures fields { IfOk result (λ fields. fields.items ≡ group_signatures key.old.key key.old.used (map body_text bodies.now)) }
     ensures verified { OnOk result (Verifies (key_public key.old.key) (signed_message (map body_text bodies.now))
         (signature_at key.old.key key.old.used (signed_message (map body_text bodies.now)))) }
+    ensures short { OnOk result (length (signature_at key.old.key key.old.used (signed_message (map body_text bodies.now))) ≤ longest_signature) }
     ensures left { OnOk result (key.old.used < all_leaves key.old.key) }
     ensures spent { IsErrOf result SignAnswer.Spent → key.old.used ≡ all_leaves key.old.key }
     ensures same { key.new ≡ key.old }
@@ -218,6 +219,7 @@ fn sign_one(
     ensures fields { IfOk result (λ fields. fields.items ≡ group_signatures key.old.key key.old.used (map body_text bodies.now)) }
     ensures verified { OnOk result (Verifies (key_public key.old.key) (signed_message (map body_text bodies.now))
         (signature_at key.old.key key.old.used (signed_message (map body_text bodies.now)))) }
+    ensures short { OnOk result (length (signature_at key.old.key key.old.used (signed_message (map body_text bodies.now))) ≤ longest_signature) }
     ensures left { OnOk result (key.old.used < all_leaves key.old.key) }
     ensures spent { IsErrOf result SignAnswer.Spent → key.old.used ≡ all_leaves key.old.key }
     ensures same { key.new ≡ key.old }
@@ -240,6 +242,7 @@ fn next_fields(
     ensures fields { IfOk result (λ fields. fields.items ≡ group_signatures key.old.key key.old.used (map body_text bodies.now)) }
     ensures verified { OnOk result (Verifies (key_public key.old.key) (signed_message (map body_text bodies.now))
         (signature_at key.old.key key.old.used (signed_message (map body_text bodies.now)))) }
+    ensures short { OnOk result (length (signature_at key.old.key key.old.used (signed_message (map body_text bodies.now))) ≤ longest_signature) }
     ensures left { OnOk result (key.old.used < all_leaves key.old.key) }
     ensures spent { IsErrOf result SignAnswer.Spent → key.old.used ≡ all_leaves key.old.key }
     ensures same { key.new ≡ key.old }
@@ -263,6 +266,7 @@ pub fn sign_group(
     ensures signatures { IfOk result (λ fields. fields.items
         ≡ group_signatures key.old.key key.old.used (map body_text bodies.now)) }
     ensures signs { IfOk result (λ fields. EachSigns (key_public key.old.key) (map body_text bodies.now) fields.items) }
+    ensures fit { IfOk result (λ fields. IsTrue (list_all field_fits fields.items)) }
     ensures one_more { OnOk result (key.new ≡ key_use key.old.key (key.old.used + 1)) }
     ensures spent { IsErrOf result SignAnswer.Spent ↔ (key.old.used ≡ all_leaves key.old.key) }
     ensures err { OnErr result (key.new ≡ key.old) }

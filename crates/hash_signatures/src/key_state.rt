@@ -1,6 +1,6 @@
 ghost use Rattle.std.specs.Prelude.{◌≡◌, ◌↔◌, ◌+◌, ◌-◌, ◌^◌, ◌<◌, ◌≤◌, length, IsTrue, IfOk, OnOk, OnErr, IsErrOf};
 ghost use Rattle.hash_signatures.specs.Verification.{Verifies};
-ghost use Rattle.hash_signatures.specs.Signatures.{total, all_leaves, key_public, signature_at};
+ghost use Rattle.hash_signatures.specs.Signatures.{total, all_leaves, key_public, signature_at, longest_signature};
 ghost use Rattle.hash_signatures.specs.Path.{IsKeptPath};
 ghost use Rattle.hash_signatures.specs.State.{key_from, key_use, IsLevelCount, HasMadeHeights};
 
@@ -147,6 +147,7 @@ impl KeyState {
     pub fn sign(&mut self, message: &[u8]) -> Result<Vec<u8>, SignAnswer>
         ensures signature { IfOk result (λ sig. sig.items ≡ signature_at self.old.key self.old.used message.now) }
         ensures verifies { IfOk result (λ sig. Verifies (key_public self.old.key) message.now sig.items) }
+        ensures short { IfOk result (λ sig. length sig.items ≤ longest_signature) }
         ensures one_more { OnOk result (self.new ≡ key_use self.old.key (self.old.used + 1)) }
         ensures spent { IsErrOf result SignAnswer.Spent ↔ (self.old.used ≡ all_leaves self.old.key) }
         ensures err { OnErr result (self.new ≡ self.old) }
@@ -162,6 +163,7 @@ impl KeyState {
     pub fn next_signature(&mut self, message: &[u8]) -> Result<Vec<u8>, SignAnswer>
         ensures signature { IfOk result (λ sig. sig.items ≡ signature_at self.old.key self.old.used message.now) }
         ensures verifies { IfOk result (λ sig. Verifies (key_public self.old.key) message.now sig.items) }
+        ensures short { IfOk result (λ sig. length sig.items ≤ longest_signature) }
         ensures left { OnOk result (self.old.used < all_leaves self.old.key) }
         ensures spent { IsErrOf result SignAnswer.Spent ↔ (self.old.used ≡ all_leaves self.old.key) }
         ensures same { self.new ≡ self.old }

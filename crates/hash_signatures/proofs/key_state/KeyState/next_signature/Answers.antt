@@ -1,10 +1,10 @@
-use Rattle.std.proofs.Common.{◌∙◌, ap, sym, subst, List, ℕ}
+use Rattle.std.proofs.Common.{◌≤◌, length, ◌∙◌, ap, sym, subst, List, ℕ}
 use Rattle.hash_signatures.specs.Verification.{Verifies}
-use Rattle.hash_signatures.specs.Signatures.{key_public, signature_at}
+use Rattle.hash_signatures.specs.Signatures.{key_public, signature_at, longest_signature}
 use Rattle.hash_signatures.specs.State.{KeyUse, key_from}
 use Rattle.hash_signatures.specs.Kept.{key_of}
 use Rattle.hash_signatures.specs.Path.{IsWayOf}
-use Rattle.hash_signatures.proofs.KeyLaws.{way_signs, signature_verifies}
+use Rattle.hash_signatures.proofs.KeyLaws.{way_signs, signature_verifies, signature_short}
 use Rattle.hash_signatures.proofs.key_state.KeyState.next_signature.Goals as goal
 
 pub returns-clause-signature : goal.returns-clause-signature
@@ -24,3 +24,10 @@ returns-clause-verifies c =
     let verifies = subst (λ (u : KeyUse). Verifies (key_public u.key) message (signature_at u.key u.used message)) c.self.view_is
     (signature_verifies key c.self.inside.used message c.self.invariant.levels c.self.invariant.heights c.self.invariant.id) in
     subst (Verifies (key_public c.args.self.now.key) message) (sym (returns-clause-signature c)) verifies
+
+pub returns-clause-short : goal.returns-clause-short
+returns-clause-short c =
+    let message = c.args.message.now in
+    let short = subst (λ (u : KeyUse). length (signature_at u.key u.used message) ≤ longest_signature) c.self.view_is
+    (signature_short (key_of c.self.inside) c.self.inside.used message c.self.invariant.levels c.self.invariant.heights c.self.invariant.id) in
+    subst (λ (sig : List ℕ). length sig ≤ longest_signature) (sym (returns-clause-signature c)) short
