@@ -74,17 +74,17 @@ group_field-read place count hashes path signed place_fits count_fits hashes_fit
     let head = u32_bytes 256 ++ u16_bytes place ++ u16_bytes count ++ u16_bytes (length path / 32) in
     record {
       room = omega (
-          arith,
-          length-append (head ++ path) signed,
-          length-append head path,
-          length-append (u32_bytes 256 ++ u16_bytes place ++ u16_bytes count) (u16_bytes (length path / 32)),
-          length-append (u32_bytes 256 ++ u16_bytes place) (u16_bytes count),
-          length-append (u32_bytes 256) (u16_bytes place),
-          length-u32_bytes 256,
-          length-u16_bytes place,
-          length-u16_bytes count,
-          length-u16_bytes (length path / 32),
-        );
+        arith,
+        length-append (head ++ path) signed,
+        length-append head path,
+        length-append (u32_bytes 256 ++ u16_bytes place ++ u16_bytes count) (u16_bytes (length path / 32)),
+        length-append (u32_bytes 256 ++ u16_bytes place) (u16_bytes count),
+        length-append (u32_bytes 256) (u16_bytes place),
+        length-u32_bytes 256,
+        length-u16_bytes place,
+        length-u16_bytes count,
+        length-u16_bytes (length path / 32),
+      );
       mark = ap (big_number 4) at.mark ∙ u32_front 256 (drop 4 sig) (omega arith);
       place_is = ap (big_number 2) at.place_at ∙ u16_front place (drop 6 sig) place_fits;
       count_is = ap (big_number 2) at.count_at ∙ u16_front count (drop 8 sig) count_fits;

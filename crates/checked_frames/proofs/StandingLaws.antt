@@ -156,7 +156,7 @@ unfolding history_stands stands
 same_as_in_histories w ring group same frame =
     let test : Group → Signed Body → Bool = λ g p. nat_lt p.signer (g.n + g.clients) && w.signs p.signer (body_text p.body) p.sig && in_place g p in
     let at : (p : Signed Body) → test ring.group p ≡ part_stands ring p = λ p.
-        same_test (is_known ring p) (w.signs p.signer (body_text p.body) p.sig) (is_signed ring p) (in_place ring.group p)
-        (λ known. same p.signer (body_text p.body) p.sig (ltb-true p.signer (actors ring.group) known)) in
+    same_test (is_known ring p) (w.signs p.signer (body_text p.body) p.sig) (is_signed ring p) (in_place ring.group p)
+    (λ known. same p.signer (body_text p.body) p.sig (ltb-true p.signer (actors ring.group) known)) in
     ap (λ g. has_spelling frame && list_all (test g) (parts frame)) group
     ∙ ap (λ b. has_spelling frame && b) (same_all (test ring.group) (part_stands ring) (parts frame) at)

@@ -111,14 +111,14 @@ lead_tests : (n : ℕ) (public message sig : List ℕ)
     → Decides (leads_through (suc n) public message sig) (LeadsThrough (suc n) public message sig)
 lead_tests n public message sig below =
     let test : PublicKey → Bool = λ key.
-        signed_under key (take 56 (drop (tree_signature_len key.height key.ots) sig)) (take (tree_signature_len key.height key.ots) sig)
-        && leads_through n (take 56 (drop (tree_signature_len key.height key.ots) sig)) message (drop 56 (drop (tree_signature_len key.height key.ots) sig)) in
+    signed_under key (take 56 (drop (tree_signature_len key.height key.ots) sig)) (take (tree_signature_len key.height key.ots) sig)
+    && leads_through n (take 56 (drop (tree_signature_len key.height key.ots) sig)) message (drop 56 (drop (tree_signature_len key.height key.ots) sig)) in
     let each : (key : PublicKey) → IsKey key public → Decides (test key) (LeadCuts n key message sig) = λ key is.
-        let len = tree_signature_len key.height key.ots in
-        let behind = drop len sig in
-        Decides-like (test key) (λ both. cuts_of n key message sig both.0 both.1) (λ cuts. (cuts.signed, cuts.leads))
-        (Decides-and (signed_under key (take 56 behind) (take len sig)) (leads_through n (take 56 behind) message (drop 56 behind))
-        (signed_under-Decides key (take 56 behind) (take len sig) is.height) (below (take 56 behind) (drop 56 behind))) in
+    let len = tree_signature_len key.height key.ots in
+    let behind = drop len sig in
+    Decides-like (test key) (λ both. cuts_of n key message sig both.0 both.1) (λ cuts. (cuts.signed, cuts.leads))
+    (Decides-and (signed_under key (take 56 behind) (take len sig)) (leads_through n (take 56 behind) message (drop 56 behind))
+    (signed_under-Decides key (take 56 behind) (take len sig) is.height) (below (take 56 behind) (drop 56 behind))) in
     Decides-like (leads_through (suc n) public message sig)
     (λ (key, is, cuts). lead_of_cuts n key public message sig is cuts)
     (λ leads. let (key, is) = lead_key n public message sig leads in (key, is, lead_cuts n key public message sig is leads))

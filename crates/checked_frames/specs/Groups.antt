@@ -57,6 +57,6 @@ led_to zero count place here path = if nat_lt 0 (length path) then None else Som
 led_to (suc n) count place here path =
     if nat_lt (sibling place) count
     then (if nat_le 32 (length path)
-        then led_to n ((count + 1) / 2) (place / 2) (parent_hash place here (take 32 path)) (drop 32 path)
-        else None)
+    then led_to n ((count + 1) / 2) (place / 2) (parent_hash place here (take 32 path)) (drop 32 path)
+    else None)
     else led_to n ((count + 1) / 2) (place / 2) here path

@@ -46,8 +46,8 @@ unfoldable pub part_fault : Ring → ℕ → Signed Body → Option CheckRefusal
 part_fault ring number part =
     if is_known ring part
     then (if is_signed ring part
-        then (if in_place ring.group part then None else Some (refusal.Misplaced number))
-        else Some (refusal.Unsigned number))
+    then (if in_place ring.group part then None else Some (refusal.Misplaced number))
+    else Some (refusal.Unsigned number))
     else Some (refusal.SignerUnknown part.signer)
 
 abbrev pub or_else : Option CheckRefusal → Option CheckRefusal → Option CheckRefusal

@@ -64,9 +64,9 @@ abbrev pub leads_through : ℕ → List ℕ → List ℕ → List ℕ → Bool
 leads_through zero public message sig = option_map_or (λ key. signed_under key message sig) (key_in public) false
 leads_through (suc n) public message sig =
     option_map_or (λ key.
-        let behind = drop (tree_signature_len key.height key.ots) sig in
-        signed_under key (take 56 behind) (take (tree_signature_len key.height key.ots) sig)
-        && leads_through n (take 56 behind) message (drop 56 behind))
+    let behind = drop (tree_signature_len key.height key.ots) sig in
+    signed_under key (take 56 behind) (take (tree_signature_len key.height key.ots) sig)
+    && leads_through n (take 56 behind) message (drop 56 behind))
     (key_in public) false
 
 -- the HSS public key, u32str(L) || LMS public key, verifies the message's signature, u32str(L - 1) || signed keys ||

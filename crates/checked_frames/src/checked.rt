@@ -45,12 +45,7 @@ impl Checked {
 
 // The three tests of the part of this number.
 #[tactic(auto, unfolding(crate::specs::Standing::part_fault))]
-fn check_part(
-    alloc: Global,
-    ring: &KeyRing,
-    part: u32,
-    frame: &Frame,
-) -> Result<(), CheckRefusal>
+fn check_part(alloc: Global, ring: &KeyRing, part: u32, frame: &Frame) -> Result<(), CheckRefusal>
     requires { IsTrue (body_fits frame.now.body) }
     ensures none { IsOk result → part_fault ring.now part frame.now ≡ None }
     ensures fault { IfErr result (λ refusal. IsFault refusal (part_fault ring.now part frame.now)) }

@@ -5,8 +5,8 @@ ghost use Rattle.message_types.specs.declared.body.Body.TheVariants as body;
 ghost use Rattle.message_types.specs.Parts.{as_frame, frames_of, request_parts, inside_report, inside};
 
 use message_types::{
-    Body, Certificate, Commit, Frame, Give, Mark, PoAck, PoRequest, PoSummary, Prepare, Report, Signed,
-    Update,
+    Body, Certificate, Commit, Frame, Give, Mark, PoAck, PoRequest, PoSummary, Prepare, Report,
+    Signed, Update,
 };
 use plain_lists::{Copied, Want};
 

@@ -49,7 +49,13 @@ fn parent_hash(place: u32, here: &[u8; 32], beside: &[u8; 32]) -> [u8; 32]
 }
 
 /// Where a path leads from a node at a place among `count`, so many levels up. It takes no memory.
-pub(crate) fn led_to(levels: u32, count: u32, place: u32, here: &[u8; 32], path: &[u8]) -> Option<[u8; 32]>
+pub(crate) fn led_to(
+    levels: u32,
+    count: u32,
+    place: u32,
+    here: &[u8; 32],
+    path: &[u8],
+) -> Option<[u8; 32]>
     requires places { place < 65536 }
     requires counts { count ≤ 65536 }
     ensures { result ≡ led_to levels count place here.now path.now }
@@ -66,7 +72,13 @@ pub(crate) fn led_to(levels: u32, count: u32, place: u32, here: &[u8; 32], path:
     let (first, rest) = path.split_at(32);
     let mut beside = [0; 32];
     beside.copy_from_slice(first);
-    led_to(levels - 1, (count + 1) / 2, place / 2, &parent_hash(place, here, &beside), rest)
+    led_to(
+        levels - 1,
+        (count + 1) / 2,
+        place / 2,
+        &parent_hash(place, here, &beside),
+        rest,
+    )
 }
 
 fn put_level_above(out: &mut Items<[u8; 32]>, nodes: &[[u8; 32]]) -> Result<(), Want>
@@ -121,7 +133,11 @@ fn put_beside(path: &mut Vec<u8>, nodes: &Items<[u8; 32]>, place: u32) -> Result
 }
 
 /// Appends the siblings' hashes on the way up through these levels.
-pub(crate) fn put_path(path: &mut Vec<u8>, levels: &[Items<[u8; 32]>], place: u32) -> Result<(), Want>
+pub(crate) fn put_path(
+    path: &mut Vec<u8>,
+    levels: &[Items<[u8; 32]>],
+    place: u32,
+) -> Result<(), Want>
     requires { place < 65536 }
     ensures added { OnOk result (path.new.items ≡ path.old.items ++ path_through levels.now place) }
     ensures few { OnOk result (length path.new.items ≤ length path.old.items + 32 * length levels.now) }

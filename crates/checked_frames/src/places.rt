@@ -9,8 +9,8 @@ ghost use Rattle.protocol_rules.specs.Places.{is_number, is_view, is_row, are_ro
 
 use message_digests::{rows_digest, update_digest};
 use message_types::{
-    Body, Certificate, Commit, Frame, Give, GiveOrdered, Mark, NewView, Op, PoAck, PoSummary, PrePrepare, Prepare, Report,
-    Rows, Signed, Update,
+    Body, Certificate, Commit, Frame, Give, GiveOrdered, Mark, NewView, Op, PoAck, PoSummary,
+    PrePrepare, Prepare, Report, Rows, Signed, Update,
 };
 use plain_lists::Vector;
 use quorum_sets::Sizes;
@@ -77,24 +77,19 @@ fn are_rows(sizes: &Sizes, rows: &Rows) -> bool
 fn prepares_match(v: u64, s: u64, digest: &[u8; 32], prepares: &[Signed<Prepare>]) -> bool
     ensures { result ≡ list_all (λ p. nat_eq p.body.v v && nat_eq p.body.s s && bytes_eq p.body.digest digest.now) prepares.now }
 {
-    prepares
-        .iter()
-        .all(|p| p.body.v == v && p.body.s == s && p.body.digest == *digest)
+    prepares.iter().all(|p| p.body.v == v && p.body.s == s && p.body.digest == *digest)
 }
 
 fn commits_match(v: u64, s: u64, digest: &[u8; 32], commits: &[Signed<Commit>]) -> bool
     ensures { result ≡ list_all (λ c. nat_eq c.body.v v && nat_eq c.body.s s && bytes_eq c.body.digest digest.now) commits.now }
 {
-    commits
-        .iter()
-        .all(|c| c.body.v == v && c.body.s == s && c.body.digest == *digest)
+    commits.iter().all(|c| c.body.v == v && c.body.s == s && c.body.digest == *digest)
 }
 
 fn acks_match(j: u32, k: u64, digest: &[u8; 32], acks: &[Signed<PoAck>]) -> bool
     ensures { result ≡ list_all (λ a. nat_eq a.body.j j && nat_eq a.body.k k && bytes_eq a.body.digest digest.now) acks.now }
 {
-    acks.iter()
-        .all(|a| a.body.j == j && a.body.k == k && a.body.digest == *digest)
+    acks.iter().all(|a| a.body.j == j && a.body.k == k && a.body.digest == *digest)
 }
 
 fn marks_match(s: u64, marks: &[Signed<Mark>]) -> bool
@@ -145,9 +140,7 @@ fn certificates_in_place(sizes: &Sizes, base: u64, v: u64, certificates: &[Certi
     requires { base ≤ 4096 }
     ensures { result ≡ list_all (certificate_in_place (group_of sizes.now 0) base v) certificates.now }
 {
-    certificates
-        .iter()
-        .all(|certificate| certificate_in_place(sizes, base, v, certificate))
+    certificates.iter().all(|certificate| certificate_in_place(sizes, base, v, certificate))
 }
 
 // Whether the base is a number that marks are said for, and is shown by the marks of a quorum, or is 0 and shown by none.
@@ -173,12 +166,7 @@ fn report_in_place(sizes: &Sizes, report: &Report) -> bool
     }
     1 <= report.v
         && is_view(report.v)
-        && certificates_in_place(
-            sizes,
-            report.base,
-            report.v,
-            report.certificates.as_slice(),
-        )
+        && certificates_in_place(sizes, report.base, report.v, report.certificates.as_slice())
 }
 
 fn new_view_in_place(sizes: &Sizes, signer: u32, word: &NewView) -> bool
@@ -223,10 +211,7 @@ fn is_ordered(sizes: &Sizes, word: &GiveOrdered) -> bool
 fn give_ordered_in_place(sizes: &Sizes, word: &GiveOrdered) -> bool
     ensures { result ≡ word_in_place (group_of sizes.now 0) 0 (Body.GiveOrdered word.now) }
 {
-    is_number(word.s)
-        && is_view(word.v)
-        && are_rows(sizes, &word.rows)
-        && is_ordered(sizes, word)
+    is_number(word.s) && is_view(word.v) && are_rows(sizes, &word.rows) && is_ordered(sizes, word)
 }
 
 #[tactic(auto, unfolding(protocol_rules::specs::Group::most_number))]

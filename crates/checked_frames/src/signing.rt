@@ -209,11 +209,7 @@ fn one_field(alloc: Global, signed: Vec<u8>) -> Result<Vec<Bytes>, Want>
 }
 
 // The field of one body, which is the key's next signature of its text.
-fn sign_one(
-    alloc: Global,
-    key: &mut KeyState,
-    bodies: &[Body],
-) -> Result<Vec<Bytes>, SignAnswer>
+fn sign_one(alloc: Global, key: &mut KeyState, bodies: &[Body]) -> Result<Vec<Bytes>, SignAnswer>
     requires one { length bodies.now ≡ 1 }
     requires spelled { IsTrue (list_all body_fits bodies.now) }
     ensures fields { IfOk result (λ fields. fields.items ≡ group_signatures key.old.key key.old.used (map body_text bodies.now)) }
@@ -231,11 +227,7 @@ fn sign_one(
 }
 
 // The fields of bodies, from the key's next signature, whose leaf isn't used yet.
-fn next_fields(
-    alloc: Global,
-    key: &mut KeyState,
-    bodies: &[Body],
-) -> Result<Vec<Bytes>, SignAnswer>
+fn next_fields(alloc: Global, key: &mut KeyState, bodies: &[Body]) -> Result<Vec<Bytes>, SignAnswer>
     requires some { 1 ≤ length bodies.now }
     requires few { length bodies.now ≤ 32 }
     requires spelled { IsTrue (list_all body_fits bodies.now) }
