@@ -1,5 +1,5 @@
 -- What a key signs, its public key verifies, and what a way leads to.
-use Rattle.std.proofs.Common.{◌≡◌, ◌≤◌, ◌<◌, ◌+◌, ◌-◌, ◌*◌, ◌/◌, ◌%◌, ◌^◌, ℕ, suc, List, [], ◌∷◌, ◌++◌, length, refl, sym, ap, ◌∙◌, subst, arith, IfOk, Result, Ok, Err, append_assoc, inl, inr, Vec, Global}
+use Rattle.std.proofs.Common.{◌≡◌, ◌≤◌, ◌<◌, ◌+◌, ◌-◌, ◌*◌, ◌/◌, ◌%◌, ◌^◌, ℕ, suc, List, [], ◌∷◌, ◌++◌, length, refl, sym, ap, ◌∙◌, subst, arith, IfOk, Result, Ok, Err, append_assoc, length-append, inl, inr, Vec, Global}
 use Rattle.std.proofs.lemmas.List.{length-take-le}
 use Rattle.std.proofs.Math.Nat.{mod-lt, one-le-pow, pow-le-pow_right, mod-eq_of_lt, div-div-eq-div-mul}
 use Rattle.std.proofs.lemmas.Nat.{pow-add}
@@ -11,11 +11,13 @@ use Rattle.tree_keys.specs.Trees.{IsMadeHeight, tree_public, tree_signature}
 use Rattle.tree_keys.proofs.Laws.{tree_verifies, is_tree_height}
 use Rattle.hash_signatures.specs.declared.descent.Way.{Way}
 use Rattle.hash_signatures.specs.Verification.{LeadsThrough, Verifies}
-use Rattle.hash_signatures.specs.Signatures.{Key, total, child_tree, child_id_tag, leaf_at, signed_key, signed_below, top_tree, public_of, key_public, signature_of, signature_at}
+use Rattle.hash_signatures.specs.Signatures.{Key, total, child_tree, child_id_tag, leaf_at, signed_key, signed_below, top_tree, public_of, key_public, signature_of, signature_at, longest_signature}
 use Rattle.hash_signatures.specs.State.{IsLevelCount, HasMadeHeights}
 use Rattle.hash_signatures.specs.Descent.{front_below, bottom_below}
 use Rattle.hash_signatures.specs.Path.{front_of, bottom_of, IsWayOf}
+use Rattle.wire_parts.specs.FieldLaws.{length-u32_bytes}
 use Rattle.hash_signatures.proofs.Descending.{child_height}
+use Rattle.hash_signatures.proofs.LeadLaws.{lead_len}
 
 first_made : (h : ℕ) (hs : List ℕ) → HasMadeHeights (h ∷ hs) → IsMadeHeight h
 first_made h hs made = made 0 0 (omega arith)
@@ -92,6 +94,22 @@ pub signature_verifies : (key : Key) (m : ℕ) (message : List ℕ) → IsLevelC
     → length key.id ≡ 16 → Verifies (key_public key) message (signature_at key m message)
 unfolding key_public signature_at
 signature_verifies key m message levels made id = verifies_of key key.heights m message levels made id
+
+short_of : (key : Key) (hs : List ℕ) (m : ℕ) (message : List ℕ) → IsLevelCount (length hs) → HasMadeHeights hs → length key.id ≡ 16
+    → length (signature_of key hs m message) ≤ longest_signature
+unfolding longest_signature
+short_of key [] m message levels made id = let low = levels.0 in absurd (omega arith)
+short_of key (h ∷ hs) m message levels made id =
+    let high = levels.1 in
+    let below = lead_len (length hs) (tree_public (top_tree key h)) message (signed_below (top_tree key h) hs m message)
+    (leads_below (top_tree key h) hs m message (first_made h hs made) (rest_made h hs made) id) in
+    omega (arith, length-append (u32_bytes (length hs)) (signed_below (top_tree key h) hs m message), length-u32_bytes (length hs))
+
+-- each signature of a key is short
+pub signature_short : (key : Key) (m : ℕ) (message : List ℕ) → IsLevelCount (length key.heights) → HasMadeHeights key.heights
+    → length key.id ≡ 16 → length (signature_at key m message) ≤ longest_signature
+unfolding signature_at
+signature_short key m message levels made id = short_of key key.heights m message levels made id
 
 -- a signature is its signed keys and the LMS signature of the lowest tree
 below_is : (tree : TreeSeed) (hs : List ℕ) (m : ℕ) (message : List ℕ)

@@ -1,10 +1,14 @@
 -- How a signature is cut into its signed keys.
-use Rattle.std.proofs.Common.{◌≡◌, ◌≤◌, ◌<◌, ◌^◌, ◌+◌, ◌-◌, ℕ, zero, suc, List, ◌++◌, length, take, drop, sym, ap, ◌∙◌, subst, arith, length-append, append_assoc}
+use Rattle.std.proofs.Common.{◌≡◌, ◌≤◌, ◌<◌, ◌^◌, ◌+◌, ◌*◌, ◌-◌, ℕ, zero, suc, List, ◌++◌, length, take, drop, sym, ap, ◌∙◌, subst, arith, length-append, append_assoc}
 use Rattle.std.proofs.lemmas.List.{drop_at, take_at, take-append-drop}
 use Rattle.wire_parts.specs.Fields.{u32_bytes}
 use Rattle.wire_parts.specs.FieldLaws.{length-u32_bytes}
 use Rattle.tree_keys.specs.declared.public_key.PublicKey.{PublicKey}
 use Rattle.tree_keys.specs.PublicKeys.{IsKey, IsSignedUnder, TreeVerifies, tree_signature_len}
+use Rattle.ots_keys.specs.declared.parameters.Ots.{Ots}
+use Rattle.ots_keys.specs.declared.parameters.Ots.TheVariants.{W1, W2, W4, W8}
+use Rattle.ots_keys.specs.Parameters.{signature_len}
+use Rattle.tree_keys.proofs.Heights.{height_le}
 use Rattle.tree_keys.proofs.KeyLaws.{one_key, key_len, signed_len}
 use Rattle.tree_keys.proofs.Parts.{u32_bytes-same}
 use Rattle.hash_signatures.specs.Verification.{LeadsThrough, Verifies}
@@ -147,3 +151,27 @@ lead_of_parts n key message sig signed rest next last len e_len e_signed e_rest 
       signed = subst (λ x. IsSignedUnder key x (take whole_len sig)) at_next one;
       leads = subst (λ x. LeadsThrough n x message (drop 56 (drop whole_len sig))) at_next two;
     }
+
+-- an LMS signature has at most 9,324 bytes: height 25 and digits of one bit
+signature_len-le : (ots : Ots) → signature_len ots ≤ 8516
+signature_len-le W1 = omega arith
+signature_len-le W2 = omega arith
+signature_len-le W4 = omega arith
+signature_len-le W8 = omega arith
+
+tree_len : (public message sig : List ℕ) → TreeVerifies public message sig → length sig ≤ 9324
+tree_len public message sig (key, is_key, signed) =
+    let len = signed_len key message sig signed in
+    let low = height_le key.height is_key.height in
+    let ots = signature_len-le key.ots in
+    omega arith
+
+-- what leads through n signed keys has at most so many bytes
+pub lead_len : (n : ℕ) (public message sig : List ℕ) → LeadsThrough n public message sig → length sig ≤ 9324 + n * 9380
+lead_len zero public message sig h = let one = tree_len public message sig h in omega arith
+lead_len (suc n) public message sig (signed, next, rest, e, verifies, leads) =
+    let first = tree_len public next signed verifies in
+    let key = leads_len n next message rest leads in
+    let below = lead_len n next message rest leads in
+    let whole = ap length e ∙ length-append (signed ++ next) rest in
+    omega (arith, length-append signed next)

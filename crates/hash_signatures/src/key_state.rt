@@ -1,6 +1,6 @@
 ghost use Rattle.std.specs.Prelude.{◌≡◌, ◌↔◌, ◌+◌, ◌-◌, ◌^◌, ◌<◌, ◌≤◌, length, IsTrue, IfOk, OnOk, OnErr, IsErrOf};
 ghost use Rattle.hash_signatures.specs.Verification.{Verifies};
-ghost use Rattle.hash_signatures.specs.Signatures.{total, all_leaves, key_public, signature_at};
+ghost use Rattle.hash_signatures.specs.Signatures.{total, all_leaves, key_public, signature_at, longest_signature};
 ghost use Rattle.hash_signatures.specs.Path.{IsKeptPath};
 ghost use Rattle.hash_signatures.specs.State.{key_from, key_use, IsLevelCount, HasMadeHeights};
 
@@ -147,9 +147,26 @@ impl KeyState {
     pub fn sign(&mut self, message: &[u8]) -> Result<Vec<u8>, SignAnswer>
         ensures signature { IfOk result (λ sig. sig.items ≡ signature_at self.old.key self.old.used message.now) }
         ensures verifies { IfOk result (λ sig. Verifies (key_public self.old.key) message.now sig.items) }
+        ensures short { IfOk result (λ sig. length sig.items ≤ longest_signature) }
         ensures one_more { OnOk result (self.new ≡ key_use self.old.key (self.old.used + 1)) }
         ensures spent { IsErrOf result SignAnswer.Spent ↔ (self.old.used ≡ all_leaves self.old.key) }
         ensures err { OnErr result (self.new ≡ self.old) }
+    {
+        let sig = self.next_signature(message)?;
+        self.use_leaf();
+        Ok(sig)
+    }
+
+    /// The next signature, of this message, whose leaf isn't used yet. A caller that needs room for what it
+    /// makes of the signature takes that room before it uses the leaf by `use_leaf`, and only then gives the
+    /// signature away: so want of memory costs no leaf, and no leaf signs two messages.
+    pub fn next_signature(&mut self, message: &[u8]) -> Result<Vec<u8>, SignAnswer>
+        ensures signature { IfOk result (λ sig. sig.items ≡ signature_at self.old.key self.old.used message.now) }
+        ensures verifies { IfOk result (λ sig. Verifies (key_public self.old.key) message.now sig.items) }
+        ensures short { IfOk result (λ sig. length sig.items ≤ longest_signature) }
+        ensures left { OnOk result (self.old.used < all_leaves self.old.key) }
+        ensures spent { IsErrOf result SignAnswer.Spent ↔ (self.old.used ≡ all_leaves self.old.key) }
+        ensures same { self.new ≡ self.old }
     {
         if self.left() == 0 {
             return Err(SignAnswer::Spent);
@@ -166,9 +183,15 @@ impl KeyState {
         )?;
         let signed = path.sign(self.alloc, self.used, message);
         self.path = Some(path);
-        let sig = signed?;
+        Ok(signed?)
+    }
+
+    /// Uses the next leaf, whose signature is given away.
+    pub fn use_leaf(&mut self)
+        requires { self.old.used < all_leaves self.old.key }
+        ensures { self.new ≡ key_use self.old.key (self.old.used + 1) }
+    {
         self.used += 1;
-        Ok(sig)
     }
 
     /// The signature of a message with number `m`, counted from 0, without using it.

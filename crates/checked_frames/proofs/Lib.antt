@@ -1,0 +1,9 @@
+pub mod RowLaws
+pub mod GroupSteps
+pub mod PathLaws
+pub mod KeyReads
+pub mod VerifyingLaws
+pub mod FieldReads
+pub mod SigningLaws
+pub mod InsideLaws
+pub mod StandingLaws

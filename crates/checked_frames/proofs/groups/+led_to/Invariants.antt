@@ -1,0 +1,4 @@
+use Rattle.checked_frames.proofs.groups.+led_to.Given as goal
+
+abbrev pub decreases-led_to : goal.decreases-led_to
+decreases-led_to l = l.levels

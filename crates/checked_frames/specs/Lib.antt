@@ -1,0 +1,6 @@
+pub mod Verifying
+pub mod Groups
+pub mod Levels
+pub mod Signing
+pub mod Kept
+pub mod Standing

@@ -1,0 +1,121 @@
+ghost use Rattle.std.specs.Prelude.{◌≡◌, ◌+◌, ◌<◌, ◌^◌, None, length, map, IsTrue, IsOk, IfOk, IfErr};
+ghost use Rattle.std.specs.List.{list_all};
+ghost use Rattle.message_types.specs.Spelling.{body_fits, has_spelling};
+ghost use Rattle.message_types.specs.Parts.{parts};
+ghost use Rattle.checked_frames.specs.Standing.{part_fault, fault_from, first_fault, stands, IsFault, said_by};
+
+use crate::frame_parts::put_inside;
+use crate::key_ring::KeyRing;
+use crate::refusal::CheckRefusal;
+use crate::signing::signs;
+use message_forms::text_of;
+use message_types::{Body, Frame, Signed};
+use plain_lists::{Copied, Want};
+use std::alloc::Global;
+use std::marker::Model;
+
+/// A frame that `check` found standing. It keeps that the frame has a spelling, so that in each of its lists the signers
+/// rise.
+#[derive(Drop)]
+pub struct Checked {
+    frame: Frame,
+}
+
+impl Model for Checked {
+    ghost use Rattle.message_types.specs.declared.signed.Signed.{Signed as SignedWord};
+    ghost use Rattle.message_types.specs.declared.body.Body.{Body as AnyBody};
+    ghost use Rattle.message_types.specs.Spelling.{has_spelling};
+    ghost use Rattle.std.specs.Prelude.{IsTrue};
+
+    ghost Value = { SignedWord AnyBody };
+
+    ghost view = { λ checked. checked.frame };
+
+    ghost invariant = { λ checked. IsTrue (has_spelling checked.frame) };
+}
+
+impl Checked {
+    pub fn frame(&self) -> &Frame
+        ensures frame { result.now ≡ self.now }
+        ensures spelled { IsTrue (has_spelling self.now) }
+    {
+        &self.frame
+    }
+}
+
+// The three tests of the part of this number.
+#[tactic(auto, unfolding(crate::specs::Standing::part_fault))]
+fn check_part(alloc: Global, ring: &KeyRing, part: u32, frame: &Frame) -> Result<(), CheckRefusal>
+    requires { IsTrue (body_fits frame.now.body) }
+    ensures none { IsOk result → part_fault ring.now part frame.now ≡ None }
+    ensures fault { IfErr result (λ refusal. IsFault refusal (part_fault ring.now part frame.now)) }
+{
+    let signer = frame.signer;
+    if !ring.has(signer) {
+        return Err(CheckRefusal::SignerUnknown { signer });
+    }
+    let text = text_of(alloc, &frame.body)?;
+    if !signs(ring.public(signer), &text, frame.sig.as_slice()) {
+        return Err(CheckRefusal::Unsigned { part });
+    }
+    if !ring.is_in_place(frame) {
+        return Err(CheckRefusal::Misplaced { part });
+    }
+    Ok(())
+}
+
+// The tests of these parts in order, the first of which is part 1.
+fn check_inner(alloc: Global, ring: &KeyRing, frames: &[Frame]) -> Result<(), CheckRefusal>
+    requires spelled { IsTrue (list_all (λ f. body_fits f.body) frames.now) }
+    requires few { length frames.now < 2 ^ 16 }
+    ensures none { IsOk result → fault_from ring.now 1 frames.now ≡ None }
+    ensures fault { IfErr result (λ refusal. IsFault refusal (fault_from ring.now 1 frames.now)) }
+{
+    let mut part = 1;
+    for frame in frames {
+        check_part(alloc, ring, part, frame)?;
+        part += 1;
+    }
+    Ok(())
+}
+
+/// Takes a frame that stands, or refuses it at the first test that its first faulty part fails. The frame itself is
+/// tried before those inside it are copied out; their signatures are shared.
+pub fn check(alloc: Global, ring: &KeyRing, frame: Frame) -> Result<Checked, CheckRefusal>
+    requires { IsTrue (has_spelling frame) }
+    ensures frame { IfOk result (λ checked. checked ≡ frame) }
+    ensures stands { IsOk result → IsTrue (stands ring.now frame) }
+    // Each refusal is the first fault, unless memory runs out.
+    ensures fault { IfErr result (λ refusal. IsFault refusal (first_fault ring.now frame)) }
+{
+    check_part(alloc, ring, 0, &frame)?;
+    let mut inner = Vec::new(alloc);
+    put_inside(&mut inner, &frame.body)?;
+    check_inner(alloc, ring, &inner)?;
+    Ok(Checked { frame })
+}
+
+fn pairs(alloc: Global, frames: Vec<Frame>) -> Result<Vec<(u32, Body)>, Want>
+    ensures { IfOk result (λ list. list.items ≡ map said_by frames.items) }
+{
+    let mut list = Vec::with_capacity(alloc, frames.len())?;
+    for frame in frames {
+        let Signed {
+            signer,
+            body,
+            sig: _,
+        } = frame;
+        list.push((signer, body))?;
+    }
+    Ok(list)
+}
+
+/// The parts of a frame that stands, in their order: who said what.
+pub fn parts(alloc: Global, checked: &Checked) -> Result<Vec<(u32, Body)>, Want>
+    ensures { IfOk result (λ list. list.items ≡ map said_by (parts checked.now)) }
+{
+    let mut frames = Vec::new(alloc);
+    frames.push(checked.frame.copy()?)?;
+    put_inside(&mut frames, &checked.frame.body)?;
+    pairs(alloc, frames)
+}

@@ -1,0 +1,17 @@
+//! Which frames stand: each of their parts is of an actor that is there, signed by it, and in its place. And the
+//! signatures of bodies, of which up to 32 share one leaf of a key.
+#![tactic(auto)]
+
+mod checked;
+mod frame_parts;
+mod groups;
+mod key_ring;
+pub mod laws;
+mod places;
+mod refusal;
+mod signing;
+
+pub use crate::checked::{Checked, check, parts};
+pub use crate::key_ring::KeyRing;
+pub use crate::refusal::CheckRefusal;
+pub use crate::signing::{sign_group, signs};

@@ -1,0 +1,10 @@
+//! Tests of frames as bytes and of real signatures, through the public calls of `message_forms` and `checked_frames`
+//! alone. The bytes are written here by hand, after `docs/FORMATS.md`.
+#![tactic(auto)]
+
+#[cfg(test)]
+mod bytes;
+#[cfg(test)]
+mod groups;
+#[cfg(test)]
+mod standing;
