@@ -1,0 +1,6 @@
+pub mod Booleans
+pub mod Given
+pub mod Meeting
+pub mod Voting
+pub mod Steps
+pub mod Least
