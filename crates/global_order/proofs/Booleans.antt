@@ -3,6 +3,7 @@ use Rattle.std.proofs.Common.{◌≡◌, ℕ, Bool, true, false, cond, ◌&&◌,
 use Rattle.std.specs.List.{filter_map, find, list_any, cons_option}
 use Rattle.std.specs.Option.{option_map}
 use Rattle.std.specs.Str.{bytes_eq}
+use Rattle.std.proofs.lemmas.Bool.{eq-eqb}
 use Rattle.std.proofs.lemmas.Bool.Decides.{nat_tests}
 use Rattle.std.proofs.lemmas.List.Folds.{list_any-append}
 use Rattle.std.proofs.lemmas.Slice.Eq.{bytes_eq-Decides}
@@ -130,3 +131,9 @@ find-passes p (y ∷ ys) x e = by (p y) refl e (find-passes p ys x)
 
 pub list_any-push : {X : Type 0} (p : X → Bool) (xs : List X) (x : X) → list_any p (xs ++ x ∷ []) ≡ (list_any p xs || p x)
 list_any-push p xs x = list_any-append p xs (x ∷ []) ∙ ap (λ b. list_any p xs || b) (or-false (p x))
+
+pub nat_eq-own : (a : ℕ) (d : List ℕ) → (nat_eq a a && bytes_eq d d) ≡ true
+nat_eq-own a d = ap (λ b. b && bytes_eq d d) (eq-eqb a a refl) ∙ bytes-alike d d refl
+
+pub same_pair-own : (k : ℕ × ℕ) (d : List ℕ) → (same_pair k k && bytes_eq d d) ≡ true
+same_pair-own k d = ap (λ b. (b && nat_eq k.1 k.1) && bytes_eq d d) (eq-eqb k.0 k.0 refl) ∙ nat_eq-own k.1 d

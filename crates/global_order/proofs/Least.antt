@@ -3,8 +3,8 @@ use Rattle.std.proofs.Common.{◌≡◌, ℕ, Bool, true, false, cond, ◌&&◌,
 use Rattle.std.specs.declared.cmp.Ordering.TheVariants as order
 use Rattle.std.specs.List.{find, list_any}
 use Rattle.std.specs.Option.{option_map, option_and_then}
-use Rattle.std.specs.Ordering.{is_lt, is_gt, is_eq, nat_cmp, ordering_reverse}
-use Rattle.std.specs.Cmp.Lexicographic.{slice_cmp}
+use Rattle.std.specs.Ordering.{is_some_and, is_lt, is_gt, is_eq, nat_cmp, ordering_reverse}
+use Rattle.std.specs.Cmp.Lexicographic.{slice_cmp, slice_partial_cmp, lists_agrees}
 use Rattle.std.specs.Str.{bytes_eq}
 use Rattle.std.proofs.lemmas.Cmp.{nat_list_cmp_total, tied_itself, upto}
 use Rattle.std.proofs.lemmas.Map.Text.{is_eq-slice_cmp}
@@ -213,3 +213,10 @@ least-more passes now d least more is = by least is
 pub least-alike : (passes now : List ℕ → Bool) (least : Option (List ℕ)) → ((e : List ℕ) → now e ≡ passes e) → IsLeast passes least → IsLeast now least
 least-alike passes now None same is = λ d. same d ∙ is d
 least-alike passes now (Some least) same is = (same least ∙ is.0, λ d there. is.1 d (sym (same d) ∙ there))
+
+-- `<` on digests
+pub below-is : (a b : List ℕ) → is_some_and is_lt (slice_partial_cmp (λ x y. Some (nat_cmp x y)) a b) ≡ digest_below a b
+below-is a b = ap (is_some_and is_lt) (lists_agrees (λ x y. refl) a b)
+
+pub lesser-is : (slot : Option (List ℕ)) (d least : List ℕ) (b : Bool) → slot ≡ Some least → b ≡ digest_below d least → Some (cond b d least) ≡ lesser slot d
+lesser-is slot d least b is test = sym (ap (λ o. lesser o d) is ∙ ap (λ x. Some (cond x d least)) (sym test))

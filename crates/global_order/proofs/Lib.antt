@@ -4,3 +4,4 @@ pub mod Meeting
 pub mod Voting
 pub mod Steps
 pub mod Least
+pub mod Settling

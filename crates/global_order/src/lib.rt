@@ -3,4 +3,8 @@
 //! contracts speak of that list, and beside them an index that agrees with the definitions over the list.
 #![tactic(auto)]
 
+mod choices;
+mod orders;
+mod quorum;
+mod slots;
 mod votes;
