@@ -1,5 +1,5 @@
 -- The index beside the list of facts: each part of it agrees with a definition over the list.
-use Rattle.std.specs.Prelude.{◌≡◌, ℕ, Bool, ◌&&◌, ◌||◌, List, ◌++◌, ◌∷◌, [], true, Option, Some, None, is_some, nat_eq, if◌then◌else◌}
+use Rattle.std.specs.Prelude.{◌≡◌, ℕ, suc, ◌≤◌, ◌<◌, IsSome, Bool, ◌&&◌, ◌||◌, List, ◌++◌, ◌∷◌, [], true, Option, Some, None, is_some, nat_eq, if◌then◌else◌}
 use Rattle.std.specs.List.{filter_map, find, list_any}
 use Rattle.std.specs.Option.{option_map}
 use Rattle.std.specs.Str.{bytes_eq}
@@ -17,7 +17,7 @@ use Rattle.protocol_rules.specs.Words.{or_else, first_of_list}
 use Rattle.protocol_rules.specs.Facts.{rows_known}
 use Rattle.protocol_rules.specs.Order.{prepare_by, commit_by, mark_by}
 use Rattle.message_types.specs.Digests.{digest_of_rows}
-use Rattle.protocol_rules.specs.Group.{Group}
+use Rattle.protocol_rules.specs.Group.{Group, most_number}
 use Rattle.protocol_rules.specs.Order.{is_voted, is_committed, prepared, ordered}
 use Rattle.global_order.specs.Choosing.{has_digest, is_known, IsChosen, IsLeast, lesser}
 use Rattle.global_order.specs.declared.slots.Slot.{Slot}
@@ -148,3 +148,26 @@ ordered_in g facts s = option_map digest_of_rows (ordered g facts s)
 -- the choices are those of these facts
 abbrev pub HasChoices : Group → List OrderFact → Choices → Type 0
 HasChoices g facts choices = Agrees (rows_known facts) (prepares_in g facts) (prepared_in g facts) (is_committed g facts) (ordered_in g facts) choices
+
+-- each quorum that waits has a place for its digest
+pub record HasPlaces (choices : Choices) : Type 0 where
+  pub prepared : (k : ℕ × ℕ) (d : List ℕ) → list_any (is_backing k d) choices.backed.items ≡ true → is_some (get same_pair choices.prepared k) ≡ true
+  pub ordered : (s : ℕ) (d : List ℕ) → list_any (is_ordering s d) choices.committed.items ≡ true → is_some (get nat_eq choices.ordered s) ≡ true
+
+-- the numbers from 1 to `reach`, and no further, are those that f gives something of without a gap
+pub record ReachesLess (f : ℕ → Option (List ℕ)) (reach : ℕ) : Type 0 where
+  pub limit : reach ≤ most_number
+  pub without_gap : (s : ℕ) → 1 ≤ s → s ≤ reach → IsSome (f s)
+
+pub record Reaches (f : ℕ → Option (List ℕ)) (reach : ℕ) : Type 0 where
+  pub limit : reach ≤ most_number
+  pub without_gap : (s : ℕ) → 1 ≤ s → s ≤ reach → IsSome (f s)
+  pub stops : reach < most_number → f (suc reach) ≡ None
+
+-- what is ordered stays ordered
+abbrev pub OrdersGrow : Map ℕ (Option (List ℕ)) → Map ℕ (Option (List ℕ)) → Type 0
+OrdersGrow old new = (s : ℕ) → IsSome (order_in (get nat_eq old s)) → IsSome (order_in (get nat_eq new s))
+
+-- the choice where all these rows are known too
+abbrev pub with_all : {K : Type 0} → (K → List ℕ → Bool) → (K → Option (List ℕ)) → List (List (List ℕ)) → K → Option (List ℕ)
+with_all backs first rows k = or_else (first k) (option_map digest_of_rows (find (λ r. backs k (digest_of_rows r)) rows))

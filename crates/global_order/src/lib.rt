@@ -4,7 +4,13 @@
 #![tactic(auto)]
 
 mod choices;
+mod due;
+mod offers;
+pub mod order;
 mod orders;
 mod quorum;
+mod said;
 mod slots;
 mod votes;
+
+pub use order::Order;

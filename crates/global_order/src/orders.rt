@@ -1,12 +1,15 @@
-ghost use Rattle.std.specs.Prelude.{◌≡◌, ℕ, List, None, Some, OnOk, IsTrue, is_some, nat_eq};
+ghost use Rattle.std.specs.Prelude.{◌≡◌, ◌≤◌, ℕ, List, None, Some, OnOk, IsTrue, is_some, nat_eq};
 ghost use Rattle.std.specs.List.{list_any};
 ghost use Rattle.indexmap.specs.IndexMap.{get};
 ghost use Rattle.protocol_rules.specs.Words.{or_else};
-ghost use Rattle.global_order.specs.Index.{order_in, is_ordering, KeepsOrders, TakesOrder};
+ghost use Rattle.global_order.specs.Index.{order_in, is_ordering, KeepsOrders, TakesOrder, Reaches, ReachesLess};
 
 use crate::quorum::Quorum;
 use indexmap::IndexMap;
 use plain_lists::Want;
+
+/// Global numbers go from 1 to this.
+pub const MOST_NUMBER: u64 = 4096;
 
 /// The digest that is ordered as each number that a quorum committed, where its rows are known.
 pub type Orders = IndexMap<u64, Option<[u8; 32]>>;
@@ -44,4 +47,26 @@ pub fn settle_orders(orders: &mut Orders, waiting: &[Quorum], digest: [u8; 32])
             put_order(orders, quorum.s, digest);
         }
     }
+}
+
+/// Whether a number is ordered.
+pub fn has_order(orders: &Orders, s: u64) -> bool
+    ensures { result ≡ is_some (order_in (get nat_eq orders.now s)) }
+{
+    match orders.get(&s) {
+        None => false,
+        Some(order) => order.is_some(),
+    }
+}
+
+/// Up to which number all are ordered, where they are up to `start`.
+pub fn run_end(orders: &Orders, start: u64) -> u64
+    ensures reaches { ReachesLess (λ s. order_in (get nat_eq orders.now s)) start → Reaches (λ s. order_in (get nat_eq orders.now s)) result }
+    ensures grows { start ≤ result }
+{
+    let mut end = start;
+    while end < MOST_NUMBER && has_order(orders, end + 1) {
+        end += 1;
+    }
+    end
 }
