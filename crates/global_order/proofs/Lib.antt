@@ -5,3 +5,9 @@ pub mod Voting
 pub mod Steps
 pub mod Least
 pub mod Settling
+pub mod Runs
+pub mod Ranges
+pub mod Answering
+pub mod Marking
+pub mod Alike
+pub mod Taking

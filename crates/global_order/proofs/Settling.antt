@@ -1,6 +1,8 @@
 -- What the slots and the orders' places hold after a digest is put, and what then agrees.
-use Rattle.std.proofs.Common.{◌≡◌, ℕ, zero, suc, ◌+◌, ◌<◌, Bool, true, false, cond, ◌&&◌, ◌||◌, List, [], ◌∷◌, ◌++◌, Option, Some, None, is_some, nat_eq, length, take, get_or, refl, sym, ◌∙◌, ap, arith, true≢false}
+use Rattle.std.proofs.Common.{◌≡◌, ℕ, zero, suc, ◌+◌, ◌<◌, Bool, true, false, cond, ◌&&◌, ◌||◌, List, [], ◌∷◌, ◌++◌, Option, Some, None, is_some, nat_eq, length, take, get_or, refl, sym, ◌∙◌, ap, subst, arith, append_assoc, true≢false}
 use Rattle.std.specs.List.{find, list_any}
+use Rattle.std.specs.Option.{option_map}
+use Rattle.std.proofs.lemmas.List.{append-nil}
 use Rattle.std.specs.Str.{bytes_eq}
 use Rattle.std.proofs.Math.Bool.{or-false}
 use Rattle.std.proofs.lemmas.List.Folds.{list_any_more}
@@ -8,11 +10,11 @@ use Rattle.indexmap.specs.IndexMap.{get}
 use Rattle.message_types.specs.Digests.{digest_of_rows}
 use Rattle.protocol_rules.specs.Words.{or_else}
 use Rattle.global_order.specs.Choosing.{has_digest, is_known, IsChosen, IsLeast, lesser}
-use Rattle.global_order.specs.Index.{Map, same_pair, first_in, least_in, order_in, is_backing, is_ordering, TakesDigest, KeepsSlots, TakesOrder, KeepsOrders, HasRows, Agrees, with_rows, with_quorum, with_choice}
+use Rattle.global_order.specs.Index.{Map, with_all, same_pair, first_in, least_in, order_in, is_backing, is_ordering, TakesDigest, KeepsSlots, TakesOrder, KeepsOrders, HasRows, Agrees, with_rows, with_quorum, with_choice}
 use Rattle.global_order.specs.declared.slots.Slot.{Slot}
 use Rattle.global_order.specs.declared.quorum.Quorum.{Quorum}
 use Rattle.global_order.specs.declared.choices.Choices.{Choices}
-use Rattle.global_order.proofs.Booleans.{bytes-same, same_pair-same, nat_eq-same, none_there, or_else-none, list_any-push, find-append, find-some, stays, taken}
+use Rattle.global_order.proofs.Booleans.{bytes-same, same_pair-same, nat_eq-same, none_there, or_else-none, or_else-assoc, option_map-cond, option_map-or_else, list_any-push, find-append, find-some, stays, taken}
 use Rattle.global_order.proofs.Least.{below-irreflexive, least-more, least-alike}
 use Rattle.global_order.proofs.Steps.{chosen-again, chosen-rows-new, chosen-backed, chosen-waits, chosen-alike}
 use Rattle.protocol_rules.specs.Plans.{digest_below}
@@ -308,3 +310,58 @@ agrees-pending known q prepares first commits order c after absent place pushed 
   where
     unknown : is_known known q.digest ≡ false
     unknown = sym (known-is known c.rows q.digest agrees.rows) ∙ sym absent
+
+-- an empty slot changes nothing
+pub keeps-slots : (old new : Map (ℕ × ℕ) Slot) (key : ℕ × ℕ) (slot : Slot) → false ≡ is_some (get same_pair old key) → slot.first ≡ None → slot.least ≡ None →
+    ((k : ℕ × ℕ) → get same_pair new k ≡ cond (same_pair key k) (Some slot) (get same_pair old k)) → KeepsSlots old new
+keeps-slots old new key slot absent first least put = record {
+  first = λ k. ap first_in (put k) ∙ at-first k (same_pair key k) refl;
+  least = λ k. ap least_in (put k) ∙ at-least k (same_pair key k) refl;
+  places = λ k there. ap is_some (put k) ∙ at-place k (same_pair key k) there;
+}
+  where
+    none : (k : ℕ × ℕ) → same_pair key k ≡ true → get same_pair old k ≡ None
+    none k e = ap (get same_pair old) (sym (same_pair-same key k e)) ∙ none_there (get same_pair old key) absent
+
+    at-first : (k : ℕ × ℕ) (b : Bool) → same_pair key k ≡ b → first_in (cond b (Some slot) (get same_pair old k)) ≡ first_in (get same_pair old k)
+    at-first k true e = first ∙ sym (ap first_in (none k e))
+    at-first k false e = refl
+
+    at-least : (k : ℕ × ℕ) (b : Bool) → same_pair key k ≡ b → least_in (cond b (Some slot) (get same_pair old k)) ≡ least_in (get same_pair old k)
+    at-least k true e = least ∙ sym (ap least_in (none k e))
+    at-least k false e = refl
+
+    at-place : (k : ℕ × ℕ) (b : Bool) → is_some (get same_pair old k) ≡ true → is_some (cond b (Some slot) (get same_pair old k)) ≡ true
+    at-place k true e = refl
+    at-place k false e = e
+
+-- one more of several rows
+more-of : {K : Type 0} (backs : K → List ℕ → Bool) (first : K → Option (List ℕ)) (rows : List (List (List ℕ))) (r : List (List ℕ)) (k : K) →
+    with_rows backs (with_all backs first rows) (digest_of_rows r) k ≡ with_all backs first (rows ++ r ∷ []) k
+more-of backs first rows r k =
+    or_else-assoc (first k) (option_map digest_of_rows (find (λ x. backs k (digest_of_rows x)) rows)) (cond (backs k (digest_of_rows r)) (Some (digest_of_rows r)) None)
+    ∙ ap (or_else (first k)) (ap (or_else (option_map digest_of_rows (find (λ x. backs k (digest_of_rows x)) rows))) (sym (option_map-cond digest_of_rows (backs k (digest_of_rows r)) r))
+    ∙ sym (ap (option_map digest_of_rows) (find-append (λ x. backs k (digest_of_rows x)) rows (r ∷ []))
+    ∙ option_map-or_else digest_of_rows (find (λ x. backs k (digest_of_rows x)) rows) (cond (backs k (digest_of_rows r)) (Some r) None)))
+
+-- what agrees with tests and choices agrees with the same ones
+pub agrees-alike : (known now : List (List (List ℕ))) (prepares prepares_now : ℕ × ℕ → List ℕ → Bool) (first first_now : ℕ × ℕ → Option (List ℕ)) (commits commits_now : ℕ → List ℕ → Bool) (order order_now : ℕ → Option (List ℕ)) (c : Choices) →
+    known ≡ now → ((k : ℕ × ℕ) (d : List ℕ) → prepares k d ≡ prepares_now k d) → ((k : ℕ × ℕ) → first k ≡ first_now k) → ((s : ℕ) (d : List ℕ) → commits s d ≡ commits_now s d) → ((s : ℕ) → order s ≡ order_now s) →
+    Agrees known prepares first commits order c → Agrees now prepares_now first_now commits_now order_now c
+agrees-alike known now prepares prepares_now first first_now commits commits_now order order_now c rows one two three four agrees =
+    subst (λ (T : Type 0). T) (λ i. Agrees (rows i) (λ k d. one k d i) (λ k. two k i) (λ s d. three s d i) (λ s. four s i) c) agrees
+
+pub agrees-one_more : (known rows : List (List (List ℕ))) (r : List (List ℕ)) (prepares : ℕ × ℕ → List ℕ → Bool) (first : ℕ × ℕ → Option (List ℕ)) (commits : ℕ → List ℕ → Bool) (order : ℕ → Option (List ℕ)) (c : Choices) →
+    Agrees ((known ++ rows) ++ r ∷ []) prepares (with_rows prepares (with_all prepares first rows) (digest_of_rows r)) commits (with_rows commits (with_all commits order rows) (digest_of_rows r)) c →
+    Agrees (known ++ (rows ++ r ∷ [])) prepares (with_all prepares first (rows ++ r ∷ [])) commits (with_all commits order (rows ++ r ∷ [])) c
+agrees-one_more known rows r prepares first commits order c agrees =
+    agrees-alike _ _ _ _ _ _ _ _ _ _ c (append_assoc known rows (r ∷ [])) (λ k d. refl) (more-of prepares first rows r) (λ s d. refl) (more-of commits order rows r) agrees
+
+pub agrees-no_more : (known : List (List (List ℕ))) (prepares : ℕ × ℕ → List ℕ → Bool) (first : ℕ × ℕ → Option (List ℕ)) (commits : ℕ → List ℕ → Bool) (order : ℕ → Option (List ℕ)) (c : Choices) →
+    Agrees known prepares first commits order c → Agrees (known ++ []) prepares (with_all prepares first []) commits (with_all commits order []) c
+agrees-no_more known prepares first commits order c agrees =
+    agrees-alike _ _ _ _ _ _ _ _ _ _ c (sym (append-nil known)) (λ k d. refl) (λ k. sym (or_else-none (first k))) (λ s d. refl) (λ s. sym (or_else-none (order s))) agrees
+
+pub none_left : {X : Type 0} (xs : List X) → length xs ≡ 0 → xs ≡ []
+none_left [] e = refl
+none_left (x ∷ xs) e = absurd (omega arith)

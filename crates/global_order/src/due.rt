@@ -115,7 +115,8 @@ fn first_digest(slots: &Slots, v: u64, s: u64) -> Option<[u8; 32]>
 
 /// Adds the marks due for the numbers after `marked` up to `reach`.
 pub fn push_marks(bodies: &mut Vec<Body>, marked: u64, reach: u64) -> Result<(), Want>
-    requires { reach < 2 ^ 32 }
+    requires reach { reach < 2 ^ 32 }
+    requires marked { marked ≤ reach }
     ensures { OnOk result ((words : List Word) → HasMarked words marked
         → bodies.new.items ≡ bodies.old.items ++ flat_map (mark_due words) (numbers_from (marked + 1) (reach - marked))) }
 {

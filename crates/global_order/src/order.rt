@@ -9,7 +9,7 @@ ghost use Rattle.global_order.specs.Taken.{IsOrderOf, bodies_due};
 use crate::choices::{Choices, learn, learn_all, note_if_committed, note_if_prepared};
 use crate::due::{push_commits, push_marks, push_prepares};
 use crate::offers::{Offers, note_plan, note_proposal, offered_in, plan_of_view};
-use crate::orders::{make_order, run_end};
+use crate::orders::{make_order, order_of, run_end};
 use crate::said::{Said, note_said};
 use crate::slots::make_slot;
 use crate::votes::{Marks, Votes, count_marks, count_votes, note_mark, note_vote};
@@ -240,10 +240,8 @@ impl Order {
     pub fn ordered(&self, s: u64) -> Option<&Rows>
         ensures { (g : Group) → IsOrderOf g self.now → option_copied result ≡ rules.ordered g self.now.facts s }
     {
-        match self.choices.ordered.get(&s) {
-            Some(Some(digest)) => self.choices.rows.get(digest),
-            _ => None,
-        }
+        let digest = order_of(&self.choices.ordered, s)?;
+        self.choices.rows.get(&digest)
     }
 
     /// Up to which number all are ordered.

@@ -49,13 +49,13 @@ pub fn settle_orders(orders: &mut Orders, waiting: &[Quorum], digest: [u8; 32])
     }
 }
 
-/// Whether a number is ordered.
-pub fn has_order(orders: &Orders, s: u64) -> bool
-    ensures { result ≡ is_some (order_in (get nat_eq orders.now s)) }
+/// The digest that is ordered as a number.
+pub fn order_of(orders: &Orders, s: u64) -> Option<[u8; 32]>
+    ensures { result ≡ order_in (get nat_eq orders.now s) }
 {
     match orders.get(&s) {
-        None => false,
-        Some(order) => order.is_some(),
+        None => None,
+        Some(order) => *order,
     }
 }
 
@@ -65,7 +65,7 @@ pub fn run_end(orders: &Orders, start: u64) -> u64
     ensures grows { start ≤ result }
 {
     let mut end = start;
-    while end < MOST_NUMBER && has_order(orders, end + 1) {
+    while end < MOST_NUMBER && order_of(orders, end + 1).is_some() {
         end += 1;
     }
     end
