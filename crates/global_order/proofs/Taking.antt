@@ -24,8 +24,11 @@ use Rattle.protocol_rules.specs.Facts.{rows_in, rows_known}
 use Rattle.protocol_rules.specs.Order.{prepare_by, commit_by, mark_by, is_voted, commit_views, is_committed, prepared, ordered, stable, plan_in, proposal_in}
 use Rattle.global_order.specs.Choosing.{is_known}
 use Rattle.global_order.specs.Taken.{HasSizes}
-use Rattle.global_order.specs.Index.{Map, Vote, given, vote_at, mark_at, HasPrepares, HasCommits, HasMarks, Agrees, HasChoices, same_pair, prepares_in, prepared_in, ordered_in, with_rows, with_all, with_quorum, with_choice}
-use Rattle.global_order.specs.Offered.{HasOffers}
+use Rattle.global_order.specs.Index.{Map, Vote, TakesFirst, given, vote_at, mark_at, HasPrepares, HasCommits, HasMarks, Agrees, HasChoices, same_pair, prepares_in, prepared_in, ordered_in, with_rows, with_all, with_quorum, with_choice}
+use Rattle.std.specs.Map.{lookup}
+use Rattle.message_types.specs.declared.views.Plan.{Plan}
+use Rattle.message_types.specs.Spelling.{rows_fit}
+use Rattle.global_order.specs.Offered.{HasOffers, OffersFit, fits, plan_fits}
 use Rattle.global_order.specs.declared.choices.Choices.{Choices}
 use Rattle.global_order.specs.declared.offers.Offers.{Offers}
 use Rattle.global_order.proofs.Booleans.{and-parts, bytes-same, nat_eq-same, same_pair-same, nat_eq-own, first_of_list-push, list_any-push, or_else-none, option_map-cond}
@@ -423,3 +426,58 @@ stable-mark g n q facts x new count was raised sizes has count_is was_is is =
     by false e low = λ i. greatest_to (λ s. sym (same e s) i) 4096
     by true e (inr low) = ap (λ b. cond b (max (greatest_to (λ s. is_voted g (mark_by s) facts) 4096) x.body.s) (greatest_to (λ s. is_voted g (mark_by s) facts) 4096)) (le-leb x.body.s 4096 low) ∙ sym (greatest-with (λ s. is_voted g (mark_by s) facts) (λ s. is_voted g (mark_by s) (facts ++ fact.Mark x ∷ [])) x.body.s 4096 (marks-apart g facts x) e low)
     by true e (inl high) = ap (λ b. cond b (max (greatest_to (λ s. is_voted g (mark_by s) facts) 4096) x.body.s) (greatest_to (λ s. is_voted g (mark_by s) facts) 4096)) (lt-leb x.body.s 4096 high) ∙ sym (greatest-beyond (λ s. is_voted g (mark_by s) facts) (λ s. is_voted g (mark_by s) (facts ++ fact.Mark x ∷ [])) x.body.s 4096 (marks-apart g facts x) high)
+
+-- what a map held, in other room, is there still, and takes one more
+pub taken-first : {K X : Type 0} (same : K → K → Bool) (old mid new : Map K X) (key : K) (x : X) → mid.entries ≡ old.entries → TakesFirst same mid new key x → TakesFirst same old new key x
+taken-first same old mid new key x like takes k = takes k ∙ ap (λ es. or_else (lookup (same k) es) (cond (same key k) (Some x) None)) like
+
+pub offers-proposal : (facts : List OrderFact) (v s : ℕ) (rows : List (List ℕ)) (offers : Offers) (new : Map (ℕ × ℕ) (List (List ℕ))) → TakesFirst same_pair offers.proposals new (v, s) rows → HasOffers facts offers →
+    HasOffers (facts ++ fact.Proposal v s rows ∷ []) record { first_plan = offers.first_plan; plans = offers.plans; proposals = new }
+offers-proposal facts v s rows offers new takes has = record {
+  first = has.first;
+  plans = λ w. has.plans w ∙ sym (first-other (plan_in w) facts (fact.Proposal v s rows) refl);
+  proposals = λ w t. takes (w, t) ∙ ap (λ o. or_else o (cond (same_pair (v, s) (w, t)) (Some rows) None)) (has.proposals w t) ∙ sym (first_of_list-push (proposal_in w t) facts (fact.Proposal v s rows));
+}
+
+pub offers-plan : (facts : List OrderFact) (v : ℕ) (plan : Plan) (offers : Offers) (new : Map ℕ Plan) → TakesFirst nat_eq offers.plans new v plan → HasOffers facts offers →
+    HasOffers (facts ++ fact.Plan v plan ∷ []) record { first_plan = offers.first_plan; plans = new; proposals = offers.proposals }
+offers-plan facts v plan offers new takes has = record {
+  first = has.first;
+  plans = λ w. takes w ∙ ap (λ o. or_else o (cond (nat_eq v w) (Some plan) None)) (has.plans w) ∙ sym (first_of_list-push (plan_in w) facts (fact.Plan v plan));
+  proposals = λ w t. has.proposals w t ∙ sym (first-other (proposal_in w t) facts (fact.Plan v plan) refl);
+}
+
+pub fit-proposal : (key : ℕ × ℕ) (rows : List (List ℕ)) (offers : Offers) (new : Map (ℕ × ℕ) (List (List ℕ))) → rows_fit rows ≡ true → TakesFirst same_pair offers.proposals new key rows → OffersFit offers →
+    OffersFit record { first_plan = offers.first_plan; plans = offers.plans; proposals = new }
+fit-proposal key rows offers new fit takes fits_all = record {
+  first = fits_all.first;
+  plans = fits_all.plans;
+  proposals = λ k. ap fits (takes k) ∙ by (get same_pair offers.proposals k) (same_pair key k) (fits_all.proposals k);
+}
+  where
+    by : (o : Option (List (List ℕ))) (b : Bool) → fits o ≡ true → fits (or_else o (cond b (Some rows) None)) ≡ true
+    by (Some r) b e = e
+    by None true e = fit
+    by None false e = refl
+
+pub fit-plan : (v : ℕ) (plan : Plan) (offers : Offers) (new : Map ℕ Plan) → list_all rows_fit plan.rows ≡ true → TakesFirst nat_eq offers.plans new v plan → OffersFit offers →
+    OffersFit record { first_plan = offers.first_plan; plans = new; proposals = offers.proposals }
+fit-plan v plan offers new fit takes fits_all = record {
+  first = fits_all.first;
+  plans = λ w. ap plan_fits (takes w) ∙ by (get nat_eq offers.plans w) (nat_eq v w) (fits_all.plans w);
+  proposals = fits_all.proposals;
+}
+  where
+    by : (o : Option Plan) (b : Bool) → plan_fits o ≡ true → plan_fits (or_else o (cond b (Some plan) None)) ≡ true
+    by (Some r) b e = e
+    by None true e = fit
+    by None false e = refl
+
+pub raised-limit : (b : Bool) (was s : ℕ) → was ≤ most_number → cond (b && nat_le s 4096) (max was s) was ≤ most_number
+unfolding most_number
+raised-limit false was s le = le
+raised-limit true was s le = by (cases_lt 4096 s)
+  where
+    by : (4096 < s) ⊎ (s ≤ 4096) → cond (nat_le s 4096) (max was s) was ≤ 4096
+    by (inl high) = let e : nat_le s 4096 ≡ false = lt-leb s 4096 high in rw e le
+    by (inr low) = let e : nat_le s 4096 ≡ true = le-leb s 4096 low in rw e (omega arith)

@@ -97,12 +97,12 @@ impl Order {
         ensures taken { OnOk result (self.new ≡ record self.old { facts = self.old.facts ++ fact.Proposal v s rows.now ∷ [] }) }
         ensures refused { OnErr result (self.new ≡ self.old) }
     {
-        self.facts.reserve(1)?;
-        self.choices.rows.reserve(1)?;
-        self.offers.proposals.reserve(1)?;
         let known = rows.copy()?;
         let offered = rows.copy()?;
         let rows = rows.copy()?;
+        self.facts.reserve(1)?;
+        self.choices.rows.reserve(1)?;
+        self.offers.proposals.reserve(1)?;
         learn(&mut self.choices, known);
         self.gapless = run_end(&self.choices.ordered, self.gapless);
         note_proposal(&mut self.offers.proposals, v, s, offered);
@@ -117,10 +117,10 @@ impl Order {
     {
         let Prepare { v, s, digest } = frame.body;
         let vote = (v, s, digest, frame.signer);
+        let own = frame.copy()?;
         self.facts.reserve(1)?;
         self.choices.backed.reserve(1)?;
         make_slot(&mut self.choices.prepared, v, s)?;
-        let own = frame.copy()?;
         let before = count_votes(&self.prepares, self.sizes.n, v, s, digest);
         note_vote(&mut self.prepares, vote, &frame.sig)?;
         let after = count_votes(&self.prepares, self.sizes.n, v, s, digest);
@@ -137,10 +137,10 @@ impl Order {
     {
         let Commit { v, s, digest } = frame.body;
         let vote = (v, s, digest, frame.signer);
+        let own = frame.copy()?;
         self.facts.reserve(1)?;
         self.choices.committed.reserve(1)?;
         make_order(&mut self.choices.ordered, s)?;
-        let own = frame.copy()?;
         let before = count_votes(&self.commits, self.sizes.n, v, s, digest);
         note_vote(&mut self.commits, vote, &frame.sig)?;
         let after = count_votes(&self.commits, self.sizes.n, v, s, digest);
@@ -157,8 +157,8 @@ impl Order {
         ensures refused { OnErr result (self.new ≡ self.old) }
     {
         let s = frame.body.s;
-        self.facts.reserve(1)?;
         let own = frame.copy()?;
+        self.facts.reserve(1)?;
         note_mark(&mut self.marks, (s, frame.signer), &frame.sig)?;
         let count = count_marks(&self.marks, self.sizes.n, s);
         self.stable = raised(self.stable, s, count >= self.sizes.q);
@@ -172,10 +172,10 @@ impl Order {
         ensures taken { OnOk result (self.new ≡ record self.old { facts = self.old.facts ++ fact.Rows rows.now ∷ [] }) }
         ensures refused { OnErr result (self.new ≡ self.old) }
     {
-        self.facts.reserve(1)?;
-        self.choices.rows.reserve(1)?;
         let known = rows.copy()?;
         let own = rows.copy()?;
+        self.facts.reserve(1)?;
+        self.choices.rows.reserve(1)?;
         learn(&mut self.choices, known);
         self.gapless = run_end(&self.choices.ordered, self.gapless);
         self.facts.push(OrderFact::Rows(own)).unwrap();
@@ -188,16 +188,16 @@ impl Order {
         ensures taken { OnOk result (self.new ≡ record self.old { facts = self.old.facts ++ fact.Plan v plan.now ∷ [] }) }
         ensures refused { OnErr result (self.new ≡ self.old) }
     {
-        self.facts.reserve(1)?;
-        self.choices.rows.reserve(plan.rows.len())?;
-        self.offers.plans.reserve(1)?;
         let known = plan.rows.copy()?;
         let offered = plan.copy()?;
-        let plan = plan.copy()?;
+        let own = plan.copy()?;
+        self.facts.reserve(1)?;
+        self.choices.rows.reserve(known.len())?;
+        self.offers.plans.reserve(1)?;
         learn_all(&mut self.choices, known.into_vec());
         self.gapless = run_end(&self.choices.ordered, self.gapless);
         note_plan(&mut self.offers.plans, v, offered);
-        self.facts.push(OrderFact::Plan { v, plan }).unwrap();
+        self.facts.push(OrderFact::Plan { v, plan: own }).unwrap();
         Ok(())
     }
 
