@@ -11,3 +11,5 @@ pub mod Answering
 pub mod Marking
 pub mod Alike
 pub mod Taking
+pub mod Saying
+pub mod Beginning
