@@ -2,7 +2,7 @@
 use Rattle.std.proofs.Common.{◌≡◌, ℕ, zero, suc, ◌+◌, ◌≤◌, ◌<◌, Bool, true, false, cond, List, [], ◌∷◌, ◌++◌, Option, Some, None, is_some, length, refl, sym, ◌∙◌, ap, arith, add-one, add-zero, length-append}
 use mir.Val.{bool_byte}
 use Rattle.std.specs.List.{filter_map, cons_option}
-use Rattle.std.specs.Option.{option_map}
+use Rattle.std.specs.Option.{option_map, option_to_list}
 use Rattle.std.proofs.lemmas.List.Elements.{filter_map-append}
 use Rattle.quorum_sets.specs.Masters.{numbers_below}
 use Rattle.quorum_sets.proofs.MastersLemmas.{numbers_below-suc}
@@ -50,3 +50,7 @@ at_most_one false = omega arith
 pub bool_byte-cond : (b : Bool) → bool_byte b ≡ cond b 1 0
 bool_byte-cond true = refl
 bool_byte-cond false = refl
+
+pub option-list : {X : Type 0} (o : Option X) → option_to_list o ≡ cons_option o []
+option-list None = refl
+option-list (Some x) = refl

@@ -13,3 +13,4 @@ pub mod Alike
 pub mod Taking
 pub mod Saying
 pub mod Beginning
+pub mod Certifying

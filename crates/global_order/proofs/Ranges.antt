@@ -53,7 +53,7 @@ narrow {X} f count low high one high_fits before after = by (count + 1 - low) re
         ∙ ap (λ s. flat_map f (numbers_from s (count + 1 - low))) start
         ∙ tail f low (count + 1 - low) (high - low) (omega arith) (λ k le less. after k (omega arith) (omega arith))
 
-numbers_from-more : (start count : ℕ) → numbers_from start (suc count) ≡ numbers_from start count ++ (start + count) ∷ []
+pub numbers_from-more : (start count : ℕ) → numbers_from start (suc count) ≡ numbers_from start count ++ (start + count) ∷ []
 unfolding numbers_from
 numbers_from-more start zero = let same : start ≡ start + 0 = omega arith in ap (λ x. x ∷ []) same
 numbers_from-more start (suc count) =

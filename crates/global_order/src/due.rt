@@ -13,7 +13,7 @@ ghost use Rattle.global_order.specs.Saying.{HasSaidPrepares, HasSaidCommits, Has
 
 use crate::offers::{Offers, offered_in};
 use crate::said::Places;
-use crate::slots::Slots;
+use crate::slots::{Slots, first_digest};
 use message_digests::rows_digest;
 use message_types::{Body, Commit, Mark, Prepare};
 use plain_lists::Want;
@@ -101,15 +101,6 @@ fn push_commit(
             bodies.push(Body::Commit(Commit { v, s, digest }))?;
             Ok(())
         }
-    }
-}
-
-fn first_digest(slots: &Slots, v: u64, s: u64) -> Option<[u8; 32]>
-    ensures { result ≡ first_in (get same_pair slots.now (v, s)) }
-{
-    match slots.get(&(v, s)) {
-        None => None,
-        Some(slot) => slot.first,
     }
 }
 

@@ -3,14 +3,18 @@
 //! contracts speak of that list, and beside them an index that agrees with the definitions over the list.
 #![tactic(auto)]
 
+mod certificates;
 mod choices;
 mod due;
+pub mod laws;
 mod offers;
 pub mod order;
 mod orders;
 mod quorum;
 mod said;
 mod slots;
+#[cfg(test)]
+mod tests;
 mod votes;
 
 pub use order::Order;

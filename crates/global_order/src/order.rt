@@ -6,6 +6,7 @@ ghost use Rattle.protocol_rules.specs.Group.{Group};
 ghost use Rattle.protocol_rules.specs.Order as rules;
 ghost use Rattle.global_order.specs.Taken.{IsOrderOf, bodies_due};
 
+use crate::certificates::{last_certificate_of, marks_of, push_certificate};
 use crate::choices::{Choices, learn, learn_all, note_if_committed, note_if_prepared};
 use crate::due::{push_commits, push_marks, push_prepares};
 use crate::offers::{Offers, note_plan, note_proposal, offered_in, plan_of_view};
@@ -14,7 +15,7 @@ use crate::said::{Said, note_said};
 use crate::slots::make_slot;
 use crate::votes::{Marks, Votes, count_marks, count_votes, note_mark, note_vote};
 use indexmap::{IndexMap, IndexSet};
-use message_types::{Body, Commit, Mark, Plan, Prepare, Rows, Signed};
+use message_types::{Body, Certificate, Commit, Mark, Plan, Prepare, Rows, Signed};
 use plain_lists::{Copied, Items, Want};
 use protocol_rules::OrderFact;
 use quorum_sets::Sizes;
@@ -256,6 +257,37 @@ impl Order {
         ensures { (g : Group) → IsOrderOf g self.now → result ≡ rules.stable g self.now.facts }
     {
         self.stable
+    }
+
+    /// The marks that show the stable number: the first ones of the `q` lowest masters. None for 0.
+    pub fn marks(&self) -> Result<Vec<Signed<Mark>>, Want>
+        ensures { IfOk result (λ marks. (g : Group) → IsOrderOf g self.now → marks.items ≡ rules.marks_for g self.now.facts (rules.stable g self.now.facts)) }
+    {
+        if self.stable == 0 {
+            return Ok(Vec::new(self.alloc));
+        }
+        marks_of(self.alloc, &self.marks, &self.sizes, self.stable)
+    }
+
+    /// What a report of view `below` brings: for each of the 16 numbers after the stable one that has a known
+    /// certificate of a view below this, that of the highest one. The certificate holds the first prepares of the
+    /// `q` lowest masters; of several of one view it is that of the least digest.
+    pub fn certificates(&self, below: u64) -> Result<Vec<Certificate>, Want>
+        ensures { IfOk result (λ certificates. (g : Group) → IsOrderOf g self.now → certificates.items ≡ rules.certificates_below g self.now.facts below) }
+    {
+        let mut certificates = Vec::new(self.alloc);
+        for s in self.stable + 1..self.stable + WINDOW + 1 {
+            let certificate = last_certificate_of(
+                self.alloc,
+                &self.choices,
+                &self.prepares,
+                &self.sizes,
+                below,
+                s,
+            )?;
+            push_certificate(&mut certificates, certificate)?;
+        }
+        Ok(certificates)
     }
 
     /// The plan of view `v`. None exactly where none is known; view 0 has an empty one.

@@ -84,3 +84,23 @@ pub fn settle_slots(slots: &mut Slots, waiting: &[Quorum], digest: [u8; 32])
         }
     }
 }
+
+/// The digest that was prepared first in a view as a number.
+pub fn first_digest(slots: &Slots, v: u64, s: u64) -> Option<[u8; 32]>
+    ensures { result ≡ first_in (get same_pair slots.now (v, s)) }
+{
+    match slots.get(&(v, s)) {
+        None => None,
+        Some(slot) => slot.first,
+    }
+}
+
+/// The least digest that was prepared in a view as a number.
+pub fn least_digest(slots: &Slots, v: u64, s: u64) -> Option<[u8; 32]>
+    ensures { result ≡ least_in (get same_pair slots.now (v, s)) }
+{
+    match slots.get(&(v, s)) {
+        None => None,
+        Some(slot) => slot.least,
+    }
+}
