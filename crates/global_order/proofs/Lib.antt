@@ -1,0 +1,16 @@
+pub mod Booleans
+pub mod Given
+pub mod Meeting
+pub mod Voting
+pub mod Steps
+pub mod Least
+pub mod Settling
+pub mod Runs
+pub mod Ranges
+pub mod Answering
+pub mod Marking
+pub mod Alike
+pub mod Taking
+pub mod Saying
+pub mod Beginning
+pub mod Certifying

@@ -1,0 +1,483 @@
+-- What one fact more changes of the choices, the offers and the stable number.
+use Rattle.std.proofs.Common.{◌≡◌, ℕ, zero, suc, ◌+◌, ◌≤◌, ◌<◌, ◌⊎◌, inl, inr, max, Bool, true, false, cond, ◌&&◌, ◌||◌, not, List, [], ◌∷◌, ◌++◌, Option, Some, None, is_some, length, nat_eq, nat_le, refl, sym, ◌∙◌, ap, subst, arith, true≢false}
+use Rattle.std.specs.Bool.{OnTrue, OnFalse}
+use Rattle.std.specs.List.{filter_map, list_any, list_all, cons_option, find}
+use Rattle.std.specs.Option.{option_map}
+use Rattle.std.specs.Str.{bytes_eq}
+use Rattle.std.proofs.Math.Bool.{or-false}
+use Rattle.std.proofs.lemmas.Bool.{le-leb, lt-leb, leb-true, cases_lt, cases_eq, eq-eqb, ne_eqb}
+use Rattle.std.proofs.lemmas.List.{append-nil}
+use Rattle.std.proofs.lemmas.List.Elements.{filter_map-append}
+use Rattle.std.proofs.lemmas.List.Folds.{list_any-append}
+use Rattle.indexmap.specs.IndexMap.{get}
+use Rattle.message_types.specs.declared.signed.Signed.{Signed}
+use Rattle.message_types.specs.declared.ordering.Prepare.{Prepare}
+use Rattle.message_types.specs.declared.ordering.Commit.{Commit}
+use Rattle.message_types.specs.declared.ordering.Mark.{Mark}
+use Rattle.message_types.specs.Digests.{digest_of_rows}
+use Rattle.quorum_sets.specs.Masters.{numbers_below}
+use Rattle.protocol_rules.specs.declared.facts.OrderFact.{OrderFact}
+use Rattle.protocol_rules.specs.declared.facts.OrderFact.TheVariants as fact
+use Rattle.protocol_rules.specs.Words.{or_else, first_of_list, greatest_to}
+use Rattle.protocol_rules.specs.Group.{Group, most_number}
+use Rattle.protocol_rules.specs.Facts.{rows_in, rows_known}
+use Rattle.protocol_rules.specs.Order.{prepare_by, commit_by, mark_by, is_voted, commit_views, is_committed, prepared, ordered, stable, plan_in, proposal_in}
+use Rattle.global_order.specs.Choosing.{is_known}
+use Rattle.global_order.specs.Taken.{HasSizes}
+use Rattle.global_order.specs.Index.{Map, Vote, TakesFirst, given, vote_at, mark_at, HasPrepares, HasCommits, HasMarks, Agrees, HasChoices, same_pair, prepares_in, prepared_in, ordered_in, with_rows, with_all, with_quorum, with_choice}
+use Rattle.std.specs.Map.{lookup}
+use Rattle.message_types.specs.declared.views.Plan.{Plan}
+use Rattle.message_types.specs.Spelling.{rows_fit}
+use Rattle.global_order.specs.Offered.{HasOffers, OffersFit, fits, plan_fits}
+use Rattle.global_order.specs.declared.choices.Choices.{Choices}
+use Rattle.global_order.specs.declared.offers.Offers.{Offers}
+use Rattle.global_order.proofs.Booleans.{and-parts, bytes-same, nat_eq-same, same_pair-same, nat_eq-own, first_of_list-push, list_any-push, or_else-none, option_map-cond}
+use Rattle.global_order.proofs.Meeting.{chosen-same, chosen-newly, chosen-rows, rows_known-push, first_backed}
+use Rattle.global_order.proofs.Settling.{agrees-alike}
+use Rattle.global_order.proofs.Voting.{first-other, voted-other, voted-stays, prepares-apart, prepares-quorum, commits-apart, commits-quorum, marks-quorum}
+
+false-and : (b : Bool) → (b && false) ≡ false
+false-and true = refl
+false-and false = refl
+
+-- the view of a commit for a number and a digest
+abbrev view_of : ℕ → List ℕ → OrderFact → Option ℕ
+view_of s digest f = elim f [ fact.Commit c ↦ cond (nat_eq c.body.s s && bytes_eq c.body.digest digest) (Some c.body.v) None | _ ↦ None ]
+
+-- the fact is no vote that the choices go by
+pub record IsNoVote (x : OrderFact) : Type 0 where
+  pub prepare : (v s : ℕ) (d : List ℕ) (m : ℕ) → prepare_by v s d m x ≡ None
+  pub commit : (v s : ℕ) (d : List ℕ) (m : ℕ) → commit_by v s d m x ≡ None
+  pub view : (s : ℕ) (d : List ℕ) → view_of s d x ≡ None
+
+views-push : (facts : List OrderFact) (x : OrderFact) (s : ℕ) (d : List ℕ) → commit_views (facts ++ x ∷ []) s d ≡ commit_views facts s d ++ cons_option (view_of s d x) []
+views-push facts x s d = filter_map-append (view_of s d) facts (x ∷ [])
+
+committed-other : (g : Group) (facts : List OrderFact) (x : OrderFact) (s : ℕ) (d : List ℕ) → ((v m : ℕ) → commit_by v s d m x ≡ None) → view_of s d x ≡ None → is_committed g (facts ++ x ∷ []) s d ≡ is_committed g facts s d
+committed-other g facts x s d none view =
+    ap (list_any (λ v. is_voted g (commit_by v s d) (facts ++ x ∷ []))) (views-push facts x s d ∙ ap (λ o. commit_views facts s d ++ cons_option o []) view ∙ append-nil (commit_views facts s d))
+    ∙ (λ i. list_any (λ v. voted-other g (commit_by v s d) facts x (none v) i) (commit_views facts s d))
+
+prepared-as : (g : Group) (facts : List OrderFact) (x : OrderFact) (k : ℕ × ℕ) → rows_in x ≡ [] → ((d : List ℕ) → prepares_in g (facts ++ x ∷ []) k d ≡ prepares_in g facts k d) → prepared_in g (facts ++ x ∷ []) k ≡ prepared_in g facts k
+unfolding prepared
+prepared-as g facts x k none same = chosen-same (λ beginning d. prepares_in g beginning k d) facts x none same
+
+ordered-as : (g : Group) (facts : List OrderFact) (x : OrderFact) (s : ℕ) → rows_in x ≡ [] → ((d : List ℕ) → is_committed g (facts ++ x ∷ []) s d ≡ is_committed g facts s d) → ordered_in g (facts ++ x ∷ []) s ≡ ordered_in g facts s
+unfolding ordered
+ordered-as g facts x s none same = chosen-same (λ beginning d. is_committed g beginning s d) facts x none same
+
+prepared-rows : (g : Group) (facts : List OrderFact) (x : OrderFact) (k : ℕ × ℕ) → ((d : List ℕ) → prepares_in g (facts ++ x ∷ []) k d ≡ prepares_in g facts k d) →
+    prepared_in g (facts ++ x ∷ []) k ≡ with_all (prepares_in g facts) (prepared_in g facts) (rows_in x) k
+unfolding prepared
+prepared-rows g facts x k same = chosen-rows (λ beginning d. prepares_in g beginning k d) facts x same
+
+ordered-rows : (g : Group) (facts : List OrderFact) (x : OrderFact) (s : ℕ) → ((d : List ℕ) → is_committed g (facts ++ x ∷ []) s d ≡ is_committed g facts s d) →
+    ordered_in g (facts ++ x ∷ []) s ≡ with_all (is_committed g facts) (ordered_in g facts) (rows_in x) s
+unfolding ordered
+ordered-rows g facts x s same = chosen-rows (λ beginning d. is_committed g beginning s d) facts x same
+
+prepared-newly : (g : Group) (facts : List OrderFact) (x : OrderFact) (k : ℕ × ℕ) (d : List ℕ) → rows_in x ≡ [] → prepares_in g (facts ++ x ∷ []) k d ≡ true →
+    ((e : List ℕ) → bytes_eq d e ≡ false → prepares_in g (facts ++ x ∷ []) k e ≡ prepares_in g facts k e) →
+    prepared_in g (facts ++ x ∷ []) k ≡ or_else (prepared_in g facts k) (cond (is_known (rows_known facts) d) (Some d) None)
+unfolding prepared
+prepared-newly g facts x k d none back others = chosen-newly (λ beginning d. prepares_in g beginning k d) facts x d none back others
+
+ordered-newly : (g : Group) (facts : List OrderFact) (x : OrderFact) (s : ℕ) (d : List ℕ) → rows_in x ≡ [] → is_committed g (facts ++ x ∷ []) s d ≡ true →
+    ((e : List ℕ) → bytes_eq d e ≡ false → is_committed g (facts ++ x ∷ []) s e ≡ is_committed g facts s e) →
+    ordered_in g (facts ++ x ∷ []) s ≡ or_else (ordered_in g facts s) (cond (is_known (rows_known facts) d) (Some d) None)
+unfolding ordered
+ordered-newly g facts x s d none back others = chosen-newly (λ beginning d. is_committed g beginning s d) facts x d none back others
+
+-- rows that become known by a fact which is no vote
+pub choices-rows : (g : Group) (facts : List OrderFact) (x : OrderFact) (c : Choices) → IsNoVote x →
+    Agrees (rows_known facts ++ rows_in x) (prepares_in g facts) (with_all (prepares_in g facts) (prepared_in g facts) (rows_in x)) (is_committed g facts) (with_all (is_committed g facts) (ordered_in g facts) (rows_in x)) c →
+    HasChoices g (facts ++ x ∷ []) c
+choices-rows g facts x c novote agrees =
+    agrees-alike _ _ _ _ _ _ _ _ _ _ c (sym (rows_known-push facts x)) (λ k d. sym (prepares k d)) (λ k. sym (prepared-rows g facts x k (prepares k))) (λ s d. sym (commits s d)) (λ s. sym (ordered-rows g facts x s (commits s))) agrees
+  where
+    prepares : (k : ℕ × ℕ) (d : List ℕ) → prepares_in g (facts ++ x ∷ []) k d ≡ prepares_in g facts k d
+    prepares k d = voted-other g (prepare_by k.0 k.1 d) facts x (novote.prepare k.0 k.1 d)
+
+    commits : (s : ℕ) (d : List ℕ) → is_committed g (facts ++ x ∷ []) s d ≡ is_committed g facts s d
+    commits s d = committed-other g facts x s d (λ v m. novote.commit v s d m) (novote.view s d)
+
+-- one list of rows alone
+pub choices-row : (g : Group) (facts : List OrderFact) (x : OrderFact) (r : List (List ℕ)) (c : Choices) → IsNoVote x → rows_in x ≡ r ∷ [] →
+    Agrees (rows_known facts ++ r ∷ []) (prepares_in g facts) (with_rows (prepares_in g facts) (prepared_in g facts) (digest_of_rows r)) (is_committed g facts) (with_rows (is_committed g facts) (ordered_in g facts) (digest_of_rows r)) c →
+    HasChoices g (facts ++ x ∷ []) c
+choices-row g facts x r c novote rows agrees =
+    choices-rows g facts x c novote (rw rows (agrees-alike _ _ _ _ _ _ _ _ _ _ c refl (λ k d. refl) (λ k. ap (or_else (prepared_in g facts k)) (sym (option_map-cond digest_of_rows (prepares_in g facts k (digest_of_rows r)) r))) (λ s d. refl)
+    (λ s. ap (or_else (ordered_in g facts s)) (sym (option_map-cond digest_of_rows (is_committed g facts s (digest_of_rows r)) r))) agrees))
+
+-- a fact that tells neither votes nor rows
+pub choices-none : (g : Group) (facts : List OrderFact) (x : OrderFact) (c : Choices) → IsNoVote x → rows_in x ≡ [] → HasChoices g facts c → HasChoices g (facts ++ x ∷ []) c
+choices-none g facts x c novote rows agrees =
+    choices-rows g facts x c novote (rw rows (agrees-alike _ _ _ _ _ _ _ _ _ _ c (sym (append-nil (rows_known facts))) (λ k d. refl) (λ k. sym (or_else-none (prepared_in g facts k))) (λ s d. refl) (λ s. sym (or_else-none (ordered_in g facts s))) agrees))
+
+-- whether a quorum is new, from what there was and is
+newly : (had has : Bool) → (had ≡ true → has ≡ true) → (is_new : Bool) → is_new ≡ (has && not had) → cond is_new ((has ≡ true) × (had ≡ false)) (has ≡ had)
+newly true true keeps is_new e = subst (λ b. cond b ((true ≡ true) × (true ≡ false)) (true ≡ true)) (sym e) refl
+newly false false keeps is_new e = subst (λ b. cond b ((false ≡ true) × (false ≡ false)) (false ≡ false)) (sym e) refl
+newly false true keeps is_new e = subst (λ b. cond b ((true ≡ true) × (false ≡ false)) (true ≡ false)) (sym e) (refl, refl)
+newly true false keeps is_new e = absurd (true≢false (sym (keeps refl)))
+
+-- a prepare
+pub choices-prepare : (g : Group) (n q : ℕ) (facts : List OrderFact) (x : Signed Prepare) (old new : Map Vote (List ℕ)) (before after : ℕ) (is_new : Bool) (c now : Choices) → HasSizes g n q → HasPrepares facts old → HasPrepares (facts ++ fact.Prepare x ∷ []) new →
+    before ≡ length (given (vote_at old x.body.v x.body.s x.body.digest) n) → after ≡ length (given (vote_at new x.body.v x.body.s x.body.digest) n) → is_new ≡ (nat_le q after && not (nat_le q before)) →
+    OnTrue is_new ((known : List (List (List ℕ))) (prepares : ℕ × ℕ → List ℕ → Bool) (first : ℕ × ℕ → Option (List ℕ)) (commits : ℕ → List ℕ → Bool) (order : ℕ → Option (List ℕ)) → Agrees known prepares first commits order c →
+    Agrees known (with_quorum same_pair (x.body.v, x.body.s) x.body.digest prepares) (with_choice same_pair (x.body.v, x.body.s) x.body.digest known first) commits order now) →
+    OnFalse is_new (now ≡ c) → HasChoices g facts c → HasChoices g (facts ++ fact.Prepare x ∷ []) now
+choices-prepare g n q facts x old new before after is_new c now sizes has_old has_new before_is after_is test on_new on_old agrees =
+    by is_new (newly had has (voted-stays g (prepare_by x.body.v x.body.s x.body.digest) facts (fact.Prepare x)) is_new (test ∙ (λ i. now_is i && not (was_is i)))) on_new on_old
+  where
+    had : Bool
+    had = is_voted g (prepare_by x.body.v x.body.s x.body.digest) facts
+
+    has : Bool
+    has = is_voted g (prepare_by x.body.v x.body.s x.body.digest) (facts ++ fact.Prepare x ∷ [])
+
+    was_is : nat_le q before ≡ is_voted g (prepare_by x.body.v x.body.s x.body.digest) facts
+    was_is = (λ i. nat_le (sym sizes.quorum i) (before_is i)) ∙ prepares-quorum g n facts old x.body.v x.body.s x.body.digest sizes.masters has_old
+
+    now_is : nat_le q after ≡ is_voted g (prepare_by x.body.v x.body.s x.body.digest) (facts ++ fact.Prepare x ∷ [])
+    now_is = (λ i. nat_le (sym sizes.quorum i) (after_is i)) ∙ prepares-quorum g n (facts ++ fact.Prepare x ∷ []) new x.body.v x.body.s x.body.digest sizes.masters has_new
+
+    commits : (s : ℕ) (d : List ℕ) → is_committed g (facts ++ fact.Prepare x ∷ []) s d ≡ is_committed g facts s d
+    commits s d = committed-other g facts (fact.Prepare x) s d (λ v m. refl) refl
+
+    apart : (k : ℕ × ℕ) (d : List ℕ) → (same_pair (x.body.v, x.body.s) k && bytes_eq x.body.digest d) ≡ false → prepares_in g (facts ++ fact.Prepare x ∷ []) k d ≡ prepares_in g facts k d
+    apart k d e = prepares-apart g facts x k.0 k.1 d e
+
+    known : rows_known facts ≡ rows_known (facts ++ fact.Prepare x ∷ [])
+    known = sym (rows_known-push facts (fact.Prepare x) ∙ append-nil (rows_known facts))
+
+    at : (P : ℕ × ℕ → List ℕ → Type 0) (k : ℕ × ℕ) (d : List ℕ) → (same_pair (x.body.v, x.body.s) k && bytes_eq x.body.digest d) ≡ true → P (x.body.v, x.body.s) x.body.digest → P k d
+    at P k d e p =
+        let both : (same_pair (x.body.v, x.body.s) k ≡ true) × (bytes_eq x.body.digest d ≡ true) = and-parts (same_pair (x.body.v, x.body.s) k) (bytes_eq x.body.digest d) e in
+        subst (P k) (bytes-same x.body.digest d both.1) (subst (λ (y : ℕ × ℕ). P y x.body.digest) (same_pair-same (x.body.v, x.body.s) k both.0) p)
+
+    by : (b : Bool) → cond b ((is_voted g (prepare_by x.body.v x.body.s x.body.digest) (facts ++ fact.Prepare x ∷ []) ≡ true) × (is_voted g (prepare_by x.body.v x.body.s x.body.digest) facts ≡ false))
+        (is_voted g (prepare_by x.body.v x.body.s x.body.digest) (facts ++ fact.Prepare x ∷ []) ≡ is_voted g (prepare_by x.body.v x.body.s x.body.digest) facts) →
+        OnTrue b ((known : List (List (List ℕ))) (prepares : ℕ × ℕ → List ℕ → Bool) (first : ℕ × ℕ → Option (List ℕ)) (commits : ℕ → List ℕ → Bool) (order : ℕ → Option (List ℕ)) → Agrees known prepares first commits order c →
+        Agrees known (with_quorum same_pair (x.body.v, x.body.s) x.body.digest prepares) (with_choice same_pair (x.body.v, x.body.s) x.body.digest known first) commits order now) →
+        OnFalse b (now ≡ c) → HasChoices g (facts ++ fact.Prepare x ∷ []) now
+    by false same on_true on_false =
+        subst (HasChoices g (facts ++ fact.Prepare x ∷ [])) (sym on_false)
+        (agrees-alike _ _ _ _ _ _ _ _ _ _ c known (λ k d. sym (prepares k d (same_pair (x.body.v, x.body.s) k && bytes_eq x.body.digest d) refl)) (λ k. sym (prepared-as g facts (fact.Prepare x) k refl (λ d. prepares k d (same_pair (x.body.v, x.body.s) k && bytes_eq x.body.digest d) refl))) (λ s d. sym (commits s d)) (λ s. sym (ordered-as g facts (fact.Prepare x) s refl (commits s))) agrees)
+      where
+        prepares : (k : ℕ × ℕ) (d : List ℕ) (here : Bool) → (same_pair (x.body.v, x.body.s) k && bytes_eq x.body.digest d) ≡ here → prepares_in g (facts ++ fact.Prepare x ∷ []) k d ≡ prepares_in g facts k d
+        prepares k d true e = at (λ (y : ℕ × ℕ) (z : List ℕ). prepares_in g (facts ++ fact.Prepare x ∷ []) y z ≡ prepares_in g facts y z) k d e same
+        prepares k d false e = apart k d e
+    by true fresh on_true on_false =
+        agrees-alike _ _ _ _ _ _ _ _ _ _ now known (λ k d. prepares k d (same_pair (x.body.v, x.body.s) k && bytes_eq x.body.digest d) refl) (λ k. first k (same_pair (x.body.v, x.body.s) k) refl) (λ s d. sym (commits s d)) (λ s. sym (ordered-as g facts (fact.Prepare x) s refl (commits s)))
+        (on_true (rows_known facts) (prepares_in g facts) (prepared_in g facts) (is_committed g facts) (ordered_in g facts) agrees)
+      where
+        either : (b : Bool) → (b || true) ≡ true
+        either true = refl
+        either false = refl
+
+        prepares : (k : ℕ × ℕ) (d : List ℕ) (here : Bool) → (same_pair (x.body.v, x.body.s) k && bytes_eq x.body.digest d) ≡ here → (prepares_in g facts k d || here) ≡ prepares_in g (facts ++ fact.Prepare x ∷ []) k d
+        prepares k d true e = either (prepares_in g facts k d) ∙ sym (at (λ (y : ℕ × ℕ) (z : List ℕ). prepares_in g (facts ++ fact.Prepare x ∷ []) y z ≡ true) k d e fresh.0)
+        prepares k d false e = or-false (prepares_in g facts k d) ∙ sym (apart k d e)
+
+        first : (k : ℕ × ℕ) (here : Bool) → same_pair (x.body.v, x.body.s) k ≡ here → or_else (prepared_in g facts k) (cond (here && is_known (rows_known facts) x.body.digest) (Some x.body.digest) None) ≡ prepared_in g (facts ++ fact.Prepare x ∷ []) k
+        first k false e = or_else-none (prepared_in g facts k) ∙ sym (prepared-as g facts (fact.Prepare x) k refl (λ d. apart k d (ap (λ b. b && bytes_eq x.body.digest d) e)))
+        first k true e = sym (prepared-newly g facts (fact.Prepare x) k x.body.digest refl
+            (subst (λ (y : ℕ × ℕ). prepares_in g (facts ++ fact.Prepare x ∷ []) y x.body.digest ≡ true) (same_pair-same (x.body.v, x.body.s) k e) fresh.0)
+            (λ d other. apart k d (ap (λ b. b && bytes_eq x.body.digest d) e ∙ other)))
+
+-- a quorum has a vote, and so the number and digest are committed
+some-given : {X : Type 0} (f : ℕ → Option X) (ns : List ℕ) → 1 ≤ length (filter_map f ns) → (m : ℕ) × (is_some (f m) ≡ true)
+some-given f [] one = absurd (omega arith)
+some-given {X} f (m ∷ ns) one = by (f m) refl one (some-given f ns)
+  where
+    by : (o : Option X) → f m ≡ o → 1 ≤ length (cons_option o (filter_map f ns)) → (1 ≤ length (filter_map f ns) → (i : ℕ) × (is_some (f i) ≡ true)) → (i : ℕ) × (is_some (f i) ≡ true)
+    by None e one more = more one
+    by (Some y) e one more = (m, ap is_some e)
+
+view-there : (P : ℕ → Bool) (facts : List OrderFact) (v s : ℕ) (d : List ℕ) (m : ℕ) → P v ≡ true → is_some (first_of_list (filter_map (commit_by v s d m) facts)) ≡ true → list_any P (commit_views facts s d) ≡ true
+view-there P [] v s d m pass there = absurd (true≢false (sym there))
+view-there P (f ∷ rest) v s d m pass there = by f there (view-there P rest v s d m pass)
+  where
+    later : (o : Option ℕ) → list_any P (commit_views rest s d) ≡ true → list_any P (cons_option o (commit_views rest s d)) ≡ true
+    later None e = e
+    later (Some w) e = either (P w) e
+      where
+        either : (b : Bool) → list_any P (commit_views rest s d) ≡ true → (b || list_any P (commit_views rest s d)) ≡ true
+        either true e = refl
+        either false e = e
+
+    commit : (c : Signed Commit) (a b h l : Bool) → nat_eq c.signer m ≡ a → nat_eq c.body.v v ≡ b → nat_eq c.body.s s ≡ h → bytes_eq c.body.digest d ≡ l →
+        is_some (first_of_list (cons_option (cond (((a && b) && h) && l) (Some c) None) (filter_map (commit_by v s d m) rest))) ≡ true →
+        (is_some (first_of_list (filter_map (commit_by v s d m) rest)) ≡ true → list_any P (commit_views rest s d) ≡ true) → list_any P (cons_option (cond (h && l) (Some c.body.v) None) (commit_views rest s d)) ≡ true
+    commit c true true true true ea eb eh el there more = ap (λ b. b || list_any P (commit_views rest s d)) (ap P (nat_eq-same c.body.v v eb) ∙ pass)
+    commit c false b h l ea eb eh el there more = later (cond (h && l) (Some c.body.v) None) (more there)
+    commit c true false h l ea eb eh el there more = later (cond (h && l) (Some c.body.v) None) (more there)
+    commit c true true false l ea eb eh el there more = later (cond (false && l) (Some c.body.v) None) (more there)
+    commit c true true true false ea eb eh el there more = later (cond (true && false) (Some c.body.v) None) (more there)
+
+    by : (f : OrderFact) → is_some (first_of_list (cons_option (commit_by v s d m f) (filter_map (commit_by v s d m) rest))) ≡ true → (is_some (first_of_list (filter_map (commit_by v s d m) rest)) ≡ true → list_any P (commit_views rest s d) ≡ true) →
+        list_any P (cons_option (view_of s d f) (commit_views rest s d)) ≡ true
+    by (fact.Commit c) there more = commit c (nat_eq c.signer m) (nat_eq c.body.v v) (nat_eq c.body.s s) (bytes_eq c.body.digest d) refl refl refl refl there more
+    by (fact.Prepare c) there more = more there
+    by (fact.Mark c) there more = more there
+    by (fact.Rows r) there more = more there
+    by (fact.Proposal w t r) there more = more there
+    by (fact.Plan w p) there more = more there
+
+voted-committed : (g : Group) (facts : List OrderFact) (v s : ℕ) (d : List ℕ) → 1 ≤ g.q → is_voted g (commit_by v s d) facts ≡ true → is_committed g facts s d ≡ true
+unfolding is_voted
+voted-committed g facts v s d some voted =
+    let enough : g.q ≤ length (given (λ m. first_of_list (filter_map (commit_by v s d m) facts)) g.n) = leb-true g.q _ voted in
+    let one : (m : ℕ) × (is_some (first_of_list (filter_map (commit_by v s d m) facts)) ≡ true) = some-given (λ m. first_of_list (filter_map (commit_by v s d m) facts)) (numbers_below g.n) (omega arith) in
+    view-there (λ w. is_voted g (commit_by w s d) facts) facts v s d one.0 voted one.1
+
+-- a commit
+pub choices-commit : (g : Group) (n q : ℕ) (facts : List OrderFact) (x : Signed Commit) (old new : Map Vote (List ℕ)) (before after : ℕ) (is_new : Bool) (c now : Choices) → HasSizes g n q → 1 ≤ q → HasCommits facts old → HasCommits (facts ++ fact.Commit x ∷ []) new →
+    before ≡ length (given (vote_at old x.body.v x.body.s x.body.digest) n) → after ≡ length (given (vote_at new x.body.v x.body.s x.body.digest) n) → is_new ≡ (nat_le q after && not (nat_le q before)) →
+    OnTrue is_new ((known : List (List (List ℕ))) (prepares : ℕ × ℕ → List ℕ → Bool) (first : ℕ × ℕ → Option (List ℕ)) (commits : ℕ → List ℕ → Bool) (order : ℕ → Option (List ℕ)) → Agrees known prepares first commits order c →
+    Agrees known prepares first (with_quorum nat_eq x.body.s x.body.digest commits) (with_choice nat_eq x.body.s x.body.digest known order) now) →
+    OnFalse is_new (now ≡ c) → HasChoices g facts c → HasChoices g (facts ++ fact.Commit x ∷ []) now
+choices-commit g n q facts x old new before after is_new c now sizes some has_old has_new before_is after_is test on_new on_old agrees =
+    by is_new (newly had has (voted-stays g (commit_by x.body.v x.body.s x.body.digest) facts (fact.Commit x)) is_new (test ∙ (λ i. now_is i && not (was_is i)))) on_new on_old
+  where
+    had : Bool
+    had = is_voted g (commit_by x.body.v x.body.s x.body.digest) facts
+
+    has : Bool
+    has = is_voted g (commit_by x.body.v x.body.s x.body.digest) (facts ++ fact.Commit x ∷ [])
+
+    was_is : nat_le q before ≡ is_voted g (commit_by x.body.v x.body.s x.body.digest) facts
+    was_is = (λ i. nat_le (sym sizes.quorum i) (before_is i)) ∙ commits-quorum g n facts old x.body.v x.body.s x.body.digest sizes.masters has_old
+
+    now_is : nat_le q after ≡ is_voted g (commit_by x.body.v x.body.s x.body.digest) (facts ++ fact.Commit x ∷ [])
+    now_is = (λ i. nat_le (sym sizes.quorum i) (after_is i)) ∙ commits-quorum g n (facts ++ fact.Commit x ∷ []) new x.body.v x.body.s x.body.digest sizes.masters has_new
+
+    enough : 1 ≤ g.q
+    enough = let same : g.q ≡ q = sizes.quorum in omega arith
+
+    prepares : (k : ℕ × ℕ) (d : List ℕ) → prepares_in g (facts ++ fact.Commit x ∷ []) k d ≡ prepares_in g facts k d
+    prepares k d = voted-other g (prepare_by k.0 k.1 d) facts (fact.Commit x) (λ m. refl)
+
+    known : rows_known facts ≡ rows_known (facts ++ fact.Commit x ∷ [])
+    known = sym (rows_known-push facts (fact.Commit x) ∙ append-nil (rows_known facts))
+
+    views-here : (s : ℕ) (d : List ℕ) → (nat_eq x.body.s s && bytes_eq x.body.digest d) ≡ true → commit_views (facts ++ fact.Commit x ∷ []) s d ≡ commit_views facts s d ++ x.body.v ∷ []
+    views-here s d e = views-push facts (fact.Commit x) s d ∙ ap (λ b. commit_views facts s d ++ cons_option (cond b (Some x.body.v) None) []) e
+
+    apart : (s : ℕ) (d : List ℕ) → (nat_eq x.body.s s && bytes_eq x.body.digest d) ≡ false → is_committed g (facts ++ fact.Commit x ∷ []) s d ≡ is_committed g facts s d
+    apart s d e = committed-other g facts (fact.Commit x) s d (λ v m. ap (λ b. cond b (Some x) None) (none (nat_eq x.signer m) (nat_eq x.body.v v) (nat_eq x.body.s s) (bytes_eq x.body.digest d) e)) (ap (λ b. cond b (Some x.body.v) None) e)
+      where
+        none : (a b h l : Bool) → (h && l) ≡ false → (((a && b) && h) && l) ≡ false
+        none false b h l e = refl
+        none true false h l e = refl
+        none true true h l e = e
+
+    at : (P : ℕ → List ℕ → Type 0) (s : ℕ) (d : List ℕ) → (nat_eq x.body.s s && bytes_eq x.body.digest d) ≡ true → P x.body.s x.body.digest → P s d
+    at P s d e p =
+        let both : (nat_eq x.body.s s ≡ true) × (bytes_eq x.body.digest d ≡ true) = and-parts (nat_eq x.body.s s) (bytes_eq x.body.digest d) e in
+        subst (P s) (bytes-same x.body.digest d both.1) (subst (λ (y : ℕ). P y x.body.digest) (nat_eq-same x.body.s s both.0) p)
+
+    own : (nat_eq x.body.s x.body.s && bytes_eq x.body.digest x.body.digest) ≡ true
+    own = nat_eq-own x.body.s x.body.digest
+
+    by : (b : Bool) → cond b ((is_voted g (commit_by x.body.v x.body.s x.body.digest) (facts ++ fact.Commit x ∷ []) ≡ true) × (is_voted g (commit_by x.body.v x.body.s x.body.digest) facts ≡ false))
+        (is_voted g (commit_by x.body.v x.body.s x.body.digest) (facts ++ fact.Commit x ∷ []) ≡ is_voted g (commit_by x.body.v x.body.s x.body.digest) facts) →
+        OnTrue b ((known : List (List (List ℕ))) (prepares : ℕ × ℕ → List ℕ → Bool) (first : ℕ × ℕ → Option (List ℕ)) (commits : ℕ → List ℕ → Bool) (order : ℕ → Option (List ℕ)) → Agrees known prepares first commits order c →
+        Agrees known prepares first (with_quorum nat_eq x.body.s x.body.digest commits) (with_choice nat_eq x.body.s x.body.digest known order) now) →
+        OnFalse b (now ≡ c) → HasChoices g (facts ++ fact.Commit x ∷ []) now
+    by false same on_true on_false =
+        subst (HasChoices g (facts ++ fact.Commit x ∷ [])) (sym on_false)
+        (agrees-alike _ _ _ _ _ _ _ _ _ _ c known (λ k d. sym (prepares k d)) (λ k. sym (prepared-as g facts (fact.Commit x) k refl (prepares k))) (λ s d. sym (commits s d)) (λ s. sym (ordered-as g facts (fact.Commit x) s refl (commits s))) agrees)
+      where
+        voted : (v : ℕ) (here : Bool) → nat_eq x.body.v v ≡ here → is_voted g (commit_by v x.body.s x.body.digest) (facts ++ fact.Commit x ∷ []) ≡ is_voted g (commit_by v x.body.s x.body.digest) facts
+        voted v true e = subst (λ (w : ℕ). is_voted g (commit_by w x.body.s x.body.digest) (facts ++ fact.Commit x ∷ []) ≡ is_voted g (commit_by w x.body.s x.body.digest) facts) (nat_eq-same x.body.v v e) same
+        voted v false e = commits-apart g facts x v x.body.s x.body.digest (ap (λ b. (b && nat_eq x.body.s x.body.s) && bytes_eq x.body.digest x.body.digest) e)
+
+        last : (b : Bool) → is_voted g (commit_by x.body.v x.body.s x.body.digest) facts ≡ b → (is_committed g facts x.body.s x.body.digest || b) ≡ is_committed g facts x.body.s x.body.digest
+        last false e = or-false (is_committed g facts x.body.s x.body.digest)
+        last true e = let there : is_committed g facts x.body.s x.body.digest ≡ true = voted-committed g facts x.body.v x.body.s x.body.digest enough e in rw there refl
+
+        here : is_committed g (facts ++ fact.Commit x ∷ []) x.body.s x.body.digest ≡ is_committed g facts x.body.s x.body.digest
+        here =
+            ap (list_any (λ v. is_voted g (commit_by v x.body.s x.body.digest) (facts ++ fact.Commit x ∷ []))) (views-here x.body.s x.body.digest own)
+            ∙ (λ i. list_any (λ v. voted v (nat_eq x.body.v v) refl i) (commit_views facts x.body.s x.body.digest ++ x.body.v ∷ []))
+            ∙ list_any-push (λ v. is_voted g (commit_by v x.body.s x.body.digest) facts) (commit_views facts x.body.s x.body.digest) x.body.v
+            ∙ last (is_voted g (commit_by x.body.v x.body.s x.body.digest) facts) refl
+
+        commits : (s : ℕ) (d : List ℕ) → is_committed g (facts ++ fact.Commit x ∷ []) s d ≡ is_committed g facts s d
+        commits s d = on (nat_eq x.body.s s && bytes_eq x.body.digest d) refl
+          where
+            on : (b : Bool) → (nat_eq x.body.s s && bytes_eq x.body.digest d) ≡ b → is_committed g (facts ++ fact.Commit x ∷ []) s d ≡ is_committed g facts s d
+            on true e = at (λ (y : ℕ) (z : List ℕ). is_committed g (facts ++ fact.Commit x ∷ []) y z ≡ is_committed g facts y z) s d e here
+            on false e = apart s d e
+    by true fresh on_true on_false =
+        agrees-alike _ _ _ _ _ _ _ _ _ _ now known (λ k d. sym (prepares k d)) (λ k. sym (prepared-as g facts (fact.Commit x) k refl (prepares k))) (λ s d. commits s d (nat_eq x.body.s s && bytes_eq x.body.digest d) refl) (λ s. first s (nat_eq x.body.s s) refl)
+        (on_true (rows_known facts) (prepares_in g facts) (prepared_in g facts) (is_committed g facts) (ordered_in g facts) agrees)
+      where
+        either : (b : Bool) → (b || true) ≡ true
+        either true = refl
+        either false = refl
+
+        there : is_committed g (facts ++ fact.Commit x ∷ []) x.body.s x.body.digest ≡ true
+        there = voted-committed g (facts ++ fact.Commit x ∷ []) x.body.v x.body.s x.body.digest enough fresh.0
+
+        commits : (s : ℕ) (d : List ℕ) (here : Bool) → (nat_eq x.body.s s && bytes_eq x.body.digest d) ≡ here → (is_committed g facts s d || here) ≡ is_committed g (facts ++ fact.Commit x ∷ []) s d
+        commits s d true e = either (is_committed g facts s d) ∙ sym (at (λ (y : ℕ) (z : List ℕ). is_committed g (facts ++ fact.Commit x ∷ []) y z ≡ true) s d e there)
+        commits s d false e = or-false (is_committed g facts s d) ∙ sym (apart s d e)
+
+        first : (s : ℕ) (here : Bool) → nat_eq x.body.s s ≡ here → or_else (ordered_in g facts s) (cond (here && is_known (rows_known facts) x.body.digest) (Some x.body.digest) None) ≡ ordered_in g (facts ++ fact.Commit x ∷ []) s
+        first s false e = or_else-none (ordered_in g facts s) ∙ sym (ordered-as g facts (fact.Commit x) s refl (λ d. apart s d (ap (λ b. b && bytes_eq x.body.digest d) e)))
+        first s true e = sym (ordered-newly g facts (fact.Commit x) s x.body.digest refl
+            (subst (λ (y : ℕ). is_committed g (facts ++ fact.Commit x ∷ []) y x.body.digest ≡ true) (nat_eq-same x.body.s s e) there)
+            (λ d other. apart s d (ap (λ b. b && bytes_eq x.body.digest d) e ∙ other)))
+
+-- a fact that offers nothing
+pub offers-other : (facts : List OrderFact) (x : OrderFact) (offers : Offers) → ((v : ℕ) → plan_in v x ≡ None) → ((v s : ℕ) → proposal_in v s x ≡ None) → HasOffers facts offers → HasOffers (facts ++ x ∷ []) offers
+offers-other facts x offers plan proposal has = record {
+  first = has.first;
+  plans = λ v. has.plans v ∙ sym (first-other (plan_in v) facts x (plan v));
+  proposals = λ v s. has.proposals v s ∙ sym (first-other (proposal_in v s) facts x (proposal v s));
+}
+
+-- stable
+
+stable-other : (g : Group) (facts : List OrderFact) (x : OrderFact) → ((s : ℕ) → is_voted g (mark_by s) (facts ++ x ∷ []) ≡ is_voted g (mark_by s) facts) → stable g (facts ++ x ∷ []) ≡ stable g facts
+unfolding stable
+stable-other g facts x same = λ i. greatest_to (λ s. same s i) most_number
+
+pub stable-no_mark : (g : Group) (facts : List OrderFact) (x : OrderFact) → ((s m : ℕ) → mark_by s m x ≡ None) → stable g (facts ++ x ∷ []) ≡ stable g facts
+stable-no_mark g facts x none = stable-other g facts x (λ s. voted-other g (mark_by s) facts x (none s))
+
+greatest-limit : (p : ℕ → Bool) (most : ℕ) → greatest_to p most ≤ most
+unfolding greatest_to
+greatest-limit p zero = omega arith
+greatest-limit p (suc most) = by (p (suc most)) (greatest-limit p most)
+  where
+    by : (b : Bool) → greatest_to p most ≤ most → cond b (suc most) (greatest_to p most) ≤ suc most
+    by true le = omega arith
+    by false le = omega arith
+
+greatest-with : (p r : ℕ → Bool) (s most : ℕ) → ((t : ℕ) → nat_eq s t ≡ false → r t ≡ p t) → r s ≡ true → s ≤ most → greatest_to r most ≡ max (greatest_to p most) s
+unfolding greatest_to
+greatest-with p r s zero others pass le = let same : s ≡ 0 = omega arith in rw same refl
+greatest-with p r s (suc most) others pass le = by (cases_eq s (suc most)) (λ less. greatest-with p r s most others pass less)
+  where
+    low : (b : Bool) → cond b (suc most) (greatest_to p most) ≤ suc most
+    low true = omega arith
+    low false = let le : greatest_to p most ≤ most = greatest-limit p most in omega arith
+
+    step : (b : Bool) → s ≤ most → greatest_to r most ≡ max (greatest_to p most) s → cond b (suc most) (greatest_to r most) ≡ max (cond b (suc most) (greatest_to p most)) s
+    step true less e = omega arith
+    step false less e = e
+
+    by : (s ≡ suc most) ⊎ (s ≡ suc most → ⊥) → (s ≤ most → greatest_to r most ≡ max (greatest_to p most) s) → cond (r (suc most)) (suc most) (greatest_to r most) ≡ max (cond (p (suc most)) (suc most) (greatest_to p most)) s
+    by (inl e) more =
+        let here : r (suc most) ≡ true = ap r (sym e) ∙ pass in
+        let below : cond (p (suc most)) (suc most) (greatest_to p most) ≤ suc most = low (p (suc most)) in
+        let all : suc most ≡ max (cond (p (suc most)) (suc most) (greatest_to p most)) s = omega arith in
+        ap (λ b. cond b (suc most) (greatest_to r most)) here ∙ all
+    by (inr ne) more =
+        let less : s ≤ most = omega arith in
+        ap (λ b. cond b (suc most) (greatest_to r most)) (others (suc most) (ne_eqb s (suc most) ne)) ∙ step (p (suc most)) less (more less)
+
+greatest-beyond : (p r : ℕ → Bool) (s most : ℕ) → ((t : ℕ) → nat_eq s t ≡ false → r t ≡ p t) → most < s → greatest_to r most ≡ greatest_to p most
+unfolding greatest_to
+greatest-beyond p r s zero others above = refl
+greatest-beyond p r s (suc most) others above =
+    let ne : s ≡ suc most → ⊥ = λ e. omega arith in
+    (λ i. cond (others (suc most) (ne_eqb s (suc most) ne) i) (suc most) (greatest-beyond p r s most others (omega arith) i))
+
+marks-apart : (g : Group) (facts : List OrderFact) (x : Signed Mark) (s : ℕ) → nat_eq x.body.s s ≡ false → is_voted g (mark_by s) (facts ++ fact.Mark x ∷ []) ≡ is_voted g (mark_by s) facts
+marks-apart g facts x s e = voted-other g (mark_by s) facts (fact.Mark x) (λ m. ap (λ b. cond (nat_eq x.signer m && b) (Some x) None) e ∙ ap (λ b. cond b (Some x) None) (false-and (nat_eq x.signer m)))
+
+-- a mark raises the stable number where its number has a quorum now
+pub stable-mark : (g : Group) (n q : ℕ) (facts : List OrderFact) (x : Signed Mark) (new : Map (ℕ × ℕ) (List ℕ)) (count was raised : ℕ) → HasSizes g n q → HasMarks (facts ++ fact.Mark x ∷ []) new → count ≡ length (given (mark_at new x.body.s) n) → was ≡ stable g facts →
+    raised ≡ cond (nat_le q count && nat_le x.body.s 4096) (max was x.body.s) was → raised ≡ stable g (facts ++ fact.Mark x ∷ [])
+unfolding stable most_number
+stable-mark g n q facts x new count was raised sizes has count_is was_is is =
+    is ∙ (λ i. cond (has_is i && nat_le x.body.s 4096) (max (was_is i) x.body.s) (was_is i)) ∙ by (is_voted g (mark_by x.body.s) (facts ++ fact.Mark x ∷ [])) refl (cases_lt 4096 x.body.s)
+  where
+    has_is : nat_le q count ≡ is_voted g (mark_by x.body.s) (facts ++ fact.Mark x ∷ [])
+    has_is = (λ i. nat_le (sym sizes.quorum i) (count_is i)) ∙ marks-quorum g n (facts ++ fact.Mark x ∷ []) new x.body.s sizes.masters has
+
+    before : ℕ → Bool
+    before s = is_voted g (mark_by s) facts
+
+    now : ℕ → Bool
+    now s = is_voted g (mark_by s) (facts ++ fact.Mark x ∷ [])
+
+    lost : is_voted g (mark_by x.body.s) (facts ++ fact.Mark x ∷ []) ≡ false → is_voted g (mark_by x.body.s) facts ≡ false
+    lost e = on (is_voted g (mark_by x.body.s) facts) refl
+      where
+        on : (b : Bool) → is_voted g (mark_by x.body.s) facts ≡ b → b ≡ false
+        on false h = refl
+        on true h = absurd (true≢false (sym (voted-stays g (mark_by x.body.s) facts (fact.Mark x) h) ∙ e))
+
+    same : is_voted g (mark_by x.body.s) (facts ++ fact.Mark x ∷ []) ≡ false → (s : ℕ) → is_voted g (mark_by s) (facts ++ fact.Mark x ∷ []) ≡ is_voted g (mark_by s) facts
+    same e s = on (nat_eq x.body.s s) refl
+      where
+        on : (b : Bool) → nat_eq x.body.s s ≡ b → is_voted g (mark_by s) (facts ++ fact.Mark x ∷ []) ≡ is_voted g (mark_by s) facts
+        on false h = marks-apart g facts x s h
+        on true h = subst (λ (t : ℕ). is_voted g (mark_by t) (facts ++ fact.Mark x ∷ []) ≡ is_voted g (mark_by t) facts) (nat_eq-same x.body.s s h) (e ∙ sym (lost e))
+
+    by : (b : Bool) → is_voted g (mark_by x.body.s) (facts ++ fact.Mark x ∷ []) ≡ b → (4096 < x.body.s) ⊎ (x.body.s ≤ 4096) →
+        cond (b && nat_le x.body.s 4096) (max (greatest_to (λ s. is_voted g (mark_by s) facts) 4096) x.body.s) (greatest_to (λ s. is_voted g (mark_by s) facts) 4096) ≡ greatest_to (λ s. is_voted g (mark_by s) (facts ++ fact.Mark x ∷ [])) 4096
+    by false e low = λ i. greatest_to (λ s. sym (same e s) i) 4096
+    by true e (inr low) = ap (λ b. cond b (max (greatest_to (λ s. is_voted g (mark_by s) facts) 4096) x.body.s) (greatest_to (λ s. is_voted g (mark_by s) facts) 4096)) (le-leb x.body.s 4096 low) ∙ sym (greatest-with (λ s. is_voted g (mark_by s) facts) (λ s. is_voted g (mark_by s) (facts ++ fact.Mark x ∷ [])) x.body.s 4096 (marks-apart g facts x) e low)
+    by true e (inl high) = ap (λ b. cond b (max (greatest_to (λ s. is_voted g (mark_by s) facts) 4096) x.body.s) (greatest_to (λ s. is_voted g (mark_by s) facts) 4096)) (lt-leb x.body.s 4096 high) ∙ sym (greatest-beyond (λ s. is_voted g (mark_by s) facts) (λ s. is_voted g (mark_by s) (facts ++ fact.Mark x ∷ [])) x.body.s 4096 (marks-apart g facts x) high)
+
+-- what a map held, in other room, is there still, and takes one more
+pub taken-first : {K X : Type 0} (same : K → K → Bool) (old mid new : Map K X) (key : K) (x : X) → mid.entries ≡ old.entries → TakesFirst same mid new key x → TakesFirst same old new key x
+taken-first same old mid new key x like takes k = takes k ∙ ap (λ es. or_else (lookup (same k) es) (cond (same key k) (Some x) None)) like
+
+pub offers-proposal : (facts : List OrderFact) (v s : ℕ) (rows : List (List ℕ)) (offers : Offers) (new : Map (ℕ × ℕ) (List (List ℕ))) → TakesFirst same_pair offers.proposals new (v, s) rows → HasOffers facts offers →
+    HasOffers (facts ++ fact.Proposal v s rows ∷ []) record { first_plan = offers.first_plan; plans = offers.plans; proposals = new }
+offers-proposal facts v s rows offers new takes has = record {
+  first = has.first;
+  plans = λ w. has.plans w ∙ sym (first-other (plan_in w) facts (fact.Proposal v s rows) refl);
+  proposals = λ w t. takes (w, t) ∙ ap (λ o. or_else o (cond (same_pair (v, s) (w, t)) (Some rows) None)) (has.proposals w t) ∙ sym (first_of_list-push (proposal_in w t) facts (fact.Proposal v s rows));
+}
+
+pub offers-plan : (facts : List OrderFact) (v : ℕ) (plan : Plan) (offers : Offers) (new : Map ℕ Plan) → TakesFirst nat_eq offers.plans new v plan → HasOffers facts offers →
+    HasOffers (facts ++ fact.Plan v plan ∷ []) record { first_plan = offers.first_plan; plans = new; proposals = offers.proposals }
+offers-plan facts v plan offers new takes has = record {
+  first = has.first;
+  plans = λ w. takes w ∙ ap (λ o. or_else o (cond (nat_eq v w) (Some plan) None)) (has.plans w) ∙ sym (first_of_list-push (plan_in w) facts (fact.Plan v plan));
+  proposals = λ w t. has.proposals w t ∙ sym (first-other (proposal_in w t) facts (fact.Plan v plan) refl);
+}
+
+pub fit-proposal : (key : ℕ × ℕ) (rows : List (List ℕ)) (offers : Offers) (new : Map (ℕ × ℕ) (List (List ℕ))) → rows_fit rows ≡ true → TakesFirst same_pair offers.proposals new key rows → OffersFit offers →
+    OffersFit record { first_plan = offers.first_plan; plans = offers.plans; proposals = new }
+fit-proposal key rows offers new fit takes fits_all = record {
+  first = fits_all.first;
+  plans = fits_all.plans;
+  proposals = λ k. ap fits (takes k) ∙ by (get same_pair offers.proposals k) (same_pair key k) (fits_all.proposals k);
+}
+  where
+    by : (o : Option (List (List ℕ))) (b : Bool) → fits o ≡ true → fits (or_else o (cond b (Some rows) None)) ≡ true
+    by (Some r) b e = e
+    by None true e = fit
+    by None false e = refl
+
+pub fit-plan : (v : ℕ) (plan : Plan) (offers : Offers) (new : Map ℕ Plan) → list_all rows_fit plan.rows ≡ true → TakesFirst nat_eq offers.plans new v plan → OffersFit offers →
+    OffersFit record { first_plan = offers.first_plan; plans = new; proposals = offers.proposals }
+fit-plan v plan offers new fit takes fits_all = record {
+  first = fits_all.first;
+  plans = λ w. ap plan_fits (takes w) ∙ by (get nat_eq offers.plans w) (nat_eq v w) (fits_all.plans w);
+  proposals = fits_all.proposals;
+}
+  where
+    by : (o : Option Plan) (b : Bool) → plan_fits o ≡ true → plan_fits (or_else o (cond b (Some plan) None)) ≡ true
+    by (Some r) b e = e
+    by None true e = fit
+    by None false e = refl
+
+pub raised-limit : (b : Bool) (was s : ℕ) → was ≤ most_number → cond (b && nat_le s 4096) (max was s) was ≤ most_number
+unfolding most_number
+raised-limit false was s le = le
+raised-limit true was s le = by (cases_lt 4096 s)
+  where
+    by : (4096 < s) ⊎ (s ≤ 4096) → cond (nat_le s 4096) (max was s) was ≤ 4096
+    by (inl high) = let e : nat_le s 4096 ≡ false = lt-leb s 4096 high in rw e le
+    by (inr low) = let e : nat_le s 4096 ≡ true = le-leb s 4096 low in rw e (omega arith)

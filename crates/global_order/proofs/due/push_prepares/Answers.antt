@@ -1,0 +1,40 @@
+use Rattle.std.proofs.Common.{◌≡◌, ℕ, ◌+◌, ◌-◌, ◌≤◌, ◌++◌, List, ◌∙◌, ap, sym, arith, append_assoc}
+use Rattle.std.proofs.lemmas.List.{append-nil}
+use Rattle.std.specs.List.{flat_map}
+use Rattle.message_types.specs.declared.body.Body.{Body}
+use Rattle.protocol_rules.specs.declared.facts.OrderFact.{OrderFact}
+use Rattle.protocol_rules.specs.Group.{Group}
+use Rattle.protocol_rules.specs.Words.{numbers_from}
+use Rattle.protocol_rules.specs.Order.{prepare_due, commit_due, mark_due}
+use Rattle.indexmap.specs.IndexMap.{get}
+use Rattle.global_order.specs.Index.{same_pair, first_in, prepared_in}
+use Rattle.global_order.specs.Offered.{HasOffers}
+use Rattle.global_order.specs.Saying.{HasSaidPrepares, HasSaidCommits, HasMarked}
+use Rattle.global_order.proofs.Ranges.{flat_map-more, flat_map-none}
+use Rattle.global_order.proofs.due.push_prepares.Goals as goal
+
+pub loop-s-init : goal.loop-s-init
+loop-s-init c = record {
+  in_range = omega arith;
+  added = λ facts words offers said.
+      let none : c.args.low - c.args.low ≡ 0 = omega arith in
+      sym (ap (λ n. c.args.bodies.now.items ++ flat_map (prepare_due facts words c.args.v) (numbers_from c.args.low n)) none
+      ∙ ap (λ xs. c.args.bodies.now.items ++ xs) (flat_map-none (prepare_due facts words c.args.v) c.args.low) ∙ append-nil _);
+}
+
+pub loop-s-preserved : goal.loop-s-preserved
+loop-s-preserved c = record {
+  in_range = omega arith;
+  added = λ facts words offers said.
+      c.in_ok-push_prepare.ensures facts words offers said
+      ∙ ap (λ xs. xs ++ prepare_due facts words c.args.v c.loop-s.s) (c.loop-s.invariant.added facts words offers said)
+      ∙ append_assoc c.args.bodies.now.items (flat_map (prepare_due facts words c.args.v) (numbers_from c.args.low (c.loop-s.s - c.args.low))) (prepare_due facts words c.args.v c.loop-s.s)
+      ∙ ap (λ xs. c.args.bodies.now.items ++ xs) (sym (flat_map-more (prepare_due facts words c.args.v) c.args.low c.loop-s.s (omega arith)));
+}
+
+pub returns : goal.returns
+returns c = λ facts words offers said.
+    let in_range = c.loop-s.invariant.in_range in
+    let all : c.loop-s.s - c.args.low ≡ c.args.high - c.args.low = omega arith in
+    c.loop-s.invariant.added facts words offers said
+    ∙ ap (λ n. c.args.bodies.now.items ++ flat_map (prepare_due facts words c.args.v) (numbers_from c.args.low n)) all

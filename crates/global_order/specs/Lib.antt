@@ -1,0 +1,6 @@
+pub mod Taken
+pub mod Choosing
+pub mod Index
+pub mod Offered
+pub mod Saying
+pub mod Held

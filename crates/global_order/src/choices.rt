@@ -1,0 +1,127 @@
+ghost use Rattle.std.specs.Prelude.{◌≡◌, ◌+◌, ◌≤◌, ◌<◌, ◌++◌, ◌∷◌, ℕ, Bool, List, [], Option, Some, None, IsTrue, is_some, nat_eq, vec_len, vec_capacity};
+ghost use Rattle.std.specs.Bool.{OnTrue, OnFalse};
+ghost use Rattle.std.specs.List.{list_all};
+ghost use Rattle.indexmap.specs.IndexMap.{spare, get};
+ghost use Rattle.message_types.specs.Digests.{digest_of_rows};
+ghost use Rattle.message_types.specs.Spelling.{rows_fit};
+ghost use Rattle.global_order.specs.Index.{Agrees, HasPlaces, OrdersGrow, same_pair, with_rows, with_all, with_quorum, with_choice};
+
+use crate::orders::{Orders, put_order, settle_orders};
+use crate::quorum::Quorum;
+use crate::slots::{Slots, put_digest, settle_slots};
+use indexmap::IndexMap;
+use message_digests::rows_digest;
+use message_types::Rows;
+
+/// The first known rows of each digest.
+pub type Known = IndexMap<[u8; 32], Rows>;
+
+/// What is prepared and ordered.
+#[derive(Drop)]
+pub struct Choices {
+    pub rows: Known,
+    pub prepared: Slots,
+    /// The quorums of prepares that wait for their rows.
+    pub backed: Vec<Quorum>,
+    pub ordered: Orders,
+    /// The quorums of commits that wait for their rows.
+    pub committed: Vec<Quorum>,
+}
+
+/// Makes rows known.
+pub fn learn(choices: &mut Choices, rows: Rows)
+    requires fit { IsTrue (rows_fit rows) }
+    requires room { 1 ≤ spare choices.old.rows }
+    requires places { HasPlaces choices.old }
+    ensures places { HasPlaces choices.new }
+    ensures known { (known : List (List (List ℕ))) (prepares : ℕ × ℕ → List ℕ → Bool) (first : ℕ × ℕ → Option (List ℕ)) (commits : ℕ → List ℕ → Bool) (order : ℕ → Option (List ℕ))
+        → Agrees known prepares first commits order choices.old
+        → Agrees (known ++ rows ∷ []) prepares (with_rows prepares first (digest_of_rows rows)) commits (with_rows commits order (digest_of_rows rows)) choices.new }
+    ensures room { spare choices.old.rows ≤ spare choices.new.rows + 1 }
+    ensures grow { OrdersGrow choices.old.ordered choices.new.ordered }
+{
+    let digest = rows_digest(&rows);
+    if choices.rows.contains_key(&digest) {
+        return;
+    }
+    settle_slots(&mut choices.prepared, &choices.backed, digest);
+    settle_orders(&mut choices.ordered, &choices.committed, digest);
+    choices.rows.insert(digest, rows).unwrap();
+}
+
+/// Makes all of these rows known.
+pub fn learn_all(choices: &mut Choices, all: Vec<Rows>)
+    requires fit { IsTrue (list_all rows_fit all.items) }
+    requires room { vec_len all ≤ spare choices.old.rows }
+    requires places { HasPlaces choices.old }
+    ensures known { (known : List (List (List ℕ))) (prepares : ℕ × ℕ → List ℕ → Bool) (first : ℕ × ℕ → Option (List ℕ)) (commits : ℕ → List ℕ → Bool) (order : ℕ → Option (List ℕ))
+        → Agrees known prepares first commits order choices.old
+        → Agrees (known ++ all.items) prepares (with_all prepares first all.items) commits (with_all commits order all.items) choices.new }
+    ensures grow { OrdersGrow choices.old.ordered choices.new.ordered }
+{
+    for rows in all {
+        learn(choices, rows);
+    }
+}
+
+/// Notes a quorum of prepares, if it is new.
+pub fn note_if_prepared(choices: &mut Choices, is_new: bool, v: u64, s: u64, digest: [u8; 32])
+    requires place { IsTrue (is_some (get same_pair choices.old.prepared (v, s))) }
+    requires room { vec_len choices.old.backed < vec_capacity choices.old.backed }
+    ensures new { OnTrue is_new ((known : List (List (List ℕ))) (prepares : ℕ × ℕ → List ℕ → Bool) (first : ℕ × ℕ → Option (List ℕ)) (commits : ℕ → List ℕ → Bool) (order : ℕ → Option (List ℕ))
+        → Agrees known prepares first commits order choices.old
+        → Agrees known (with_quorum same_pair (v, s) digest prepares) (with_choice same_pair (v, s) digest known first) commits order choices.new) }
+    ensures old { OnFalse is_new (choices.new ≡ choices.old) }
+    ensures ordered { choices.new.ordered ≡ choices.old.ordered }
+{
+    if is_new {
+        note_prepared(choices, v, s, digest);
+    }
+}
+
+/// Notes a quorum of commits, if it is new.
+pub fn note_if_committed(choices: &mut Choices, is_new: bool, v: u64, s: u64, digest: [u8; 32])
+    requires place { IsTrue (is_some (get nat_eq choices.old.ordered s)) }
+    requires room { vec_len choices.old.committed < vec_capacity choices.old.committed }
+    ensures new { OnTrue is_new ((known : List (List (List ℕ))) (prepares : ℕ × ℕ → List ℕ → Bool) (first : ℕ × ℕ → Option (List ℕ)) (commits : ℕ → List ℕ → Bool) (order : ℕ → Option (List ℕ))
+        → Agrees known prepares first commits order choices.old
+        → Agrees known prepares first (with_quorum nat_eq s digest commits) (with_choice nat_eq s digest known order) choices.new) }
+    ensures old { OnFalse is_new (choices.new ≡ choices.old) }
+    ensures grow { OrdersGrow choices.old.ordered choices.new.ordered }
+{
+    if is_new {
+        note_committed(choices, v, s, digest);
+    }
+}
+
+/// Notes a quorum of prepares.
+fn note_prepared(choices: &mut Choices, v: u64, s: u64, digest: [u8; 32])
+    requires place { IsTrue (is_some (get same_pair choices.old.prepared (v, s))) }
+    requires room { vec_len choices.old.backed < vec_capacity choices.old.backed }
+    ensures agrees { (known : List (List (List ℕ))) (prepares : ℕ × ℕ → List ℕ → Bool) (first : ℕ × ℕ → Option (List ℕ)) (commits : ℕ → List ℕ → Bool) (order : ℕ → Option (List ℕ))
+        → Agrees known prepares first commits order choices.old
+        → Agrees known (with_quorum same_pair (v, s) digest prepares) (with_choice same_pair (v, s) digest known first) commits order choices.new }
+    ensures ordered { choices.new.ordered ≡ choices.old.ordered }
+{
+    if choices.rows.contains_key(&digest) {
+        put_digest(&mut choices.prepared, v, s, digest);
+        return;
+    }
+    choices.backed.push(Quorum { v, s, digest }).unwrap();
+}
+
+/// Notes a quorum of commits.
+fn note_committed(choices: &mut Choices, v: u64, s: u64, digest: [u8; 32])
+    requires place { IsTrue (is_some (get nat_eq choices.old.ordered s)) }
+    requires room { vec_len choices.old.committed < vec_capacity choices.old.committed }
+    ensures agrees { (known : List (List (List ℕ))) (prepares : ℕ × ℕ → List ℕ → Bool) (first : ℕ × ℕ → Option (List ℕ)) (commits : ℕ → List ℕ → Bool) (order : ℕ → Option (List ℕ))
+        → Agrees known prepares first commits order choices.old
+        → Agrees known prepares first (with_quorum nat_eq s digest commits) (with_choice nat_eq s digest known order) choices.new }
+    ensures grow { OrdersGrow choices.old.ordered choices.new.ordered }
+{
+    if choices.rows.contains_key(&digest) {
+        put_order(&mut choices.ordered, s, digest);
+        return;
+    }
+    choices.committed.push(Quorum { v, s, digest }).unwrap();
+}

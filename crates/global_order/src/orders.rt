@@ -1,0 +1,72 @@
+ghost use Rattle.std.specs.Prelude.{◌≡◌, ◌≤◌, ℕ, List, None, Some, OnOk, IsTrue, is_some, nat_eq};
+ghost use Rattle.std.specs.List.{list_any};
+ghost use Rattle.indexmap.specs.IndexMap.{get};
+ghost use Rattle.protocol_rules.specs.Words.{or_else};
+ghost use Rattle.global_order.specs.Index.{order_in, is_ordering, KeepsOrders, TakesOrder, Reaches, ReachesLess};
+
+use crate::quorum::Quorum;
+use indexmap::IndexMap;
+use plain_lists::Want;
+
+/// Global numbers go from 1 to this.
+pub const MOST_NUMBER: u64 = 4096;
+
+/// The digest that is ordered as each number that a quorum committed, where its rows are known.
+pub type Orders = IndexMap<u64, Option<[u8; 32]>>;
+
+/// Makes a place where there is none.
+pub fn make_order(orders: &mut Orders, s: u64) -> Result<(), Want>
+    ensures kept { KeepsOrders orders.old orders.new }
+    ensures place { OnOk result (IsTrue (is_some (get nat_eq orders.new s))) }
+{
+    if orders.contains_key(&s) {
+        return Ok(());
+    }
+    orders.insert(s, None)?;
+    Ok(())
+}
+
+/// Has the place of a number, which is there, take a digest, unless it has one.
+pub fn put_order(orders: &mut Orders, s: u64, digest: [u8; 32])
+    requires { IsTrue (is_some (get nat_eq orders.old s)) }
+    ensures { TakesOrder (nat_eq s) digest orders.old orders.new }
+{
+    if let Some(Some(_)) = orders.get(&s) {
+        return;
+    }
+    orders.insert(s, Some(digest)).unwrap();
+}
+
+/// Has the numbers whose quorums waited for rows of this digest take it.
+pub fn settle_orders(orders: &mut Orders, waiting: &[Quorum], digest: [u8; 32])
+    requires { (s : ℕ) (d : List ℕ) → IsTrue (list_any (is_ordering s d) waiting.now) → IsTrue (is_some (get nat_eq orders.old s)) }
+    ensures { TakesOrder (λ s. list_any (is_ordering s digest) waiting.now) digest orders.old orders.new }
+{
+    for quorum in waiting {
+        if quorum.digest == digest {
+            put_order(orders, quorum.s, digest);
+        }
+    }
+}
+
+/// The digest that is ordered as a number.
+pub fn order_of(orders: &Orders, s: u64) -> Option<[u8; 32]>
+    ensures { result ≡ order_in (get nat_eq orders.now s) }
+{
+    match orders.get(&s) {
+        None => None,
+        Some(order) => *order,
+    }
+}
+
+/// Up to which number all are ordered, where they are up to `start`.
+pub fn run_end(orders: &Orders, start: u64) -> u64
+    ensures reaches { ReachesLess (λ s. order_in (get nat_eq orders.now s)) start → Reaches (λ s. order_in (get nat_eq orders.now s)) result }
+    ensures grows { start ≤ result }
+{
+    let mut end = start;
+    while end < MOST_NUMBER && order_of(orders, end + 1).is_some() {
+        end += 1;
+    }
+    end
+}
