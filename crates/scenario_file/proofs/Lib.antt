@@ -1,0 +1,6 @@
+pub mod Gathering
+pub mod Steps
+pub mod RowLaws
+pub mod PlantLaws
+pub mod ActorLaws
+pub mod UnknownLaws
