@@ -4,3 +4,4 @@ pub mod RowLaws
 pub mod PlantLaws
 pub mod ActorLaws
 pub mod UnknownLaws
+pub mod SettingsLaws

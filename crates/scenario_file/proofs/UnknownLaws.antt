@@ -8,7 +8,8 @@ use Rattle.scenario_file.specs.declared.refusal.ScenarioRefusal.{ScenarioRefusal
 use Rattle.scenario_file.specs.declared.unknown.Kind.{Kind}
 use Rattle.scenario_file.specs.declared.unknown.Kind.TheVariants as kind
 use Rattle.scenario_file.specs.Answers.{◌>>=◌}
-use Rattle.scenario_file.specs.Lists.{row_name}
+use Rattle.std.proofs.lemmas.List.{drop_all}
+use Rattle.scenario_file.specs.Lists.{row_name, rows_at}
 use Rattle.scenario_file.specs.Unknown.{keys_of, unknown_in, unknown_rows, unknown_at, lesser, least_of, first_unknown}
 use Rattle.scenario_file.specs.Folding.{least_with, least_among, least_at, least_unknown}
 use Rattle.scenario_file.proofs.Gathering.{next-left}
@@ -60,3 +61,11 @@ all-lists ns (Ok a) (Ok b) (Ok c) (Ok d) (Ok e) =
 pub first-unknown : (doc : Members) → first_unknown doc ≡ least_unknown doc
 unfolding first_unknown least_unknown least_at
 first-unknown doc = all-lists (unknown_in kind.Document [] doc) (unknown_at kind.Proxy (codes "proxy") doc) (unknown_at kind.Point (codes "point") doc) (unknown_at kind.Alarm (codes "alarm") doc) (unknown_at kind.Interlock (codes "interlock") doc) (unknown_at kind.Keeper (codes "keeper") doc)
+
+-- no row is left
+pub least-rows-end : {X : Type 0} (what : Kind) (key : List ℕ) (show : X → Members) (xs : List X) (i : ℕ) (best all : Option (List ℕ)) → length xs ≤ i → least_of best (unknown_rows what key i (map show (drop i xs))) ≡ all → best ≡ all
+least-rows-end what key show xs i best all end so_far = rw (drop_all i xs end) at so_far
+
+pub least_at-read : (what : Kind) (key : List ℕ) (best : Option (List ℕ)) (doc : Members) (ts : List Members) (after : Option (List ℕ)) → rows_at key None doc ≡ Ok ts → after ≡ least_of best (unknown_rows what key 0 ts) → least_at what key best doc ≡ Ok after
+unfolding least_at unknown_at
+least_at-read what key best doc ts after read least = rw (read, least) refl

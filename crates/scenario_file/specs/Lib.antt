@@ -9,3 +9,5 @@ pub mod Series
 pub mod Unknown
 pub mod Folding
 pub mod Shown
+pub mod Reading
+pub mod Valid

@@ -1,14 +1,17 @@
 //! The scenario file: which group, which plant and which faults a play has.
 #![tactic(auto)]
 
-mod actors;
+pub mod actors;
 mod keepers;
 mod lists;
 mod plant;
 pub mod refusal;
 mod rows;
+pub mod scenario;
 mod settings;
 mod unknown;
 mod values;
 
+pub use actors::Cast;
 pub use refusal::ScenarioRefusal;
+pub use scenario::Scenario;

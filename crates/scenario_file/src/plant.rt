@@ -1,4 +1,4 @@
-ghost use Rattle.std.specs.Prelude.{◌≡◌, ◌++◌, codes, ◌&&◌, not};
+ghost use Rattle.std.specs.Prelude.{◌≡◌, ◌++◌, codes, ◌&&◌, ◌≤◌, not, length, IfOk};
 ghost use Rattle.toml.specs.Data.{get_member};
 ghost use Rattle.point_table.specs.Table.{point_named};
 ghost use Rattle.alarm_rules.specs.Board.{alarm_named};
@@ -294,7 +294,8 @@ fn interlocks(
 /// The plant of a document.
 #[tactic(auto, unfolding(crate::specs::PlantRows::plant_of))]
 pub fn plant(document: &Keys<'_>) -> Result<Plant, ScenarioRefusal>
-    ensures { Answers result (plant_of (table_view document.now.table.now)) }
+    ensures few { IfOk result (λ plant. length plant.devices ≤ 8) }
+    ensures answer { Answers result (plant_of (table_view document.now.table.now)) }
 {
     let devices = devices(document)?;
     let points = points(document, devices.len() as u32)?;

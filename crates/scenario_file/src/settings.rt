@@ -75,9 +75,10 @@ fn intruded(document: &Keys<'_>, masters: u32) -> Result<VoterSet, ScenarioRefus
 
 /// What the keys that aren't tables say.
 #[tactic(auto, unfolding(crate::specs::Settings::settings_of))]
-pub fn group(document: &Keys<'_>) -> Result<Group, ScenarioRefusal>
+pub fn read_group(document: &Keys<'_>) -> Result<Group, ScenarioRefusal>
     requires { document.now.at.now ≡ [] }
-    ensures { Shows settings_shown result (settings_of (table_view document.now.table.now)) }
+    ensures few { IfOk result (λ group. group.screens ≤ 4) }
+    ensures answer { Shows settings_shown result (settings_of (table_view document.now.table.now)) }
 {
     let f = document.count_at("f", 1, 3)?;
     let k = document.count_or("k", 0, 0, 2)?;

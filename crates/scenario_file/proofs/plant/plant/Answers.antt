@@ -15,3 +15,6 @@ make-requires-clause-usable c = rw c.as_slice.ensures (points_of-usable _ _ _ c.
 
 pub make-requires-2 : goal.make-requires-2
 make-requires-2 c = rw c.as_slice-2.ensures (alarms_of-few _ _ _ c.in_ok-alarms.ensures)
+
+pub returns-clause-few : goal.returns-clause-few
+returns-clause-few c = devices_of-few _ _ c.in_ok-devices.ensures
