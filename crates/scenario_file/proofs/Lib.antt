@@ -5,3 +5,5 @@ pub mod PlantLaws
 pub mod ActorLaws
 pub mod UnknownLaws
 pub mod SettingsLaws
+pub mod ValidLaws
+pub mod SmallestLaws

@@ -1,17 +1,18 @@
 -- What holds of the keys that aren't tables.
-use Rattle.std.proofs.Common.{◌≡◌, ℕ, zero, suc, ◌+◌, ◌≤◌, ◌<◌, nat_eq, nat_lt, Bool, true, false, not, ◌&&◌, ◌||◌, List, [], ◌∷◌, ◌++◌, length, map, refl, sym, ◌∙◌, ap, subst, arith, Result, Ok, Err, Option, Some, None}
+use Rattle.std.proofs.Common.{◌≡◌, ℕ, zero, suc, ◌+◌, ◌≤◌, ◌<◌, nat_eq, nat_lt, Bool, true, false, not, ◌&&◌, ◌||◌, List, [], ◌∷◌, ◌++◌, length, length-append, map, take, get_or, refl, sym, ◌∙◌, ap, subst, arith, Result, Ok, Err, Option, Some, None}
 use Rattle.std.specs.Prelude.{codes, All}
 use Rattle.std.specs.List.{AllByRecursion, list_any}
 use Rattle.std.proofs.lemmas.Bool.{and_parts}
 use Rattle.std.proofs.lemmas.Bool.Decides.{nat_tests}
-use Rattle.std.proofs.lemmas.List.{map-append}
+use Rattle.std.proofs.lemmas.List.{map-append, take_more}
 use Rattle.quorum_sets.specs.Masters.{has_master, voters, numbers_below, with_master}
-use Rattle.quorum_sets.proofs.MastersLemmas.{voters_same, has_master-voters_below, numbers_below-suc}
+use Rattle.quorum_sets.proofs.MastersLemmas.{voters_same, voters_none, has_master-voters_below, numbers_below-suc}
 use Rattle.toml.specs.Data.{Data, Members, get_member}
+use Rattle.scenario_file.specs.declared.refusal.ScenarioRefusal.{ScenarioRefusal}
 use Rattle.scenario_file.specs.Answers.{◌>>=◌, kept}
 use Rattle.scenario_file.specs.Values.{count_in, integer_in, greatest_count}
 use Rattle.scenario_file.specs.Lists.{list_in, number_after, numbers_in}
-use Rattle.scenario_file.specs.Settings.{is_new_master, is_height, set_of, levels_of}
+use Rattle.scenario_file.specs.Settings.{is_new_master, is_height, set_of, levels_of, intruded_of}
 use Rattle.scenario_file.proofs.Steps.{step, kept-ok}
 use Rattle.scenario_file.proofs.RowLaws.{gathered-all, all-at}
 use Rattle.scenario_file.proofs.PlantLaws.{below}
@@ -45,8 +46,8 @@ number_after-ok name f before d n h =
 pub masters-there : (name : List ℕ) (n : ℕ) (ds : List Data) (ms : List ℕ) → numbers_in name (is_new_master n) ds ≡ Ok ms → AllByRecursion (λ m. m < n) ms
 masters-there name n ds ms h =
     gathered-all (λ m. m < n) (number_after name (is_new_master n))
-      (λ before d m read. below m n (and_parts (nat_lt m n) (not (has_master before m)) (number_after-ok name (is_new_master n) before d m read)).0)
-      [] ds ms tt h
+    (λ before d m read. below m n (and_parts (nat_lt m n) (not (has_master before m)) (number_after-ok name (is_new_master n) before d m read)).0)
+    [] ds ms tt h
 
 -- the levels that are taken where none are given
 pub levels_of-default : (doc : Members) → get_member (codes "levels") doc ≡ None → levels_of doc ≡ Ok (5 ∷ 5 ∷ 5 ∷ [])
@@ -59,3 +60,23 @@ map-numbers f n = let later : n + 1 ≡ suc n = omega arith in rw (later, number
 pub map-no_numbers : {A : Type 0} (f : ℕ → A) → map f (numbers_below 0) ≡ []
 unfolding numbers_below
 map-no_numbers f = refl
+
+pub set_of-more : (xs : List ℕ) (i : ℕ) (set new : List ℕ) → i < length xs → set ≡ set_of (take i xs) → new ≡ with_master set (get_or xs i 0) → new ≡ set_of (take (i + 1) xs)
+set_of-more xs i set new inside so_far added =
+    added ∙ ap (λ s. with_master s (get_or xs i 0)) so_far ∙ set_of-push (take i xs) (get_or xs i 0) ∙ ap set_of (sym (take_more xs i 0 inside))
+
+pub set_of-none : set_of [] ≡ []
+set_of-none = voters_none 14
+
+abbrev taken : List ℕ → Result (List ℕ) ScenarioRefusal
+taken masters = Ok masters
+
+-- where no masters are named, none is intruded
+pub intruded_of-default : (n : ℕ) (doc : Members) → get_member (codes "intruded") doc ≡ None → intruded_of n doc ≡ Ok []
+unfolding intruded_of list_in
+intruded_of-default n doc none = rw none (ap taken set_of-none)
+
+pub length-numbers_below : (n : ℕ) → length (numbers_below n) ≡ n
+unfolding numbers_below
+length-numbers_below zero = refl
+length-numbers_below (suc n) = let longer = length-append (numbers_below n) (n ∷ []) in let same = length-numbers_below n in omega arith

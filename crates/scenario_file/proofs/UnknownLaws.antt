@@ -37,13 +37,12 @@ least-row what key show xs i x best after all inside is so_far here =
     ∙ ap (λ j. least_of (least_of best (unknown_in what (row_name key i) (show x))) (unknown_rows what key j (map show (drop (i + 1) xs)))) later
     ∙ sym (least_of-append best (unknown_in what (row_name key i) (show x)) (unknown_rows what key (suc i) (map show (drop (i + 1) xs)))) ∙ whole
 
-
 abbrev answer : Option (List ℕ) → Result (Option (List ℕ)) ScenarioRefusal
 answer found = Ok found
 
 -- the least of all names is found list by list
 all-lists : (ns : List (List ℕ)) (r1 r2 r3 r4 r5 : Result (List (List ℕ)) ScenarioRefusal)
-    → (r1 >>= (λ a. r2 >>= (λ b. r3 >>= (λ c. r4 >>= (λ d. r5 >>= (λ e. Ok (least_of None (ns ++ a ++ b ++ c ++ d ++ e)))))))) 
+    → (r1 >>= (λ a. r2 >>= (λ b. r3 >>= (λ c. r4 >>= (λ d. r5 >>= (λ e. Ok (least_of None (ns ++ a ++ b ++ c ++ d ++ e))))))))
     ≡ (least_among (least_of None ns) r1 >>= (λ a. least_among a r2 >>= (λ b. least_among b r3 >>= (λ c. least_among c r4 >>= (λ d. least_among d r5)))))
 all-lists ns (Err x) r2 r3 r4 r5 = refl
 all-lists ns (Ok a) (Err x) r3 r4 r5 = refl
@@ -52,11 +51,11 @@ all-lists ns (Ok a) (Ok b) (Ok c) (Err x) r5 = refl
 all-lists ns (Ok a) (Ok b) (Ok c) (Ok d) (Err x) = refl
 all-lists ns (Ok a) (Ok b) (Ok c) (Ok d) (Ok e) =
     ap (λ (found : Option (List ℕ)). answer found)
-      (least_of-append None (ns ++ a ++ b ++ c ++ d) e
-      ∙ ap (λ (found : Option (List ℕ)). least_of found e) (least_of-append None (ns ++ a ++ b ++ c) d)
-      ∙ ap (λ (found : Option (List ℕ)). least_of (least_of found d) e) (least_of-append None (ns ++ a ++ b) c)
-      ∙ ap (λ (found : Option (List ℕ)). least_of (least_of (least_of found c) d) e) (least_of-append None (ns ++ a) b)
-      ∙ ap (λ (found : Option (List ℕ)). least_of (least_of (least_of (least_of found b) c) d) e) (least_of-append None ns a))
+    (least_of-append None (ns ++ a ++ b ++ c ++ d) e
+    ∙ ap (λ (found : Option (List ℕ)). least_of found e) (least_of-append None (ns ++ a ++ b ++ c) d)
+    ∙ ap (λ (found : Option (List ℕ)). least_of (least_of found d) e) (least_of-append None (ns ++ a ++ b) c)
+    ∙ ap (λ (found : Option (List ℕ)). least_of (least_of (least_of found c) d) e) (least_of-append None (ns ++ a) b)
+    ∙ ap (λ (found : Option (List ℕ)). least_of (least_of (least_of (least_of found b) c) d) e) (least_of-append None ns a))
 
 pub first-unknown : (doc : Members) → first_unknown doc ≡ least_unknown doc
 unfolding first_unknown least_unknown least_at

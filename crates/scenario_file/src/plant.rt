@@ -97,7 +97,14 @@ impl Keys<'_> {
         ensures { Answers result (value_of (self.now.at.now ++ codes "value") (get_member (codes "value") (table_view self.now.table.now))) }
     {
         match self.member("value") {
-            Some(value) => Ok(Some(integer(self.alloc, value, self.at, "value", i64::MIN, i64::MAX)?)),
+            Some(value) => Ok(Some(integer(
+                self.alloc,
+                value,
+                self.at,
+                "value",
+                i64::MIN,
+                i64::MAX,
+            )?)),
             None => Ok(None),
         }
     }
@@ -125,7 +132,11 @@ impl Rows<DeviceSizes> for DeviceRows {
     ghost reads = { λ _ before at t. device_in before at t };
 
     #[tactic(auto, unfolding(crate::specs::PlantRows::device_in))]
-    fn read(&self, _before: &[DeviceSizes], keys: &Keys<'_>) -> Result<DeviceSizes, ScenarioRefusal> {
+    fn read(
+        &self,
+        _before: &[DeviceSizes],
+        keys: &Keys<'_>,
+    ) -> Result<DeviceSizes, ScenarioRefusal> {
         Ok(DeviceSizes {
             coils: keys.count_at("coils", 0, MOST_PLACES)? as u16,
             discrete: keys.count_at("discrete", 0, MOST_PLACES)? as u16,
@@ -270,7 +281,12 @@ fn devices(document: &Keys<'_>) -> Result<Items<DeviceSizes>, ScenarioRefusal>
 fn points(document: &Keys<'_>, devices: u32) -> Result<Items<Point>, ScenarioRefusal>
     ensures { Answers result (points_of devices (table_view document.now.table.now)) }
 {
-    read_rows(document, &PointRows { devices }, "point", Some(Points::MOST))
+    read_rows(
+        document,
+        &PointRows { devices },
+        "point",
+        Some(Points::MOST),
+    )
 }
 
 #[tactic(auto, unfolding(crate::specs::PlantRows::alarms_of))]
@@ -288,7 +304,12 @@ fn interlocks(
 ) -> Result<Items<Interlock>, ScenarioRefusal>
     ensures { Answers result (interlocks_of (record { points = points.now; alarms = alarms.now }) (table_view document.now.table.now)) }
 {
-    read_rows(document, &InterlockRows { points, alarms }, "interlock", Some(64))
+    read_rows(
+        document,
+        &InterlockRows { points, alarms },
+        "interlock",
+        Some(64),
+    )
 }
 
 /// The plant of a document.

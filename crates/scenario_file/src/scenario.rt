@@ -52,25 +52,39 @@ impl Scenario {
     pub fn s1(alloc: Global) -> Result<Scenario, Want>
         ensures { IfOk result (λ scenario. contents scenario ≡ smallest) }
     {
-        let mut failing = Items::new(alloc);
-        for _actor in 0..5u32 {
-            failing.push(Items::new(alloc))?;
-        }
-        Ok(Scenario {
-            sizes: Sizes::new(1, 0).unwrap(),
-            seed: [0; 32],
-            heights: usual_heights(alloc)?,
-            intruded: VoterSet::empty(),
+        let cast = Cast {
+            masters: 4,
+            proxies: 0,
             screens: 1,
-            plant: Plant {
-                devices: Items::new(alloc),
-                points: Items::new(alloc),
-                alarms: Items::new(alloc),
-                interlocks: Items::new(alloc),
-            },
-            failing,
-            frames: 1,
-        })
+        };
+        let failing = failing_lists(alloc, cast, &[])?;
+        Ok(with_plant(smallest_group(alloc)?, empty_plant(alloc), failing))
+    }
+}
+
+/// The smallest scenario's keys that aren't tables.
+fn smallest_group(alloc: Global) -> Result<Group, Want>
+    ensures { IfOk result (λ group. settings_shown group ≡ smallest.settings) }
+{
+    Ok(Group {
+        sizes: Sizes::new(1, 0).unwrap(),
+        seed: [0; 32],
+        heights: usual_heights(alloc)?,
+        frames: 1,
+        intruded: VoterSet::empty(),
+        screens: 1,
+    })
+}
+
+/// The plant of nothing.
+fn empty_plant(alloc: Global) -> Plant
+    ensures { result ≡ smallest.plant }
+{
+    Plant {
+        devices: Items::new(alloc),
+        points: Items::new(alloc),
+        alarms: Items::new(alloc),
+        interlocks: Items::new(alloc),
     }
 }
 

@@ -66,7 +66,13 @@ fn intruded(document: &Keys<'_>, masters: u32) -> Result<VoterSet, ScenarioRefus
     match document.member("intruded") {
         Some(value) => {
             let values = list(document.alloc, value, "", "intruded", 0, None)?;
-            let numbers = numbers(document.alloc, values, "", "intruded", Series::Masters(masters))?;
+            let numbers = numbers(
+                document.alloc,
+                values,
+                "",
+                "intruded",
+                Series::Masters(masters),
+            )?;
             Ok(set_of(numbers.as_slice()))
         }
         None => Ok(VoterSet::empty()),

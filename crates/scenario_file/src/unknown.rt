@@ -102,7 +102,12 @@ fn least_in(keys: &Keys<'_>, kind: Kind, best: Option<Text>) -> Result<Option<Te
 }
 
 /// The same for one key.
-fn least_with(keys: &Keys<'_>, kind: Kind, best: Option<Text>, key: &str) -> Result<Option<Text>, Want>
+fn least_with(
+    keys: &Keys<'_>,
+    kind: Kind,
+    best: Option<Text>,
+    key: &str,
+) -> Result<Option<Text>, Want>
     ensures { IfOk result (λ least. least ≡ least_with kind keys.now.at.now best key.now) }
 {
     if kind.has(key) {

@@ -49,7 +49,14 @@ pub fn too_many<T>(alloc: Global, at: &str, key: &str) -> Result<T, ScenarioRefu
 }
 
 /// A number, where it is within its bounds.
-fn within(alloc: Global, number: i64, at: &str, key: &str, low: i64, high: i64) -> Result<i64, ScenarioRefusal>
+fn within(
+    alloc: Global,
+    number: i64,
+    at: &str,
+    key: &str,
+    low: i64,
+    high: i64,
+) -> Result<i64, ScenarioRefusal>
     ensures { Answers result (kept (at.now ++ key.now) (int_le low number && int_le number high) number) }
 {
     if low <= number && number <= high {
@@ -61,7 +68,14 @@ fn within(alloc: Global, number: i64, at: &str, key: &str, low: i64, high: i64) 
 
 /// The whole number that a value is, within bounds.
 #[tactic(auto, unfolding(crate::specs::Values::integer_in))]
-pub fn integer(alloc: Global, value: &Value, at: &str, key: &str, low: i64, high: i64) -> Result<i64, ScenarioRefusal>
+pub fn integer(
+    alloc: Global,
+    value: &Value,
+    at: &str,
+    key: &str,
+    low: i64,
+    high: i64,
+) -> Result<i64, ScenarioRefusal>
     ensures { Answers result (integer_in (at.now ++ key.now) low high (view value.now)) }
 {
     match value.as_integer() {
@@ -72,7 +86,14 @@ pub fn integer(alloc: Global, value: &Value, at: &str, key: &str, low: i64, high
 
 /// The same without a sign.
 #[tactic(auto, unfolding(crate::specs::Values::count_in, crate::specs::Values::integer_in))]
-pub fn count(alloc: Global, value: &Value, at: &str, key: &str, low: u32, high: u32) -> Result<u32, ScenarioRefusal>
+pub fn count(
+    alloc: Global,
+    value: &Value,
+    at: &str,
+    key: &str,
+    low: u32,
+    high: u32,
+) -> Result<u32, ScenarioRefusal>
     ensures answer { Answers result (count_in (at.now ++ key.now) low high (view value.now)) }
     ensures low { IfOk result (λ n. low ≤ n) }
     ensures high { IfOk result (λ n. n ≤ high) }
@@ -121,7 +142,13 @@ impl<'a> Keys<'a> {
 
     /// The number of a key, or the default where it isn't there.
     #[tactic(auto, unfolding(crate::specs::Values::integer_or, crate::specs::Values::integer_in))]
-    pub fn integer_or(&self, key: &str, default: i64, low: i64, high: i64) -> Result<i64, ScenarioRefusal>
+    pub fn integer_or(
+        &self,
+        key: &str,
+        default: i64,
+        low: i64,
+        high: i64,
+    ) -> Result<i64, ScenarioRefusal>
         ensures { Answers result (integer_or self.now.at.now key.now default low high (table_view self.now.table.now)) }
     {
         match self.member(key) {
@@ -143,7 +170,13 @@ impl<'a> Keys<'a> {
 
     /// The count of a key, or the default where it isn't there.
     #[tactic(auto, unfolding(crate::specs::Values::count_or, crate::specs::Values::count_in, crate::specs::Values::integer_in))]
-    pub fn count_or(&self, key: &str, default: u32, low: u32, high: u32) -> Result<u32, ScenarioRefusal>
+    pub fn count_or(
+        &self,
+        key: &str,
+        default: u32,
+        low: u32,
+        high: u32,
+    ) -> Result<u32, ScenarioRefusal>
         requires low { low ≤ default }
         requires high { default ≤ high }
         ensures answer { Answers result (count_or self.now.at.now key.now default low high (table_view self.now.table.now)) }
