@@ -1,5 +1,5 @@
 -- Actors looked up one by one.
-use Rattle.std.proofs.Common.{◌≡◌, ℕ, zero, suc, ◌+◌, ◌-◌, ◌<◌, ◌≤◌, Bool, true, false, cond, refl, sym, ◌∙◌, ap, arith, Option, Some, None}
+use Rattle.std.proofs.Common.{◌≡◌, ℕ, zero, suc, ◌+◌, ◌-◌, ◌<◌, ◌≤◌, Bool, true, false, refl, sym, ap, arith, Some, None}
 use Rattle.point_table.specs.Point.{first_that}
 
 left-over : (a n : ℕ) → a < n → n - a ≡ suc (n - (a + 1))

@@ -1,7 +1,7 @@
 -- Lists read element by element, and refusals that are passed on.
 use Rattle.std.proofs.Common.{◌≡◌, ℕ, suc, ◌+◌, ◌≤◌, ◌<◌, List, [], ◌∷◌, ◌++◌, length, map, get_or, drop, refl, sym, ◌∙◌, ap, subst, arith, drop-cons, Result, Ok, Err, Option, Some, None}
 use Rattle.std.proofs.lemmas.List.{drop_all, map-append, length-map}
-use Rattle.toml.specs.Data.{Data, Items, no_items, item, as_array}
+use Rattle.toml.specs.Data.{Data, as_array}
 use Rattle.toml.specs.View.{view, items_of, items_view}
 use Rattle.toml.specs.declared.value.Value.{Value}
 use Rattle.scenario_file.specs.declared.refusal.ScenarioRefusal.{ScenarioRefusal}

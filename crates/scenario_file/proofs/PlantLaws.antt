@@ -1,21 +1,20 @@
 -- What holds of the plant that a document gives.
-use Rattle.std.proofs.Common.{◌≡◌, ℕ, ◌+◌, ◌≤◌, ◌<◌, nat_lt, Bool, true, false, ◌&&◌, List, [], ◌∷◌, ◌++◌, length, refl, sym, ◌∙◌, ap, subst, arith, Result, Ok, Err, Option, Some, None, ℤ, pos}
-use Rattle.std.specs.Prelude.{int_le, ◌≤ℤ◌, codes}
+use Rattle.std.proofs.Common.{◌≡◌, ℕ, ◌≤◌, ◌<◌, nat_lt, true, List, [], ◌∷◌, ◌++◌, length, refl, subst, arith, Ok, Some, pos}
+use Rattle.std.specs.Prelude.{codes}
 use Rattle.std.specs.List.{AllByRecursion}
 use Rattle.std.proofs.lemmas.Bool.Decides.{nat_tests}
 use Rattle.toml.specs.Data.{Members}
 use Rattle.point_table.specs.declared.point.DeviceSizes.{DeviceSizes}
 use Rattle.point_table.specs.declared.point.Point.{Point}
-use Rattle.point_table.specs.Point.{IsUsable, is_within}
+use Rattle.point_table.specs.Point.{IsUsable}
 use Rattle.point_table.specs.Table.{AreUsable, point_named}
 use Rattle.alarm_rules.specs.declared.alarm.AlarmRule.{AlarmRule}
 use Rattle.interlocks.specs.declared.interlock.Interlock.{Interlock}
 use Rattle.interlocks.specs.Reading.{Names}
 use Rattle.master_points.specs.Orders.{AreOwned}
-use Rattle.scenario_file.specs.Answers.{◌>>=◌}
 use Rattle.scenario_file.specs.Values.{count_at, integer_at, integer_or, least, most, greatest_count}
 use Rattle.scenario_file.specs.PlantRows.{device_in, name_in, proxy_in, area_in, point_in, alarm_in, interlock_in, devices_of, points_of, alarms_of, interlocks_of}
-use Rattle.scenario_file.proofs.Steps.{step, ok-same, kept-ok, int_le-at-most, integer_at-ok, integer_or-ok, count_at-ok}
+use Rattle.scenario_file.proofs.Steps.{step, ok-same, kept-ok, int_le-at-most, integer_at-ok, integer_or-ok}
 use Rattle.scenario_file.proofs.RowLaws.{rows_of-few, rows_of-all}
 
 pub devices_of-few : (doc : Members) (ds : List DeviceSizes) → devices_of doc ≡ Ok ds → length ds ≤ 8

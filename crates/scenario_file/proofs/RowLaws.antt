@@ -1,14 +1,14 @@
 -- How many rows there are, and what holds of each.
-use Rattle.std.proofs.Common.{◌≡◌, ℕ, zero, suc, ◌+◌, ◌≤◌, ◌<◌, nat_lt, Bool, true, false, List, [], ◌∷◌, ◌++◌, length, length-append, refl, sym, ◌∙◌, ap, subst, arith, Result, Ok, Err, Option, Some, None}
+use Rattle.std.proofs.Common.{◌≡◌, ℕ, zero, suc, ◌+◌, ◌≤◌, nat_lt, Bool, true, false, List, [], ◌∷◌, ◌++◌, length, length-append, refl, ap, subst, arith, Result, Ok, Err, Option, Some}
 use Rattle.std.specs.List.{AllByRecursion}
-use Rattle.std.specs.Prelude.{All, slice_index_or, if◌then◌else◌}
+use Rattle.std.specs.Prelude.{All, if◌then◌else◌}
 use Rattle.std.proofs.lemmas.Bool.Decides.{nat_tests}
 use Rattle.toml.specs.Data.{Data, Members, array, no_items, as_array}
 use Rattle.scenario_file.specs.declared.refusal.ScenarioRefusal.{ScenarioRefusal}
 use Rattle.scenario_file.specs.declared.refusal.ScenarioRefusal.TheVariants as refusal
-use Rattle.scenario_file.specs.Answers.{◌>>=◌, bad, or_bad}
+use Rattle.scenario_file.specs.Answers.{bad, or_bad}
 use Rattle.scenario_file.specs.Values.{or_default}
-use Rattle.scenario_file.specs.Lists.{list_of, is_above, sized, list_in, gathered, table_in, rows_at, row_name, each, rows_of}
+use Rattle.scenario_file.specs.Lists.{list_of, is_above, sized, list_in, gathered, table_in, rows_at, row_name, rows_of}
 use Rattle.scenario_file.proofs.Steps.{then-ok, ok-same}
 
 pub all-push : {A : Type 0} (P : A → Type 0) (xs : List A) (x : A) → AllByRecursion P xs → P x → AllByRecursion P (xs ++ x ∷ [])

@@ -1,20 +1,19 @@
 -- What holds of the keys that aren't tables.
-use Rattle.std.proofs.Common.{◌≡◌, ℕ, zero, suc, ◌+◌, ◌≤◌, ◌<◌, nat_eq, nat_lt, Bool, true, false, not, ◌&&◌, ◌||◌, List, [], ◌∷◌, ◌++◌, length, length-append, map, take, get_or, refl, sym, ◌∙◌, ap, subst, arith, Result, Ok, Err, Option, Some, None}
-use Rattle.std.specs.Prelude.{codes, All}
-use Rattle.std.specs.List.{AllByRecursion, list_any}
+use Rattle.std.proofs.Common.{◌≡◌, ℕ, zero, suc, ◌+◌, ◌<◌, nat_eq, nat_lt, Bool, true, false, not, ◌||◌, List, [], ◌∷◌, ◌++◌, length, length-append, map, take, get_or, refl, sym, ◌∙◌, ap, subst, arith, Result, Ok, None}
+use Rattle.std.specs.Prelude.{codes}
+use Rattle.std.specs.List.{AllByRecursion}
 use Rattle.std.proofs.lemmas.Bool.{and_parts}
 use Rattle.std.proofs.lemmas.Bool.Decides.{nat_tests}
 use Rattle.std.proofs.lemmas.List.{map-append, take_more}
-use Rattle.quorum_sets.specs.Masters.{has_master, voters, numbers_below, with_master}
+use Rattle.quorum_sets.specs.Masters.{has_master, numbers_below, with_master}
 use Rattle.quorum_sets.proofs.MastersLemmas.{voters_same, voters_none, has_master-voters_below, numbers_below-suc}
 use Rattle.toml.specs.Data.{Data, Members, get_member}
 use Rattle.scenario_file.specs.declared.refusal.ScenarioRefusal.{ScenarioRefusal}
-use Rattle.scenario_file.specs.Answers.{◌>>=◌, kept}
 use Rattle.scenario_file.specs.Values.{count_in, integer_in, greatest_count}
 use Rattle.scenario_file.specs.Lists.{list_in, number_after, numbers_in}
-use Rattle.scenario_file.specs.Settings.{is_new_master, is_height, set_of, levels_of, intruded_of}
+use Rattle.scenario_file.specs.Settings.{is_new_master, set_of, levels_of, intruded_of}
 use Rattle.scenario_file.proofs.Steps.{step, kept-ok}
-use Rattle.scenario_file.proofs.RowLaws.{gathered-all, all-at}
+use Rattle.scenario_file.proofs.RowLaws.{gathered-all}
 use Rattle.scenario_file.proofs.PlantLaws.{below}
 
 swapped : (a b c : Bool) → (a || (b || c)) ≡ (b || (a || c))

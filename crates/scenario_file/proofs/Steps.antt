@@ -1,12 +1,11 @@
 -- What an answer that was given says of its steps.
-use Rattle.std.proofs.Common.{◌≡◌, ℕ, zero, suc, ◌+◌, ◌≤◌, ◌<◌, Bool, true, false, cond, ◌&&◌, List, [], ◌∷◌, ◌++◌, length, refl, sym, ◌∙◌, ap, subst, arith, Result, Ok, Err, Option, Some, None, ℤ, pos, negsuc}
-use Rattle.std.specs.Prelude.{int_le, if◌then◌else◌, ◌≤ℤ◌}
-use Rattle.std.proofs.lemmas.Bool.{and_parts, false≢true}
+use Rattle.std.proofs.Common.{◌≡◌, ℕ, ◌≤◌, Bool, true, false, ◌&&◌, List, ◌++◌, refl, ap, subst, arith, Result, Ok, Err, Option, Some, None, ℤ, pos, negsuc}
+use Rattle.std.specs.Prelude.{int_le, ◌≤ℤ◌}
+use Rattle.std.proofs.lemmas.Bool.{and_parts}
 use Rattle.std.proofs.lemmas.Int.{ints, to_z-of_z}
-use Rattle.toml.specs.Data.{Data, integer, as_integer, Members, get_member}
+use Rattle.toml.specs.Data.{Data, integer, as_integer, Members}
 use Rattle.scenario_file.specs.declared.refusal.ScenarioRefusal.{ScenarioRefusal}
-use Rattle.scenario_file.specs.declared.refusal.ScenarioRefusal.TheVariants as refusal
-use Rattle.scenario_file.specs.Answers.{◌>>=◌, kept, or_bad, bad}
+use Rattle.scenario_file.specs.Answers.{◌>>=◌, kept, or_bad}
 use Rattle.scenario_file.specs.Values.{needed, integer_in, integer_at, integer_or, count_in, count_at, count_or, or_default, magnitude}
 
 -- each step of an answer gave one too

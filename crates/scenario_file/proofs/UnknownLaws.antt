@@ -3,7 +3,7 @@ use Rattle.std.proofs.Common.{◌≡◌, ℕ, suc, ◌+◌, ◌<◌, ◌≤◌, 
 use Rattle.std.specs.Prelude.{codes}
 use Rattle.std.specs.List.{list_any}
 use Rattle.std.specs.Str.{bytes_eq}
-use Rattle.toml.specs.Data.{Data, Members, member, no_members}
+use Rattle.toml.specs.Data.{Data, Members, member}
 use Rattle.scenario_file.specs.declared.refusal.ScenarioRefusal.{ScenarioRefusal}
 use Rattle.scenario_file.specs.declared.unknown.Kind.{Kind}
 use Rattle.scenario_file.specs.declared.unknown.Kind.TheVariants as kind

@@ -1,15 +1,14 @@
 -- What holds of each scenario that a document gives.
-use Rattle.std.proofs.Common.{◌≡◌, ℕ, zero, suc, ◌+◌, ◌≤◌, ◌<◌, nat_eq, nat_lt, ◌==◌, Bool, true, false, cond, not, ◌&&◌, ◌||◌, List, [], ◌∷◌, ◌++◌, length, map, refl, sym, ◌∙◌, ap, subst, arith, inl, inr, Result, Ok, Err, Option, Some, None, ℤ, pos, ◌⊎◌}
-use Rattle.std.specs.Prelude.{codes, All, IfOk, ◌≤ℤ◌, int_le}
+use Rattle.std.proofs.Common.{◌≡◌, ℕ, zero, suc, ◌≤◌, ◌<◌, nat_eq, ◌==◌, Bool, true, false, cond, ◌||◌, List, [], ◌∷◌, ◌++◌, length, refl, ◌∙◌, subst, arith, inl, inr, Result, Ok, Err, Option, Some, None, pos, ◌⊎◌}
+use Rattle.std.specs.Prelude.{codes, IfOk}
 use Rattle.std.specs.List.{AllByRecursion}
-use Rattle.std.proofs.lemmas.Bool.{and_parts}
 use Rattle.std.proofs.lemmas.Bool.Decides.{nat_tests}
 use Rattle.std.proofs.lemmas.List.{length-map}
 use Rattle.std.proofs.lemmas.List.Quantifiers.{position-Some}
 use Rattle.quorum_sets.specs.Quorum.{IsGroup, group_size}
 use Rattle.quorum_sets.specs.Masters.{has_master, voters, numbers_below}
 use Rattle.quorum_sets.proofs.MastersLemmas.{voters-suc, voters-zero}
-use Rattle.toml.specs.Data.{Data, Members, get_member, array, no_items}
+use Rattle.toml.specs.Data.{Members, get_member, array, no_items}
 use Rattle.point_table.specs.declared.point.Area.TheVariants.{Coil}
 use Rattle.point_table.specs.declared.point.DeviceSizes.{DeviceSizes}
 use Rattle.point_table.specs.declared.point.Point.{Point}
@@ -25,9 +24,9 @@ use Rattle.scenario_file.specs.declared.refusal.ScenarioRefusal.{ScenarioRefusal
 use Rattle.toml.specs.Parse.{parse_document}
 use Rattle.scenario_file.specs.declared.actors.Cast.{Cast}
 use Rattle.scenario_file.specs.declared.scenario.Scenario.{Scenario}
-use Rattle.scenario_file.specs.Answers.{◌>>=◌, kept, or_bad, Shows}
+use Rattle.scenario_file.specs.Answers.{Shows}
 use Rattle.scenario_file.specs.Values.{count_at, count_or, integer_at, text_at, bytes_at, least, most, or_default}
-use Rattle.scenario_file.specs.Lists.{list_in, number_after, numbers_in, gathered}
+use Rattle.scenario_file.specs.Lists.{list_in, number_after, numbers_in}
 use Rattle.scenario_file.specs.Settings.{Settings, is_height, is_new_master, usual_levels, levels_of, set_of, intruded_of, settings_of}
 use Rattle.scenario_file.specs.PlantRows.{device_in, name_in, point_named_in, kind_in, alarm_in, interlock_named, value_of, rule_in, names_of, interlock_in, devices_of, points_of, alarms_of, interlocks_of, plant_of}
 use Rattle.scenario_file.specs.Actors.{actors_of}
@@ -36,7 +35,7 @@ use Rattle.scenario_file.specs.Unknown.{first_unknown}
 use Rattle.scenario_file.specs.Reading.{Contents, cast_of, unless_unknown, scenario_of, or_no_toml, scenario_in, contents}
 use Rattle.scenario_file.specs.Valid.{IsHeight, IsDevice, IsAlarm, IsInterlock, IsScenario}
 use Rattle.scenario_file.proofs.Steps.{step, ok-same, or_bad-ok, integer_at-ok, count_at-ok, count_or-ok, int_le-at-most}
-use Rattle.scenario_file.proofs.RowLaws.{all-push, all-at, gathered-length, gathered-all, list_in-ok, at-most, rows_of-all}
+use Rattle.scenario_file.proofs.RowLaws.{all-at, gathered-length, gathered-all, list_in-ok, at-most, rows_of-all}
 use Rattle.scenario_file.proofs.PlantLaws.{devices_of-few, points_of-few, points_of-usable, points_of-owned, alarms_of-few, interlocks_of-few}
 use Rattle.scenario_file.proofs.SettingsLaws.{number_after-ok, masters-there, length-numbers_below}
 

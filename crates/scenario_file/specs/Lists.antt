@@ -1,6 +1,6 @@
 -- Lists of numbers, and lists of tables. A list's type is looked at first, then its length, then its elements in
 -- order; an element that is no number that may stand there, or no table, is a fault of the list's key.
-use Rattle.std.specs.Prelude.{ℕ, ◌++◌, codes, decimal, Bool, false, if◌then◌else◌, List, [], ◌∷◌, length, nat_lt, Option, Some, None, Result, Ok, Err}
+use Rattle.std.specs.Prelude.{ℕ, ◌++◌, codes, decimal, Bool, false, if◌then◌else◌, List, [], ◌∷◌, length, nat_lt, Option, Result, Ok, Err}
 use Rattle.std.specs.Option.{option_map_or}
 use Rattle.toml.specs.Data.{Data, array, as_array, as_table, Items, no_items, item, Members}
 use Rattle.scenario_file.specs.declared.refusal.ScenarioRefusal.{ScenarioRefusal}

@@ -1,17 +1,17 @@
 -- The tables of the plant: proxies with their devices, points, alarms and interlocks. A name is one as rules have
 -- them, and no two of one list have the same.
-use Rattle.std.specs.Prelude.{ℕ, nat_lt, Bool, true, false, not, ◌&&◌, if◌then◌else◌, ◌++◌, List, [], codes, length, Option, Some, None, Result, Ok, Err, ℤ, pos, is_some, position}
+use Rattle.std.specs.Prelude.{ℕ, nat_lt, Bool, true, false, not, ◌&&◌, if◌then◌else◌, ◌++◌, List, codes, length, Option, Some, None, Result, Ok, Err, ℤ, pos, is_some, position}
 use Rattle.std.specs.Str.{bytes_eq}
 use Rattle.toml.specs.Data.{Data, Members, get_member}
 use Rattle.point_table.specs.declared.point.Area.{Area}
 use Rattle.point_table.specs.declared.point.Area.TheVariants.{Coil, Discrete, Holding, Input}
 use Rattle.point_table.specs.declared.point.DeviceSizes.{DeviceSizes}
 use Rattle.point_table.specs.declared.point.Point.{Point}
-use Rattle.point_table.specs.Table.{Table, point_named, start_values}
+use Rattle.point_table.specs.Table.{point_named, start_values}
 use Rattle.alarm_rules.specs.declared.alarm.AlarmKind.{AlarmKind}
 use Rattle.alarm_rules.specs.declared.alarm.AlarmKind.TheVariants.{High, Low}
 use Rattle.alarm_rules.specs.declared.alarm.AlarmRule.{AlarmRule}
-use Rattle.alarm_rules.specs.Board.{Board, alarm_named, quiet}
+use Rattle.alarm_rules.specs.Board.{alarm_named, quiet}
 use Rattle.interlocks.specs.declared.interlock.Interlock.{Interlock}
 use Rattle.interlocks.specs.declared.refusal.RuleRefusal.{RuleRefusal}
 use Rattle.interlocks.specs.declared.token.Token.{Token}

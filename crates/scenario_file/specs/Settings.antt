@@ -1,6 +1,6 @@
 -- The keys that aren't tables: the group, the seed of its keys, its intruded masters, its screens.
-use Rattle.std.specs.Prelude.{ℕ, ◌==◌, nat_lt, Bool, not, ◌&&◌, ◌||◌, List, [], ◌∷◌, codes, Some, None, Ok, pos}
-use Rattle.toml.specs.Data.{Data, integer, array, Items, no_items, item, Members}
+use Rattle.std.specs.Prelude.{ℕ, ◌==◌, nat_lt, Bool, not, ◌&&◌, ◌||◌, List, [], codes, Some, None, Ok, pos}
+use Rattle.toml.specs.Data.{Data, integer, array, no_items, item, Members}
 use Rattle.quorum_sets.specs.Quorum.{group_size}
 use Rattle.quorum_sets.specs.Masters.{has_master, voters}
 use Rattle.scenario_file.specs.Answers.{Answer, ◌>>=◌}

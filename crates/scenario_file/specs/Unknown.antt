@@ -1,5 +1,5 @@
 -- Keys that no scenario has. The first of them by the bytes of its whole name is a fault, where there is no other.
-use Rattle.std.specs.Prelude.{ℕ, suc, ◌++◌, codes, Bool, if◌then◌else◌, List, [], ◌∷◌, Option, Some, None, Ok}
+use Rattle.std.specs.Prelude.{ℕ, suc, ◌++◌, codes, if◌then◌else◌, List, [], ◌∷◌, Option, Some, None, Ok}
 use Rattle.std.specs.List.{list_any}
 use Rattle.std.specs.Str.{bytes_eq}
 use Rattle.std.specs.Ordering.{nat_cmp, is_lt}

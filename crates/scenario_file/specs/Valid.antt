@@ -1,5 +1,5 @@
 -- What holds of each scenario that a file gives.
-use Rattle.std.specs.Prelude.{◌≡◌, ℕ, ◌+◌, ◌<◌, ◌≤◌, ◌⊎◌, List, length, All, ℤ, pos, ◌≤ℤ◌}
+use Rattle.std.specs.Prelude.{◌≡◌, ℕ, ◌<◌, ◌≤◌, ◌⊎◌, length, All, pos, ◌≤ℤ◌}
 use Rattle.quorum_sets.specs.Quorum.{IsGroup, group_size}
 use Rattle.point_table.specs.declared.point.DeviceSizes.{DeviceSizes}
 use Rattle.alarm_rules.specs.declared.alarm.AlarmRule.{AlarmRule}

@@ -3,12 +3,15 @@
 
 pub mod actors;
 mod keepers;
+pub mod laws;
 mod lists;
 mod plant;
 pub mod refusal;
 mod rows;
 pub mod scenario;
 mod settings;
+#[cfg(test)]
+mod tests;
 mod unknown;
 mod values;
 

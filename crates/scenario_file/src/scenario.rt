@@ -48,6 +48,18 @@ impl Scenario {
         }
     }
 
+    /// How many actors of each kind the scenario has.
+    pub fn cast(&self) -> Cast
+        requires { IsScenario (contents self.now) }
+        ensures { result ≡ cast_of (contents self.now).settings self.now.plant }
+    {
+        Cast {
+            masters: self.sizes.n,
+            proxies: self.plant.devices.len() as u32,
+            screens: self.screens,
+        }
+    }
+
     /// The smallest scenario: four masters and one screen, no plant, and a seed of zeros.
     pub fn s1(alloc: Global) -> Result<Scenario, Want>
         ensures { IfOk result (λ scenario. contents scenario ≡ smallest) }

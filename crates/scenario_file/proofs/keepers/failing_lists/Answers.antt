@@ -1,4 +1,4 @@
-use Rattle.std.proofs.Common.{sym, ◌∙◌, ap}
+use Rattle.std.proofs.Common.{sym, ◌∙◌}
 use Rattle.scenario_file.specs.Keepers.{calls_of}
 use Rattle.scenario_file.proofs.SettingsLaws.{map-numbers, map-no_numbers}
 use Rattle.scenario_file.proofs.keepers.failing_lists.Goals as goal

@@ -1,4 +1,4 @@
-use Rattle.std.proofs.Common.{◌≡◌, [], length, map, drop}
+use Rattle.std.proofs.Common.{◌≡◌, length, map, drop}
 use Rattle.toml.specs.View.{table_view}
 use Rattle.scenario_file.specs.Lists.{each, row_name, gathered}
 use Rattle.scenario_file.proofs.rows.read_rows.Given as goal

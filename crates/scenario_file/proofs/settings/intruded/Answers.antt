@@ -1,4 +1,4 @@
-use Rattle.std.proofs.Common.{◌≡◌, ◌<◌, sym, ◌∙◌, ap, subst, length, arith, List, ℕ, map}
+use Rattle.std.proofs.Common.{◌<◌, sym, arith, map}
 use Rattle.std.specs.Prelude.{codes, All, slice_index_or}
 use Rattle.toml.specs.View.{view, table_view}
 use Rattle.scenario_file.proofs.RowLaws.{all-at}

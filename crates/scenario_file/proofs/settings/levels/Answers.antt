@@ -1,4 +1,4 @@
-use Rattle.std.proofs.Common.{sym, ◌∙◌}
+use Rattle.std.proofs.Common.{sym}
 use Rattle.toml.specs.View.{table_view}
 use Rattle.scenario_file.proofs.SettingsLaws.{levels_of-default}
 use Rattle.scenario_file.proofs.settings.levels.Goals as goal

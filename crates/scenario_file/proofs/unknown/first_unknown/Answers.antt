@@ -1,4 +1,3 @@
-use Rattle.std.proofs.Common.{sym}
 use Rattle.scenario_file.proofs.UnknownLaws.{first-unknown}
 use Rattle.scenario_file.proofs.unknown.first_unknown.Goals as goal
 

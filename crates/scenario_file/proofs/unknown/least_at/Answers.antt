@@ -1,6 +1,4 @@
-use Rattle.std.proofs.Common.{◌≡◌, ◌≤◌, ◌∙◌, sym, ap, map, drop, length, arith, List, Bor}
-use Rattle.std.proofs.lemmas.List.{drop_all}
-use Rattle.toml.specs.Data.{Members}
+use Rattle.std.proofs.Common.{◌≡◌, ap, map, arith}
 use Rattle.toml.specs.View.{table_view}
 use Rattle.scenario_file.proofs.UnknownLaws.{least-row, least-rows-end, least_at-read}
 use Rattle.scenario_file.proofs.unknown.least_at.Goals as goal
