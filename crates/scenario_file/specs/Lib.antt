@@ -1,0 +1,13 @@
+pub mod Answers
+pub mod Values
+pub mod Lists
+pub mod Settings
+pub mod PlantRows
+pub mod Actors
+pub mod Keepers
+pub mod Series
+pub mod Unknown
+pub mod Folding
+pub mod Shown
+pub mod Reading
+pub mod Valid

@@ -1,0 +1,20 @@
+//! The scenario file: which group, which plant and which faults a play has.
+#![tactic(auto)]
+
+pub mod actors;
+mod keepers;
+pub mod laws;
+mod lists;
+mod plant;
+pub mod refusal;
+mod rows;
+pub mod scenario;
+mod settings;
+#[cfg(test)]
+mod tests;
+mod unknown;
+mod values;
+
+pub use actors::Cast;
+pub use refusal::ScenarioRefusal;
+pub use scenario::Scenario;
