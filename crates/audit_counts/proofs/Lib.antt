@@ -1,0 +1,4 @@
+pub mod Same
+pub mod Forged
+pub mod Alike
+pub mod Merged
