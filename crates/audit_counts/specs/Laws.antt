@@ -1,5 +1,5 @@
 -- The laws of an audit's counts, as statements over every setup and history.
-use Rattle.std.specs.Prelude.{◌≡◌, ◌↔◌, ◌+◌, true, List, map}
+use Rattle.std.specs.Prelude.{◌≡◌, ◌↔◌, ◌+◌, true, List, map, ◌≤◌}
 use Rattle.message_types.specs.declared.body.Body.{Body}
 use Rattle.quorum_sets.specs.Masters.{numbers_below}
 use Rattle.protocol_rules.specs.Group.{Group}
