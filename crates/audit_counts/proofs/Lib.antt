@@ -2,3 +2,4 @@ pub mod Same
 pub mod Forged
 pub mod Alike
 pub mod Merged
+pub mod Sound

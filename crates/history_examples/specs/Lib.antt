@@ -1,0 +1,3 @@
+pub mod Signing
+pub mod Executed
+pub mod Examples
