@@ -29,7 +29,7 @@ EachSays w seen [] = Unit {0}
 EachSays w seen (e ∷ rest) = (e.said ≡ short_says w seen e.actor e.event) × EachSays w (seen ++ e ∷ []) rest
 
 -- each of the entries may come after those seen and those before it
-abbrev pub EachLegal : Setup → List Entry → List Entry → Type 0
+abbrev EachLegal : Setup → List Entry → List Entry → Type 0
 EachLegal w seen [] = Unit {0}
 EachLegal w seen (e ∷ rest) = IsLegalEntry w seen e × EachLegal w (seen ++ e ∷ []) rest
 
@@ -62,16 +62,16 @@ legal_entry w before e may said =
       said = said ∙ sym (says_short w before e.actor e.event);
     }
 
-pub each_legal : (w : Setup) (seen rest : List Entry) → each_may_come w seen rest ≡ true → EachSays w seen rest → EachLegal w seen rest
+each_legal : (w : Setup) (seen rest : List Entry) → each_may_come w seen rest ≡ true → EachSays w seen rest → EachLegal w seen rest
 each_legal w seen [] may said = tt
 each_legal w seen (e ∷ rest) may said =
     let both = and_parts (may_come w seen e) (each_may_come w (seen ++ e ∷ []) rest) may in
     (legal_entry w seen e both.0 said.0, each_legal w (seen ++ e ∷ []) rest both.1 said.1)
 
-pub then_legal : (w : Setup) (seen xs ys : List Entry) → EachLegal w seen xs → EachLegal w (seen ++ xs) ys → EachLegal w seen (xs ++ ys)
-then_legal w seen [] ys first second = subst (λ (bs : List Entry). EachLegal w bs ys) (append-nil seen) second
-then_legal w seen (x ∷ xs) ys first second =
-    (first.0, then_legal w (seen ++ x ∷ []) xs ys first.1 (subst (λ (bs : List Entry). EachLegal w bs ys) (sym (append_assoc seen (x ∷ []) xs)) second))
+pub then_says : (w : Setup) (seen xs ys : List Entry) → EachSays w seen xs → EachSays w (seen ++ xs) ys → EachSays w seen (xs ++ ys)
+then_says w seen [] ys first second = subst (λ (bs : List Entry). EachSays w bs ys) (append-nil seen) second
+then_says w seen (x ∷ xs) ys first second =
+    (first.0, then_says w (seen ++ x ∷ []) xs ys first.1 (subst (λ (bs : List Entry). EachSays w bs ys) (sym (append_assoc seen (x ∷ []) xs)) second))
 
 heads_same : {X : Type 0} {x y : X} {xs ys : List X} → x ∷ xs ≡ y ∷ ys → x ≡ y
 heads_same e = cc
@@ -88,5 +88,5 @@ legal_at w seen (x ∷ rest) all (y ∷ before) e s =
     subst (λ (z : Entry). IsLegalEntry w (seen ++ z ∷ before) e) (heads_same s.whole)
     (subst (λ (bs : List Entry). IsLegalEntry w bs e) (append_assoc seen (x ∷ []) before) later)
 
-pub legal_history : (w : Setup) (history : List Entry) → EachLegal w [] history → IsLegal w history
-legal_history w history all = record { entries = λ before e s. legal_at w [] history all before e s }
+pub legal_history : (w : Setup) (history : List Entry) → each_may_come w [] history ≡ true → EachSays w [] history → IsLegal w history
+legal_history w history may said = record { entries = λ before e s. legal_at w [] history (each_legal w [] history may said) before e s }

@@ -21,74 +21,43 @@ use Rattle.history_rules.specs.Setup.{own, stands}
 use Rattle.history_rules.specs.Legal.{IsLegal, heard, known_of, executions}
 use Rattle.history_rules.specs.Counts.{forged, alike, intruded_masters}
 use Rattle.agreement.specs.Laws.{HasSizes}
-use Rattle.audit_counts.proofs.Sound.{sound_by_counts}
-use Rattle.history_examples.specs.Examples.{SomethingIsExecuted}
+use Rattle.history_examples.specs.Words.{update}
 use Rattle.history_examples.specs.Executed as it
 use Rattle.history_examples.proofs.Short.{short_answers, short_says}
-use Rattle.history_examples.proofs.Entries.{each_may_come, EachSays, EachLegal, each_legal, then_legal, legal_history}
+use Rattle.history_examples.proofs.Entries.{each_may_come, EachSays, then_says, legal_history}
+use Rattle.audit_counts.proofs.Sound.{sound_by_counts}
+use Rattle.history_examples.specs.Examples.{SomethingIsExecuted}
 
-introduced_fits : each_may_come it.setup [] it.introduced ≡ true
+all_fit : each_may_come it.setup [] it.history ≡ true
 unfolding own stands has_spelling digest_of_update digest_of_rows most_number most_view mark_step window sha256 digest_bytes hash_after compress rounds schedule first_words u16_bytes u32_bytes u64_bytes
-introduced_fits = refl
+all_fit = refl
 
-introduced_says : EachSays it.setup [] it.introduced
+introduced_say : EachSays it.setup [] it.introduced
 unfolding short_says short_answers own heard known_at numbers_below has_quorum first_met greatest_to run_from numbers_from best_by last_below in_order each_once most_number window most_view mark_step facts_of rows_known chosen plan_of certified vector latest rows_of_frames eligible is_voted prepared offered ordered ordered_run stable last_certificate eligible_requests certified_run first_missing kept_after executed_of waiting_of view is_open turnaround acceptable own_bound executed waits digest_of_update digest_of_rows sha256 digest_bytes hash_after compress rounds schedule first_words u16_bytes u32_bytes u64_bytes
-introduced_says = (refl, (refl, (refl, (refl, (refl, (refl, (refl, tt)))))))
+introduced_say = (refl, (refl, (refl, (refl, (refl, (refl, (refl, tt)))))))
 
-introduced_legal : EachLegal it.setup [] it.introduced
-introduced_legal = each_legal it.setup [] it.introduced introduced_fits introduced_says
-
-summarized_fits : each_may_come it.setup it.introduced it.summarized ≡ true
-unfolding own stands has_spelling digest_of_update digest_of_rows most_number most_view mark_step window sha256 digest_bytes hash_after compress rounds schedule first_words u16_bytes u32_bytes u64_bytes
-summarized_fits = refl
-
-summarized_says : EachSays it.setup it.introduced it.summarized
+summarized_say : EachSays it.setup it.introduced it.summarized
 unfolding short_says short_answers own heard known_at numbers_below has_quorum first_met greatest_to run_from numbers_from best_by last_below in_order each_once most_number window most_view mark_step facts_of rows_known chosen plan_of certified vector latest rows_of_frames eligible is_voted prepared offered ordered ordered_run stable last_certificate eligible_requests certified_run first_missing kept_after executed_of waiting_of view is_open turnaround acceptable own_bound executed waits digest_of_update digest_of_rows sha256 digest_bytes hash_after compress rounds schedule first_words u16_bytes u32_bytes u64_bytes
-summarized_says = (refl, (refl, tt))
+summarized_say = (refl, (refl, tt))
 
-summarized_legal : EachLegal it.setup it.introduced it.summarized
-summarized_legal = each_legal it.setup it.introduced it.summarized summarized_fits summarized_says
-
-proposed_fits : each_may_come it.setup (it.introduced ++ it.summarized) it.proposed ≡ true
-unfolding own stands has_spelling digest_of_update digest_of_rows most_number most_view mark_step window sha256 digest_bytes hash_after compress rounds schedule first_words u16_bytes u32_bytes u64_bytes
-proposed_fits = refl
-
-proposed_says : EachSays it.setup (it.introduced ++ it.summarized) it.proposed
+proposed_say : EachSays it.setup (it.introduced ++ it.summarized) it.proposed
 unfolding short_says short_answers own heard known_at numbers_below has_quorum first_met greatest_to run_from numbers_from best_by last_below in_order each_once most_number window most_view mark_step facts_of rows_known chosen plan_of certified vector latest rows_of_frames eligible is_voted prepared offered ordered ordered_run stable last_certificate eligible_requests certified_run first_missing kept_after executed_of waiting_of view is_open turnaround acceptable own_bound executed waits digest_of_update digest_of_rows sha256 digest_bytes hash_after compress rounds schedule first_words u16_bytes u32_bytes u64_bytes
-proposed_says = (refl, (refl, (refl, tt)))
+proposed_say = (refl, (refl, (refl, tt)))
 
-proposed_legal : EachLegal it.setup (it.introduced ++ it.summarized) it.proposed
-proposed_legal = each_legal it.setup (it.introduced ++ it.summarized) it.proposed proposed_fits proposed_says
-
-prepared_fits : each_may_come it.setup (it.introduced ++ it.summarized ++ it.proposed) it.prepared ≡ true
-unfolding own stands has_spelling digest_of_update digest_of_rows most_number most_view mark_step window sha256 digest_bytes hash_after compress rounds schedule first_words u16_bytes u32_bytes u64_bytes
-prepared_fits = refl
-
-prepared_says : EachSays it.setup (it.introduced ++ it.summarized ++ it.proposed) it.prepared
+prepared_say : EachSays it.setup (it.introduced ++ it.summarized ++ it.proposed) it.prepared
 unfolding short_says short_answers own heard known_at numbers_below has_quorum first_met greatest_to run_from numbers_from best_by last_below in_order each_once most_number window most_view mark_step facts_of rows_known chosen plan_of certified vector latest rows_of_frames eligible is_voted prepared offered ordered ordered_run stable last_certificate eligible_requests certified_run first_missing kept_after executed_of waiting_of view is_open turnaround acceptable own_bound executed waits digest_of_update digest_of_rows sha256 digest_bytes hash_after compress rounds schedule first_words u16_bytes u32_bytes u64_bytes
-prepared_says = (refl, (refl, (refl, tt)))
+prepared_say = (refl, (refl, (refl, tt)))
 
-prepared_legal : EachLegal it.setup (it.introduced ++ it.summarized ++ it.proposed) it.prepared
-prepared_legal = each_legal it.setup (it.introduced ++ it.summarized ++ it.proposed) it.prepared prepared_fits prepared_says
-
-committed_fits : each_may_come it.setup (it.introduced ++ it.summarized ++ it.proposed ++ it.prepared) it.committed ≡ true
-unfolding own stands has_spelling digest_of_update digest_of_rows most_number most_view mark_step window sha256 digest_bytes hash_after compress rounds schedule first_words u16_bytes u32_bytes u64_bytes
-committed_fits = refl
-
-committed_says : EachSays it.setup (it.introduced ++ it.summarized ++ it.proposed ++ it.prepared) it.committed
+committed_say : EachSays it.setup (it.introduced ++ it.summarized ++ it.proposed ++ it.prepared) it.committed
 unfolding short_says short_answers own heard known_at numbers_below has_quorum first_met greatest_to run_from numbers_from best_by last_below in_order each_once most_number window most_view mark_step facts_of rows_known chosen plan_of certified vector latest rows_of_frames eligible is_voted prepared offered ordered ordered_run stable last_certificate eligible_requests certified_run first_missing kept_after executed_of waiting_of view is_open turnaround acceptable own_bound executed waits digest_of_update digest_of_rows sha256 digest_bytes hash_after compress rounds schedule first_words u16_bytes u32_bytes u64_bytes
-committed_says = (refl, (refl, (refl, tt)))
+committed_say = (refl, (refl, (refl, tt)))
 
-committed_legal : EachLegal it.setup (it.introduced ++ it.summarized ++ it.proposed ++ it.prepared) it.committed
-committed_legal = each_legal it.setup (it.introduced ++ it.summarized ++ it.proposed ++ it.prepared) it.committed committed_fits committed_says
+all_say : EachSays it.setup [] it.history
+all_say =
+    then_says it.setup [] (it.introduced ++ it.summarized ++ it.proposed ++ it.prepared) it.committed (then_says it.setup [] (it.introduced ++ it.summarized ++ it.proposed) it.prepared (then_says it.setup [] (it.introduced ++ it.summarized) it.proposed (then_says it.setup [] it.introduced it.summarized introduced_say summarized_say) proposed_say) prepared_say) committed_say
 
 is_legal : IsLegal it.setup it.history
-is_legal =
-    legal_history it.setup it.history
-    (then_legal it.setup [] (it.introduced ++ it.summarized ++ it.proposed ++ it.prepared) it.committed
-    (then_legal it.setup [] (it.introduced ++ it.summarized ++ it.proposed) it.prepared
-    (then_legal it.setup [] (it.introduced ++ it.summarized) it.proposed
-    (then_legal it.setup [] it.introduced it.summarized introduced_legal summarized_legal) proposed_legal) prepared_legal) committed_legal)
+is_legal = legal_history it.setup it.history all_fit all_say
 
 sizes : HasSizes it.group
 sizes = record {
@@ -97,10 +66,6 @@ sizes = record {
   quorum = refl;
 }
 
-one_intruded : intruded_masters it.setup ≡ 1
-unfolding numbers_below
-one_intruded = refl
-
 none_forged : forged it.setup it.history ≡ 0
 none_forged = refl
 
@@ -108,10 +73,14 @@ none_alike : alike it.group it.history ≡ 0
 unfolding numbers_below rows_of_frames plan_of sha256 digest_bytes hash_after compress rounds schedule first_words u16_bytes u32_bytes u64_bytes
 none_alike = refl
 
+one_intruded : intruded_masters it.setup ≡ 1
+unfolding numbers_below
+one_intruded = refl
+
 few : intruded_masters it.setup ≤ 1
 few = let one : intruded_masters it.setup ≡ 1 = one_intruded in omega (arith, one)
 
-executed_it : executions it.setup it.history 3 ≡ it.update ∷ []
+executed_it : executions it.setup it.history 3 ≡ update ∷ []
 unfolding known_of own heard known_at numbers_below has_quorum first_met greatest_to run_from numbers_from best_by last_below in_order each_once most_number window most_view mark_step facts_of rows_known chosen plan_of certified vector latest rows_of_frames eligible is_voted prepared offered ordered ordered_run stable last_certificate eligible_requests certified_run first_missing kept_after executed_of waiting_of view is_open turnaround acceptable own_bound executed waits digest_of_update digest_of_rows sha256 digest_bytes hash_after compress rounds schedule first_words u16_bytes u32_bytes u64_bytes
 executed_it = refl
 

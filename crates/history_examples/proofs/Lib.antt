@@ -1,3 +1,4 @@
 pub mod Short
 pub mod Entries
 pub mod Executed
+pub mod Disagreed

@@ -1,89 +1,19 @@
 -- A history in which an update is executed: four masters, of which master 0, the leader of view 0, is intruded, and one
 -- screen. Master 0 introduces and proposes all, masters 1 and 2 acknowledge, summarize, prepare and commit, and master 3,
 -- which heard nothing so far, takes the certificate and the order and executes.
-use Rattle.std.specs.Prelude.{ℕ, List, [], ◌∷◌, ◌++◌, nat_eq}
-use Rattle.message_types.specs.declared.signed.Signed.{Signed}
-use Rattle.message_types.specs.declared.updates.Op.TheVariants as op
-use Rattle.message_types.specs.declared.updates.Update.{Update}
-use Rattle.message_types.specs.declared.preordering.PoRequest.{PoRequest}
-use Rattle.message_types.specs.declared.preordering.PoAck.{PoAck}
-use Rattle.message_types.specs.declared.preordering.PoSummary.{PoSummary}
-use Rattle.message_types.specs.declared.ordering.Prepare.{Prepare}
-use Rattle.message_types.specs.declared.ordering.Commit.{Commit}
-use Rattle.message_types.specs.declared.body.Body.{Body}
+use Rattle.std.specs.Prelude.{List, [], ◌∷◌, ◌++◌, nat_eq}
 use Rattle.message_types.specs.declared.body.Body.TheVariants as body
 use Rattle.protocol_rules.specs.Group.{Group}
 use Rattle.history_rules.specs.Events.{Entry}
 use Rattle.history_rules.specs.Setup.{Setup}
-use Rattle.history_examples.specs.Signing.{sealed, setup_of, commands, cries, takes, ticks}
+use Rattle.history_examples.specs.Signing.{setup_of, commands, cries, takes, ticks}
+use Rattle.history_examples.specs.Words.{update, request, ack, certificate, summary, proposal, prepare, report, commit, order}
 
 abbrev pub group : Group
 group = record { n = 4; f = 1; k = 0; q = 3; clients = 1 }
 
 abbrev pub setup : Setup
 setup = setup_of group (λ m. nat_eq m 0)
-
--- the screen's first update, and its digest
-abbrev pub update : Update
-update = record { client = 0; t = 1; op = op.Ack 0 }
-
-abbrev pub update_digest : List ℕ
-update_digest =
-    0x53 ∷ 0x07 ∷ 0xc0 ∷ 0xb0 ∷ 0xae ∷ 0x6a ∷ 0xac ∷ 0xdc
-    ∷ 0xf5 ∷ 0x07 ∷ 0x62 ∷ 0x54 ∷ 0xf1 ∷ 0xff ∷ 0x92 ∷ 0xf9
-    ∷ 0x8e ∷ 0x7d ∷ 0x8f ∷ 0xce ∷ 0x3c ∷ 0x1c ∷ 0x94 ∷ 0x79
-    ∷ 0xbd ∷ 0x37 ∷ 0xfe ∷ 0x10 ∷ 0xd7 ∷ 0x35 ∷ 0x56 ∷ 0x1a ∷ []
-
--- request 1 of master 0, and each master's acknowledgement of it
-abbrev pub request : PoRequest
-request = record { k = 1; update = sealed body.Update 4 update }
-
-abbrev pub ack : PoAck
-ack = record { j = 0; k = 1; digest = update_digest }
-
--- each master's summary: request 1 of master 0 is certified
-abbrev pub summary : PoSummary
-summary = record { numbers = 1 ∷ 0 ∷ 0 ∷ 0 ∷ [] }
-
--- the rows of masters 0, 1 and 2, and their digest
-abbrev pub rows : List (List ℕ)
-rows = summary.numbers ∷ summary.numbers ∷ summary.numbers ∷ [] ∷ []
-
-abbrev pub rows_digest : List ℕ
-rows_digest =
-    0xa4 ∷ 0xb9 ∷ 0x80 ∷ 0x3f ∷ 0x4f ∷ 0xcf ∷ 0x68 ∷ 0x27
-    ∷ 0x84 ∷ 0x32 ∷ 0x25 ∷ 0x06 ∷ 0xc6 ∷ 0x72 ∷ 0x1e ∷ 0xf1
-    ∷ 0x79 ∷ 0xae ∷ 0xa1 ∷ 0x24 ∷ 0x16 ∷ 0xa7 ∷ 0xd9 ∷ 0xe4
-    ∷ 0xfd ∷ 0xac ∷ 0x62 ∷ 0xdb ∷ 0xf6 ∷ 0xf9 ∷ 0x2d ∷ 0x61 ∷ []
-
-abbrev pub prepare : Prepare
-prepare = record { v = 0; s = 1; digest = rows_digest }
-
-abbrev pub commit : Commit
-commit = record { v = 0; s = 1; digest = rows_digest }
-
--- the word of masters 0, 1 and 2
-abbrev pub by_three : {B : Type 0} → (B → Body) → B → List (Signed B)
-by_three kind b = sealed kind 0 b ∷ sealed kind 1 b ∷ sealed kind 2 b ∷ []
-
--- the words of master 0: the request, its certificate, the proposal, a report that holds the prepares, the order with the
--- commits
-abbrev pub certificate : Body
-certificate = body.Give record { request = sealed body.PoRequest 0 request; acks = by_three body.PoAck ack }
-
-abbrev pub proposal : Body
-proposal = body.PrePrepare record { v = 0; s = 1; frames = by_three body.PoSummary summary }
-
-abbrev pub report : Body
-report = body.Report record {
-  v = 1;
-  base = 0;
-  marks = [];
-  certificates = record { s = 1; v = 0; rows = rows; prepares = by_three body.Prepare prepare } ∷ [];
-}
-
-abbrev pub order : Body
-order = body.GiveOrdered record { s = 1; v = 0; rows = rows; commits = by_three body.Commit commit }
 
 -- The screen's command; master 0's request, which masters 1 and 2 acknowledge; its certificate.
 abbrev pub introduced : List Entry

@@ -1,3 +1,5 @@
 pub mod Signing
+pub mod Words
 pub mod Executed
+pub mod Disagreed
 pub mod Examples

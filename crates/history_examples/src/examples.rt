@@ -1,6 +1,12 @@
-ghost use Rattle.history_examples.specs.Examples.{SomethingIsExecuted};
+ghost use Rattle.history_examples.specs.Examples.{SomethingIsExecuted, TwoIntrudedDisagree};
 
 /// The laws of agreement have something to speak of: a sound history in which a correct master executed an update.
 pub fn something_is_executed()
     ensures { SomethingIsExecuted }
+{}
+
+/// The bound on intruded masters can't be left out: with f + 1 of them, in a legal history with nothing forged and no
+/// digest shared, two correct masters executed different updates.
+pub fn two_intruded_disagree()
+    ensures { TwoIntrudedDisagree }
 {}
