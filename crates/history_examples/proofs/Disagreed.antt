@@ -1,5 +1,5 @@
 -- The second example, computed: its entries are legal, nothing counts as forged or alike, and two masters disagree.
-use Rattle.std.proofs.Common.{◌≡◌, ℕ, true, List, [], ◌∷◌, ◌++◌, refl, sym, ◌∙◌, ap, inl, inr, ◌⊎◌, arith}
+use Rattle.std.proofs.Common.{◌≡◌, true, [], ◌∷◌, ◌++◌, refl, arith}
 use Rattle.sha2.specs.Sha256.{sha256, digest_bytes, hash_after, compress, rounds, schedule, first_words}
 use Rattle.wire_parts.specs.Fields.{u16_bytes, u32_bytes, u64_bytes}
 use Rattle.message_types.specs.Digests.{digest_of_update, digest_of_rows}
@@ -20,12 +20,12 @@ use Rattle.protocol_rules.specs.Master.{known_at, executed, waits}
 use Rattle.history_rules.specs.Setup.{own, stands}
 use Rattle.history_rules.specs.Legal.{IsLegal, heard, known_of, executions}
 use Rattle.history_rules.specs.Counts.{forged, alike, intruded_masters}
-use Rattle.agreement.specs.Laws.{HasSizes, Begins}
-use Rattle.history_examples.specs.Words.{update}
+use Rattle.agreement.specs.Laws.{HasSizes}
+use Rattle.history_examples.specs.Words.{update, other_update}
 use Rattle.history_examples.specs.Disagreed as it
+use Rattle.history_examples.proofs.Apart.{apart}
 use Rattle.history_examples.proofs.Short.{short_answers, short_says}
 use Rattle.history_examples.proofs.Entries.{each_may_come, EachSays, then_says, legal_history}
-use Rattle.message_types.specs.declared.updates.Update.{Update}
 use Rattle.audit_counts.proofs.Forged.{forged_counts}
 use Rattle.audit_counts.proofs.Alike.{alike_counts}
 use Rattle.history_examples.specs.Examples.{TwoIntrudedDisagree}
@@ -75,33 +75,16 @@ second_executed : executions it.setup it.history 2 ≡ update ∷ []
 unfolding known_of own heard known_at numbers_below has_quorum first_met greatest_to run_from numbers_from best_by last_below in_order each_once most_number window most_view mark_step facts_of rows_known chosen plan_of certified vector latest rows_of_frames eligible is_voted prepared offered ordered ordered_run stable last_certificate eligible_requests certified_run first_missing kept_after executed_of waiting_of view is_open turnaround acceptable own_bound executed waits digest_of_update digest_of_rows sha256 digest_bytes hash_after compress rounds schedule first_words u16_bytes u32_bytes u64_bytes
 second_executed = refl
 
-third_executed : executions it.setup it.history 3 ≡ it.other_update ∷ []
+third_executed : executions it.setup it.history 3 ≡ other_update ∷ []
 unfolding known_of own heard known_at numbers_below has_quorum first_met greatest_to run_from numbers_from best_by last_below in_order each_once most_number window most_view mark_step facts_of rows_known chosen plan_of certified vector latest rows_of_frames eligible is_voted prepared offered ordered ordered_run stable last_certificate eligible_requests certified_run first_missing kept_after executed_of waiting_of view is_open turnaround acceptable own_bound executed waits digest_of_update digest_of_rows sha256 digest_bytes hash_after compress rounds schedule first_words u16_bytes u32_bytes u64_bytes
 third_executed = refl
 
--- of two lists that begin with updates of different clients neither begins the other
-abbrev first_client : List Update → ℕ
-first_client [] = 0
-first_client (u ∷ rest) = u.client
-
-begun : (xs ys : List Update) (u v : Update) → xs ≡ u ∷ [] → ys ≡ v ∷ [] → Begins xs ys → u.client ≡ v.client
-begun xs ys u v is other begins =
-    let longer : v ∷ [] ≡ u ∷ begins.rest = sym other ∙ (begins.same ∙ ap (λ (zs : List Update). zs ++ begins.rest) is) in
-    sym (ap first_client longer)
-
-apart : (xs ys : List Update) → xs ≡ update ∷ [] → ys ≡ it.other_update ∷ [] → Begins xs ys ⊎ Begins ys xs → ⊥
-apart xs ys is other begins = elim begins [
-  | inl first ↦ let same : ◌≡◌ {A = ℕ} 0 1 = begun xs ys update it.other_update is other first in omega arith
-  | inr second ↦ let same : ◌≡◌ {A = ℕ} 1 0 = begun ys xs it.other_update update other is second in omega arith
-]
-
 pub two_intruded_disagree : TwoIntrudedDisagree
-two_intruded_disagree = (
-  record { legal = is_legal; sizes = sizes; unforged = (forged_counts it.setup it.history).0 none_forged; alike = (alike_counts it.group it.history).0 none_alike },
-  two_intruded,
-  refl,
-  refl,
-  second_executed,
-  third_executed,
-  apart (executions it.setup it.history 2) (executions it.setup it.history 3) second_executed third_executed,
-)
+two_intruded_disagree = record {
+  legal = is_legal;
+  sizes = sizes;
+  intruded = two_intruded;
+  unforged = (forged_counts it.setup it.history).0 none_forged;
+  alike = (alike_counts it.group it.history).0 none_alike;
+  disagree = record { first_correct = refl; second_correct = refl; first_executed = second_executed; second_executed = third_executed; apart = apart };
+}

@@ -2,48 +2,19 @@
 -- Master 0 introduces two updates of two screens as one and the same request, one to each correct master. Each of these
 -- acknowledges its own, so each gets a certificate of its own from the intruded ones. Then one order, and each executes
 -- another update.
-use Rattle.std.specs.Prelude.{ℕ, List, [], ◌∷◌, ◌++◌, nat_lt}
-use Rattle.message_types.specs.declared.updates.Op.TheVariants as op
-use Rattle.message_types.specs.declared.updates.Update.{Update}
-use Rattle.message_types.specs.declared.preordering.PoRequest.{PoRequest}
-use Rattle.message_types.specs.declared.preordering.PoAck.{PoAck}
-use Rattle.message_types.specs.declared.body.Body.{Body}
+use Rattle.std.specs.Prelude.{List, [], ◌∷◌, ◌++◌, nat_lt}
 use Rattle.message_types.specs.declared.body.Body.TheVariants as body
 use Rattle.protocol_rules.specs.Group.{Group}
 use Rattle.history_rules.specs.Events.{Entry}
 use Rattle.history_rules.specs.Setup.{Setup}
-use Rattle.history_examples.specs.Signing.{sealed, setup_of, commands, cries, takes, ticks}
-use Rattle.history_examples.specs.Words.{update, request, ack, certificate, summary, proposal, prepare, report, commit, order}
+use Rattle.history_examples.specs.Signing.{setup_of, commands, cries, takes, ticks}
+use Rattle.history_examples.specs.Words.{update, request, ack, certificate, other_update, other_request, other_ack, other_certificate, summary, proposal, prepare, report, commit, order}
 
 abbrev pub group : Group
 group = record { n = 4; f = 1; k = 0; q = 3; clients = 2 }
 
 abbrev pub setup : Setup
 setup = setup_of group (λ m. nat_lt m 2)
-
--- screen 1's first update, and its digest
-abbrev pub other_update : Update
-other_update = record { client = 1; t = 1; op = op.Ack 0 }
-
-abbrev pub other_digest : List ℕ
-other_digest =
-    0xf9 ∷ 0x7f ∷ 0xd2 ∷ 0xaf ∷ 0x3e ∷ 0x2c ∷ 0xb2 ∷ 0x73
-    ∷ 0x9d ∷ 0x1a ∷ 0xbc ∷ 0xfd ∷ 0x4e ∷ 0xa4 ∷ 0x0b ∷ 0x14
-    ∷ 0x98 ∷ 0x32 ∷ 0xef ∷ 0x05 ∷ 0xaf ∷ 0xae ∷ 0x16 ∷ 0x99
-    ∷ 0xc9 ∷ 0x73 ∷ 0x1e ∷ 0x1f ∷ 0xa4 ∷ 0x96 ∷ 0x54 ∷ 0x1c ∷ []
-
--- once more request 1 of master 0, with this update, a master's acknowledgement, and those of masters 0, 1 and 3
-abbrev pub other_request : PoRequest
-other_request = record { k = 1; update = sealed body.Update 5 other_update }
-
-abbrev pub other_ack : PoAck
-other_ack = record { j = 0; k = 1; digest = other_digest }
-
-abbrev pub other_certificate : Body
-other_certificate = body.Give record {
-  request = sealed body.PoRequest 0 other_request;
-  acks = sealed body.PoAck 0 other_ack ∷ sealed body.PoAck 1 other_ack ∷ sealed body.PoAck 3 other_ack ∷ [];
-}
 
 -- Two commands; master 0's two requests of one number, one for each correct master, and the first one's certificate.
 abbrev pub introduced : List Entry

@@ -1,14 +1,16 @@
 -- What the examples show of the laws of agreement.
-use Rattle.std.specs.Prelude.{◌≡◌, ◌⊎◌, ◌+◌, true, List, [], ◌∷◌}
+use Rattle.std.specs.Prelude.{◌≡◌, ℕ, ◌⊎◌, ◌+◌, true, List, [], ◌∷◌}
+use Rattle.message_types.specs.declared.updates.Update.{Update}
 use Rattle.history_rules.specs.Events.{Entry}
 use Rattle.history_rules.specs.Setup.{Setup, is_correct_master}
 use Rattle.history_rules.specs.Legal.{IsLegal, executions}
 use Rattle.history_rules.specs.Audit.{NothingForged, NoSharedDigest}
-use Rattle.history_rules.specs.Counts.{intruded_masters}
+use Rattle.history_rules.specs.Counts.{forged, intruded_masters}
 use Rattle.agreement.specs.Laws.{HasSizes, IsSound, Begins}
-use Rattle.history_examples.specs.Words.{update}
+use Rattle.history_examples.specs.Words.{update, other_update}
 use Rattle.history_examples.specs.Executed as executed
 use Rattle.history_examples.specs.Disagreed as disagreed
+use Rattle.history_examples.specs.Forged as forging
 
 -- There is a sound history in which a correct master has executed an update: the laws' premises can be met together.
 abbrev pub SomethingIsExecuted : Type 0
@@ -17,20 +19,29 @@ SomethingIsExecuted =
     × (is_correct_master executed.setup 3 ≡ true)
     × (executions executed.setup executed.history 3 ≡ update ∷ [])
 
--- a history that meets all premises of the laws of agreement but the bound on the intruded masters
-pub record IsSoundButForIntruded (w : Setup) (history : List Entry) : Type 0 where
-  pub legal : IsLegal w history
-  pub sizes : HasSizes w.group
-  pub unforged : NothingForged w history
-  pub alike : NoSharedDigest w.group history
+-- what two correct masters have executed after a history, neither of which begins the other
+pub record Disagree (w : Setup) (history : List Entry) (i j : ℕ) (first second : List Update) : Type 0 where
+  pub first_correct : is_correct_master w i ≡ true
+  pub second_correct : is_correct_master w j ≡ true
+  pub first_executed : executions w history i ≡ first
+  pub second_executed : executions w history j ≡ second
+  pub apart : Begins first second ⊎ Begins second first → ⊥
 
--- With f + 1 masters intruded, of what two correct masters executed neither begins the other: the bound can't be left out.
-abbrev pub TwoIntrudedDisagree : Type 0
-TwoIntrudedDisagree =
-    IsSoundButForIntruded disagreed.setup disagreed.history
-    × (intruded_masters disagreed.setup ≡ disagreed.group.f + 1)
-    × (is_correct_master disagreed.setup 2 ≡ true) × (is_correct_master disagreed.setup 3 ≡ true)
-    × (executions disagreed.setup disagreed.history 2 ≡ update ∷ [])
-    × (executions disagreed.setup disagreed.history 3 ≡ disagreed.other_update ∷ [])
-    × (Begins (executions disagreed.setup disagreed.history 2) (executions disagreed.setup disagreed.history 3)
-    ⊎ Begins (executions disagreed.setup disagreed.history 3) (executions disagreed.setup disagreed.history 2) → ⊥)
+-- With f + 1 masters intruded, and all other premises met, two correct masters disagree: the bound can't be left out.
+pub record TwoIntrudedDisagree : Type 0 where
+  pub legal : IsLegal disagreed.setup disagreed.history
+  pub sizes : HasSizes disagreed.group
+  pub intruded : intruded_masters disagreed.setup ≡ disagreed.group.f + 1
+  pub unforged : NothingForged disagreed.setup disagreed.history
+  pub alike : NoSharedDigest disagreed.group disagreed.history
+  pub disagree : Disagree disagreed.setup disagreed.history 2 3 (update ∷ []) (other_update ∷ [])
+
+-- With forged words, of which the audit counts 18, and all other premises met, two correct masters disagree, though no
+-- master is intruded.
+pub record ForgedWordsDisagree : Type 0 where
+  pub legal : IsLegal forging.setup forging.history
+  pub sizes : HasSizes forging.group
+  pub intruded : intruded_masters forging.setup ≡ 0
+  pub forged_words : forged forging.setup forging.history ≡ 18
+  pub alike : NoSharedDigest forging.group forging.history
+  pub disagree : Disagree forging.setup forging.history 2 3 (update ∷ []) (other_update ∷ [])

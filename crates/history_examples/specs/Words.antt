@@ -1,5 +1,5 @@
 -- The words of the examples: how an update of screen 0 is introduced, certified, proposed, prepared and committed by masters
--- 0, 1 and 2. (Digests are written out; that they are those of the update and the rows comes out where the examples'
+-- 0, 1 and 2, and how an update of screen 1 is introduced and certified as that same request. (Digests are written out; that they are those of the update and the rows comes out where the examples'
 -- entries are computed.)
 use Rattle.std.specs.Prelude.{ℕ, List, [], ◌∷◌}
 use Rattle.message_types.specs.declared.signed.Signed.{Signed}
@@ -75,3 +75,27 @@ report = body.Report record {
 
 abbrev pub order : Body
 order = body.GiveOrdered record { s = 1; v = 0; rows = rows; commits = by_three body.Commit commit }
+
+-- screen 1's first update, and its digest
+abbrev pub other_update : Update
+other_update = record { client = 1; t = 1; op = op.Ack 0 }
+
+abbrev pub other_digest : List ℕ
+other_digest =
+    0xf9 ∷ 0x7f ∷ 0xd2 ∷ 0xaf ∷ 0x3e ∷ 0x2c ∷ 0xb2 ∷ 0x73
+    ∷ 0x9d ∷ 0x1a ∷ 0xbc ∷ 0xfd ∷ 0x4e ∷ 0xa4 ∷ 0x0b ∷ 0x14
+    ∷ 0x98 ∷ 0x32 ∷ 0xef ∷ 0x05 ∷ 0xaf ∷ 0xae ∷ 0x16 ∷ 0x99
+    ∷ 0xc9 ∷ 0x73 ∷ 0x1e ∷ 0x1f ∷ 0xa4 ∷ 0x96 ∷ 0x54 ∷ 0x1c ∷ []
+
+-- once more request 1 of master 0, with this update, a master's acknowledgement, and those of masters 0, 1 and 3
+abbrev pub other_request : PoRequest
+other_request = record { k = 1; update = sealed body.Update 5 other_update }
+
+abbrev pub other_ack : PoAck
+other_ack = record { j = 0; k = 1; digest = other_digest }
+
+abbrev pub other_certificate : Body
+other_certificate = body.Give record {
+  request = sealed body.PoRequest 0 other_request;
+  acks = sealed body.PoAck 0 other_ack ∷ sealed body.PoAck 1 other_ack ∷ sealed body.PoAck 3 other_ack ∷ [];
+}

@@ -1,4 +1,4 @@
-ghost use Rattle.history_examples.specs.Examples.{SomethingIsExecuted, TwoIntrudedDisagree};
+ghost use Rattle.history_examples.specs.Examples.{SomethingIsExecuted, TwoIntrudedDisagree, ForgedWordsDisagree};
 
 /// The laws of agreement have something to speak of: a sound history in which a correct master executed an update.
 pub fn something_is_executed()
@@ -9,4 +9,10 @@ pub fn something_is_executed()
 /// digest shared, two correct masters executed different updates.
 pub fn two_intruded_disagree()
     ensures { TwoIntrudedDisagree }
+{}
+
+/// Nor can it be left out that nothing is forged: with no master intruded, in a legal history with 18 forged words and no
+/// digest shared, two correct masters executed different updates.
+pub fn forged_words_disagree()
+    ensures { ForgedWordsDisagree }
 {}
