@@ -33,12 +33,12 @@ all_fit : each_may_come it.setup [] it.history ≡ true
 unfolding own stands has_spelling digest_of_update digest_of_rows most_number most_view mark_step window sha256 digest_bytes hash_after compress rounds schedule first_words u16_bytes u32_bytes u64_bytes
 all_fit = refl
 
-all_say : EachSays it.setup [] it.history
+all_says : EachSays it.setup [] it.history
 unfolding short_says short_answers own heard known_at numbers_below has_quorum first_met greatest_to run_from numbers_from best_by last_below in_order each_once most_number window most_view mark_step facts_of rows_known chosen plan_of certified vector latest rows_of_frames eligible is_voted prepared offered ordered ordered_run stable last_certificate eligible_requests certified_run first_missing kept_after executed_of waiting_of view is_open turnaround acceptable own_bound executed waits digest_of_update digest_of_rows sha256 digest_bytes hash_after compress rounds schedule first_words u16_bytes u32_bytes u64_bytes
-all_say = (refl, (refl, (refl, (refl, (refl, (refl, tt))))))
+all_says = (refl, (refl, (refl, (refl, (refl, (refl, tt))))))
 
 is_legal : IsLegal it.setup it.history
-is_legal = legal_history it.setup it.history all_fit all_say
+is_legal = legal_history it.setup it.history all_fit all_says
 
 sizes : HasSizes it.group
 sizes = record {

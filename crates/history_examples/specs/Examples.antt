@@ -1,6 +1,7 @@
 -- What the examples show of the laws of agreement.
 use Rattle.std.specs.Prelude.{◌≡◌, ℕ, ◌⊎◌, ◌+◌, true, List, [], ◌∷◌}
 use Rattle.message_types.specs.declared.updates.Update.{Update}
+use Rattle.protocol_rules.specs.Group.{leader_of}
 use Rattle.history_rules.specs.Events.{Entry}
 use Rattle.history_rules.specs.Setup.{Setup, is_correct_master}
 use Rattle.history_rules.specs.Legal.{IsLegal, executions}
@@ -8,16 +9,26 @@ use Rattle.history_rules.specs.Audit.{NothingForged, NoSharedDigest}
 use Rattle.history_rules.specs.Counts.{forged, intruded_masters}
 use Rattle.agreement.specs.Laws.{HasSizes, IsSound, Begins}
 use Rattle.history_examples.specs.Words.{update, other_update}
-use Rattle.history_examples.specs.Executed as executed
+use Rattle.history_examples.specs.Plain as plain
+use Rattle.history_examples.specs.Relayed as relayed
 use Rattle.history_examples.specs.Disagreed as disagreed
 use Rattle.history_examples.specs.Forged as forging
 
--- There is a sound history in which a correct master has executed an update: the laws' premises can be met together.
-abbrev pub SomethingIsExecuted : Type 0
-SomethingIsExecuted =
-    IsSound executed.setup executed.history
-    × (is_correct_master executed.setup 3 ≡ true)
-    × (executions executed.setup executed.history 3 ≡ update ∷ [])
+-- There is a sound history in which a correct master has executed an update, and no master is intruded: the laws' premises
+-- can be met together, by a plain run.
+pub record SomethingIsExecuted : Type 0 where
+  pub sound : IsSound plain.setup plain.history
+  pub intruded : intruded_masters plain.setup ≡ 0
+  pub correct : is_correct_master plain.setup 0 ≡ true
+  pub executed : executions plain.setup plain.history 0 ≡ update ∷ []
+
+-- There is one, too, with as many intruded masters as a group bears, and the leader among them.
+pub record ExecutedUnderIntrudedLeader : Type 0 where
+  pub sound : IsSound relayed.setup relayed.history
+  pub intruded : intruded_masters relayed.setup ≡ relayed.group.f
+  pub leader : relayed.setup.intruded (leader_of relayed.group 0) ≡ true
+  pub correct : is_correct_master relayed.setup 3 ≡ true
+  pub executed : executions relayed.setup relayed.history 3 ≡ update ∷ []
 
 -- what two correct masters have executed after a history, neither of which begins the other
 pub record Disagree (w : Setup) (history : List Entry) (i j : ℕ) (first second : List Update) : Type 0 where

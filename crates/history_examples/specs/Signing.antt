@@ -82,7 +82,7 @@ abbrev pub cries : ℕ → ℕ → Body → Entry
 cries stamp actor b = record { stamp = stamp; actor = actor; event = Cry (frame_text (framed actor b)); said = [] }
 
 abbrev pub takes : ℕ → ℕ → ℕ → ℕ → Body → List Body → Entry
-takes stamp actor cried by b said = record { stamp = stamp; actor = actor; event = Took cried 0 (framed by b); said = said }
+takes stamp actor from by b said = record { stamp = stamp; actor = actor; event = Took from 0 (framed by b); said = said }
 
 abbrev pub ticks : ℕ → ℕ → List Body → Entry
 ticks stamp actor said = record { stamp = stamp; actor = actor; event = Tick; said = said }

@@ -1,4 +1,4 @@
-use Rattle.history_examples.proofs.Executed.{something_is_executed}
+use Rattle.history_examples.proofs.Plain.{something_is_executed}
 use Rattle.history_examples.proofs.examples.something_is_executed.Goals as goal
 
 pub returns : goal.returns

@@ -1,4 +1,4 @@
--- A history in which an update is executed: four masters, of which master 0, the leader of view 0, is intruded, and one
+-- A history in which an update is executed under an intruded leader: four masters, of which master 0 is intruded, and one
 -- screen. Master 0 introduces and proposes all, masters 1 and 2 acknowledge, summarize, prepare and commit, and master 3,
 -- which heard nothing so far, takes the certificate and the order and executes.
 use Rattle.std.specs.Prelude.{List, [], ◌∷◌, ◌++◌, nat_eq}
