@@ -1,0 +1,5 @@
+pub mod Same
+pub mod Forged
+pub mod Alike
+pub mod Merged
+pub mod Sound
