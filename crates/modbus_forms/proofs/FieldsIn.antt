@@ -41,10 +41,10 @@ pub header_is : (bytes rest : List ℕ) (a b c d e : View) (t p s u : ℕ) → a
     → bytes ≡ header_text t p s u ++ rest
 header_is bytes rest a b c d e t p s u is back seven one two three four =
     let none : e.rest ≡ [] = nil_from_length e.rest
-        (omega (arith, ap length is, left_is a b t one, left_is b c p two, left_is c d s three, ap length four.bytes, length-append (u8_bytes u) e.rest)) in
+    (omega (arith, ap length is, left_is a b t one, left_is b c p two, left_is c d s three, ap length four.bytes, length-append (u8_bytes u) e.rest)) in
     let last : d.rest ≡ u8_bytes u = four.bytes ∙ ap (λ r. u8_bytes u ++ r) none in
     let head : take 7 bytes ≡ header_text t p s u = sym is ∙ one.bytes
-        ∙ ap (λ r. u16_bytes t ++ r) (two.bytes ∙ ap (λ r. u16_bytes p ++ r) (three.bytes ∙ ap (λ r. u16_bytes s ++ r) last)) in
+    ∙ ap (λ r. u16_bytes t ++ r) (two.bytes ∙ ap (λ r. u16_bytes p ++ r) (three.bytes ∙ ap (λ r. u16_bytes s ++ r) last)) in
     sym (take-append-drop 7 bytes) ∙ ap (λ h. h ++ drop 7 bytes) head ∙ ap (λ r. header_text t p s u ++ r) (sym back)
 
 -- place and quantity, the number of bytes, and these

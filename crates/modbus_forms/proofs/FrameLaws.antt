@@ -18,18 +18,25 @@ pub record Headed (bytes : List ℕ) (protocol size : ℕ) (rest : List ℕ) : T
 
 pub length-header : (t p s u : ℕ) → length (header_text t p s u) ≡ 7
 length-header t p s u =
-    omega (arith, length-append (u16_bytes t) (u16_bytes p ++ (u16_bytes s ++ u8_bytes u)), length-append (u16_bytes p) (u16_bytes s ++ u8_bytes u),
-    length-append (u16_bytes s) (u8_bytes u), length-u16_bytes t, length-u16_bytes p, length-u16_bytes s)
+    omega (
+      arith,
+      length-append (u16_bytes t) (u16_bytes p ++ (u16_bytes s ++ u8_bytes u)),
+      length-append (u16_bytes p) (u16_bytes s ++ u8_bytes u),
+      length-append (u16_bytes s) (u8_bytes u),
+      length-u16_bytes t,
+      length-u16_bytes p,
+      length-u16_bytes s,
+    )
 
 headed_text : (t p s u : ℕ) (rest : List ℕ) → p < 2 ^ 16 → s < 2 ^ 16 → Headed (header_text t p s u ++ rest) p s rest
 headed_text t p s u rest fp fs =
     let flat : header_text t p s u ++ rest ≡ u16_bytes t ++ (u16_bytes p ++ (u16_bytes s ++ (u8_bytes u ++ rest))) = simp append_assoc in
     let two : drop 2 (header_text t p s u ++ rest) ≡ u16_bytes p ++ (u16_bytes s ++ (u8_bytes u ++ rest)) =
-        ap (drop 2) flat ∙ drop_at (u16_bytes t) (u16_bytes p ++ (u16_bytes s ++ (u8_bytes u ++ rest))) 2 (length-u16_bytes t) in
+    ap (drop 2) flat ∙ drop_at (u16_bytes t) (u16_bytes p ++ (u16_bytes s ++ (u8_bytes u ++ rest))) 2 (length-u16_bytes t) in
     let front : header_text t p s u ++ rest ≡ (u16_bytes t ++ u16_bytes p) ++ (u16_bytes s ++ (u8_bytes u ++ rest)) = simp append_assoc in
     let four : drop 4 (header_text t p s u ++ rest) ≡ u16_bytes s ++ (u8_bytes u ++ rest) =
-        ap (drop 4) front ∙ drop_at (u16_bytes t ++ u16_bytes p) (u16_bytes s ++ (u8_bytes u ++ rest)) 4
-        (omega (arith, length-append (u16_bytes t) (u16_bytes p), length-u16_bytes t, length-u16_bytes p)) in
+    ap (drop 4) front ∙ drop_at (u16_bytes t ++ u16_bytes p) (u16_bytes s ++ (u8_bytes u ++ rest)) 4
+    (omega (arith, length-append (u16_bytes t) (u16_bytes p), length-u16_bytes t, length-u16_bytes p)) in
     record {
       long = omega (arith, length-append (header_text t p s u) rest, length-header t p s u);
       protocol_is = ap u16_at two ∙ u16_at-u16_bytes p (u16_bytes s ++ (u8_bytes u ++ rest)) fp;

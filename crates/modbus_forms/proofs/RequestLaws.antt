@@ -52,8 +52,8 @@ bytes_of_many : (p q : ℕ) (bytes : List ℕ) → drop 3 (drop 2 (many_text p q
 bytes_of_many p q bytes =
     ap (drop 3) (behind_first p q bytes ∙ append-cons (u16_bytes q) (length bytes) bytes)
     ∙ drop_at (u16_bytes q ++ length bytes ∷ []) bytes 3 (omega (arith, length-append (u16_bytes q) (length bytes ∷ []), length-u16_bytes q)) where
-  append-cons : (xs : List ℕ) (y : ℕ) (ys : List ℕ) → xs ++ (y ∷ ys) ≡ (xs ++ y ∷ []) ++ ys
-  append-cons xs y ys = sym (append_assoc xs (y ∷ []) ys)
+      append-cons : (xs : List ℕ) (y : ℕ) (ys : List ℕ) → xs ++ (y ∷ ys) ≡ (xs ++ y ∷ []) ++ ys
+      append-cons xs y ys = sym (append_assoc xs (y ∷ []) ys)
 
 -- which function it is
 pub either : (a b f : ℕ) → (nat_eq f a || nat_eq f b) ≡ true → (f ≡ a) ⊎ (f ≡ b)
@@ -74,9 +74,9 @@ is_other f h =
     let none = not-true (reads_or_writes_one f || writes_many f) h in
     let parts = or_false (reads_or_writes_one f) (writes_many f) none in
     record { low = parts.0; high = parts.1 } where
-  or_false : (a b : Bool) → (a || b) ≡ false → (a ≡ false) × (b ≡ false)
-  or_false true b e = absurd (true≢false e)
-  or_false false b e = (refl, e)
+      or_false : (a b : Bool) → (a || b) ≡ false → (a ≡ false) × (b ≡ false)
+      or_false true b e = absurd (true≢false e)
+      or_false false b e = (refl, e)
 
 read_bits_back : (f p q : ℕ) → p < 2 ^ 16 → q < 2 ^ 16 → (nat_eq f 1 || nat_eq f 2) ≡ true
     → request_in f (pair_text p q) ≡ request.ReadBits f p q
@@ -93,8 +93,16 @@ read_registers_back f p q fp fq is =
 other_back : (f : ℕ) (bytes : List ℕ) → IsOther f → request_in f bytes ≡ request.Other f bytes
 unfolding request_in
 other_back f bytes it =
-    rw (low_other f 1 it.low refl, low_other f 2 it.low refl, low_other f 3 it.low refl, low_other f 4 it.low refl,
-    low_other f 5 it.low refl, low_other f 6 it.low refl, high_other f 15 it.high refl, high_other f 16 it.high refl) refl
+    rw (
+      low_other f 1 it.low refl,
+      low_other f 2 it.low refl,
+      low_other f 3 it.low refl,
+      low_other f 4 it.low refl,
+      low_other f 5 it.low refl,
+      low_other f 6 it.low refl,
+      high_other f 15 it.high refl,
+      high_other f 16 it.high refl,
+    ) refl
 
 request_back : (r : RequestPdu) → request_pdu_fits r ≡ true → FitsRequestPdu r → request_of (request_pdu_text r) ≡ r
 unfolding request_of request_in

@@ -29,5 +29,5 @@ same_frame t u pdu xs t' u' pdu' ys ft ft' few few' same =
       pdu_is = sym (take_at pdu xs (length pdu) refl) ∙ ap (take (length pdu)) behind ∙ take_at pdu' ys (length pdu) (sym size);
       rest = sym (drop_at pdu xs (length pdu) refl) ∙ ap (drop (length pdu)) behind ∙ drop_at pdu' ys (length pdu) (sym size);
     } where
-  head_inj : (a b : ℕ) (as' bs : List ℕ) → a ∷ as' ≡ b ∷ bs → a ≡ b
-  head_inj a b as' bs e = cc
+      head_inj : (a b : ℕ) (as' bs : List ℕ) → a ∷ as' ≡ b ∷ bs → a ≡ b
+      head_inj a b as' bs e = cc

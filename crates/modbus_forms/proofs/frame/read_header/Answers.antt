@@ -7,8 +7,8 @@ fields_are : (c : goal.In-Ok-u8) → Headed c.args.bytes.now c.in-Ok-u16.protoco
 fields_are c =
     headed _ _ _ _ _ _ (omega arith) (omega arith)
     (header_is _ _ _ _ _ _ _ _ _ _ _ (c.over-reader.ensures.rest ∙ c.split_at.ensures.front) c.split_at.ensures.back
-        (ap length (sym c.split_at.ensures.front) ∙ c.split_at.ensures.front_len)
-        c.in-Ok.ensures.taken c.in-Ok-u16.ensures.taken c.in-Ok-u16-2.ensures.taken c.in-Ok-u8.ensures.taken)
+    (ap length (sym c.split_at.ensures.front) ∙ c.split_at.ensures.front_len)
+    c.in-Ok.ensures.taken c.in-Ok-u16.ensures.taken c.in-Ok-u16-2.ensures.taken c.in-Ok-u8.ensures.taken)
 
 pub returns-in_default-u16-clause-short : goal.returns-in_default-u16-clause-short
 returns-in_default-u16-clause-short c =
@@ -31,8 +31,8 @@ returns-in_default-u8-clause-short c =
 pub returns-clause-spelled : goal.returns-clause-spelled
 returns-clause-spelled c =
     header_is _ _ _ _ _ _ _ _ _ _ _ (c.over-reader.ensures.rest ∙ c.split_at.ensures.front) c.split_at.ensures.back
-        (ap length (sym c.split_at.ensures.front) ∙ c.split_at.ensures.front_len)
-        c.in-Ok.ensures.taken c.in-Ok-u16.ensures.taken c.in-Ok-u16-2.ensures.taken c.in-Ok-u8.ensures.taken
+    (ap length (sym c.split_at.ensures.front) ∙ c.split_at.ensures.front_len)
+    c.in-Ok.ensures.taken c.in-Ok-u16.ensures.taken c.in-Ok-u16-2.ensures.taken c.in-Ok-u8.ensures.taken
 
 pub returns-clause-protocol : goal.returns-clause-protocol
 returns-clause-protocol c = (fields_are c).protocol_is
