@@ -1,0 +1,3 @@
+pub mod Places
+pub mod Packing
+pub mod Table

@@ -1,0 +1,6 @@
+pub mod PlaceLaws
+pub mod ExchangeLaws
+pub mod ReadingLaws
+pub mod OrderLaws
+pub mod VoteLaws
+pub mod FrontLaws

@@ -1,0 +1,25 @@
+use Rattle.std.proofs.Common.{arith, ap, sym, ◌∙◌, ◌≡◌, ◌+◌, length}
+use Rattle.std.proofs.lemmas.List.{take_at}
+use Rattle.field_proxy.specs.contracts.proxy.Proxy.{the_view}
+use Rattle.field_proxy.specs.Readings.{readings, last_in, told, numbered}
+use Rattle.field_proxy.specs.Front.{polled}
+use Rattle.field_proxy.proofs.FrontLaws.{polled_is, poll_after}
+use Rattle.field_proxy.proofs.proxy.Proxy.poll.Goals as goal
+
+pub returns-clause-says : goal.returns-clause-says
+returns-clause-says c =
+    let read = c.in_ok-ops.ensures.ops
+    ∙ ap (λ points. readings c.self.inside.device c.self.inside.client points (last_in c.deref.result.now)) c.as_slice.ensures
+    ∙ ap (λ lasts. readings c.self.inside.device c.self.inside.client c.self.inside.points (last_in lasts)) c.deref.ensures.value in
+    let ops = polled_is (the_view c.self.inside) c.args.room _ _ read (c.deref-2.ensures.value ∙ c.truncate.ensures.items) in
+    rw (← c.self.view_is) (c.in_ok-updates.ensures ∙ ap (numbered c.self.inside.client (c.self.inside.updates + 1)) ops)
+
+pub returns-clause-after : goal.returns-clause-after
+returns-clause-after c =
+    let read = c.in_ok-ops.ensures.ops
+    ∙ ap (λ points. readings c.self.inside.device c.self.inside.client points (last_in c.deref.result.now)) c.as_slice.ensures
+    ∙ ap (λ lasts. readings c.self.inside.device c.self.inside.client c.self.inside.points (last_in lasts)) c.deref.ensures.value in
+    let ops = polled_is (the_view c.self.inside) c.args.room _ _ read (c.deref-3.ensures.value ∙ c.truncate.ensures.items) in
+    let lasts = take_at c.tell.new.lasts _ c.self.inside.lasts.len (omega (arith, c.tell.auto.lasts, c.deref_mut.ensures.len))
+    ∙ c.tell.ensures ∙ ap (λ l. told l c.deref-3.result.now) c.deref_mut.ensures.value in
+    rw (← c.self.view_is) (poll_after (the_view c.self.inside) c.args.room _ _ _ _ ops c.due_readings.ensures.same lasts (omega (arith, c.len.ensures, c.deref-3.ensures.len)))

@@ -1,0 +1,10 @@
+use Rattle.std.proofs.Common.{◌≡◌}
+use Rattle.field_proxy.specs.Readings.{last_in}
+use Rattle.field_proxy.proofs.ReadingLaws.{readings_below}
+use Rattle.field_proxy.proofs.readings.due_readings.Given as goal
+
+abbrev pub invariant-loop-number : goal.invariant-loop-number
+invariant-loop-number l = record {
+  device_stays : l.device ≡ l.initial.device;
+  read : l.ops.items ≡ readings_below l.initial.device l.client l.points (last_in l.lasts) l.number;
+}

@@ -1,0 +1,71 @@
+-- A proxy as a state that follows from its own list of happenings.
+use Rattle.std.specs.Prelude.{ℕ, ◌+◌, List, [], ◌∷◌, ◌++◌, length, take, drop, replicate, Option, None, ℤ}
+use Rattle.message_types.specs.declared.updates.Op.{Op}
+use Rattle.message_types.specs.declared.updates.Update.{Update}
+use Rattle.message_types.specs.declared.vouchers.Order.{Order}
+use Rattle.point_table.specs.declared.point.Area.{Area}
+use Rattle.point_table.specs.declared.point.Point.{Point}
+use Rattle.point_table.specs.declared.point.DeviceSizes.{DeviceSizes}
+use Rattle.field_device.specs.Places.{Places, zeros, changed}
+use Rattle.vouched_orders.specs.declared.vote.Vote.{Vote}
+use Rattle.vouched_orders.specs.Vouching.{counted, done}
+use Rattle.field_proxy.specs.declared.writes.Write.{Write}
+use Rattle.field_proxy.specs.Readings.{readings, last_in, told, numbered}
+use Rattle.field_proxy.specs.Writes.{can_write, after_orders, kept_orders}
+
+-- its number among the clients, the masters' number, how many of them may be intruded, all points of the plant, what the
+-- device holds, the value last said of each point, how many updates were said, the votes taken that count, the writes made
+pub record Front : Type 0 where
+  pub client : ℕ
+  pub n : ℕ
+  pub f : ℕ
+  pub points : List Point
+  pub places : Places
+  pub lasts : List (Option ℤ)
+  pub updates : ℕ
+  pub votes : List Vote
+  pub writes : List Write
+
+-- before anything has happened
+abbrev pub fresh : ℕ → ℕ → ℕ → List Point → DeviceSizes → Front
+fresh client n f points sizes = record {
+  client = client;
+  n = n;
+  f = f;
+  points = points;
+  places = zeros sizes;
+  lasts = replicate (length points) None;
+  updates = 0;
+  votes = [];
+  writes = [];
+}
+
+-- a change in the field, at a place that is there
+abbrev pub after_change : Front → Area → ℕ → ℕ → Front
+after_change s area place value = record s { places = changed s.places area place value }
+
+-- the readings that a poll says, where so many updates can still be said
+unfoldable pub polled : Front → ℕ → List Op
+polled s room = take room (readings s.places s.client s.points (last_in s.lasts))
+
+-- a poll: what it says, and the state after it
+abbrev pub poll_says : Front → ℕ → List Update
+poll_says s room = numbered s.client (s.updates + 1) (polled s room)
+
+abbrev pub after_poll : Front → ℕ → Front
+after_poll s room = record s { lasts = told s.lasts (polled s room); updates = s.updates + length (polled s room) }
+
+-- the votes taken once this one is: it counts for this client, and where the order is one that it can carry out
+abbrev pub votes_with : Front → Vote → List Vote
+votes_with s vote = s.votes ++ counted (can_write s.points s.client) s.client (vote ∷ [])
+
+-- a voucher: the orders that it makes done are written
+abbrev pub after_orders_done : Front → List Vote → List Order → Front
+after_orders_done s votes orders = record s {
+  votes = votes;
+  places = after_orders s.points s.places orders;
+  writes = s.writes ++ kept_orders s.points s.places (length s.writes + 1) orders;
+}
+
+abbrev pub after_vote : Front → Vote → Front
+after_vote s vote = after_orders_done s (votes_with s vote) (drop (length s.writes) (done s.f (votes_with s vote)))

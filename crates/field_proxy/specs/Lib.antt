@@ -1,0 +1,5 @@
+pub mod Exchanges
+pub mod Readings
+pub mod Undoing
+pub mod Writes
+pub mod Front

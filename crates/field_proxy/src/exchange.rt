@@ -1,0 +1,231 @@
+//! One request and its reply, by Modbus bytes as with a real device.
+ghost use Rattle.std.specs.Prelude.{◌≡◌, ◌⊎◌, ◌<◌, IsTrue, IfOk, OnOk, OnErr, Some, None, FitsSigned};
+ghost use Rattle.std.specs.Int.{w128};
+ghost use Rattle.modbus_forms.specs.Requests.{request_pdu_fits, request_fits};
+ghost use Rattle.modbus_forms.specs.Replies.{reply_fits};
+ghost use Rattle.modbus_forms.specs.Widths.{FitsRequestPdu, FitsRequest, FitsReply};
+ghost use Rattle.field_device.specs.Table.{reply_pdu, reply_to, after, exception_for};
+ghost use Rattle.field_proxy.specs.Exchanges.{read_pdu, raw_in, exception_in};
+ghost use Rattle.field_proxy.specs.Readings.{is_i64, in_64_bits, given};
+ghost use Rattle.field_proxy.specs.Writes.{write_pdu, write_request};
+ghost use Rattle.point_table.specs.Point.{scaled};
+
+use byteorder::{BigEndian, ByteOrder};
+use field_device::Device;
+use modbus_forms::{
+    ModbusRefusal, Reply, ReplyPdu, Request, RequestPdu, read_reply, read_request, write_reply,
+    write_request,
+};
+use plain_lists::Want;
+use point_table::{Area, Point};
+use std::alloc::Global;
+
+/// The unit behind the device's address.
+const UNIT: u8 = 1;
+
+/// The request as the device reads it.
+fn heard_request(alloc: Global, request: &Request) -> Result<Request, Want>
+    requires fits { IsTrue (request_fits request.now) }
+    requires wide { FitsRequest request.now }
+    ensures { IfOk result (λ heard. heard ≡ request.now) }
+{
+    let bytes = write_request(alloc, request)?;
+    match read_request(alloc, &bytes) {
+        Ok(heard) => Ok(heard),
+        Err(ModbusRefusal::Want) => Err(Want),
+        Err(_) => unreachable!(),
+    }
+}
+
+/// The reply as the proxy reads it.
+fn heard_reply(alloc: Global, reply: &Reply) -> Result<Reply, Want>
+    requires fits { IsTrue (reply_fits reply.now) }
+    requires wide { FitsReply reply.now }
+    ensures { IfOk result (λ heard. heard ≡ reply.now) }
+{
+    let bytes = write_reply(alloc, reply)?;
+    match read_reply(alloc, &bytes) {
+        Ok(heard) => Ok(heard),
+        Err(ModbusRefusal::Want) => Err(Want),
+        Err(_) => unreachable!(),
+    }
+}
+
+/// Asks the device. After want of memory it may have carried the request out, and its reply is lost.
+fn ask(alloc: Global, device: &mut Device, request: &Request) -> Result<Reply, Want>
+    requires fits { IsTrue (request_fits request.now) }
+    requires wide { FitsRequest request.now }
+    ensures reply { IfOk result (λ reply. reply ≡ reply_to device.old request.now) }
+    ensures after { OnOk result (device.new ≡ after device.old request.now.pdu) }
+    ensures err { OnErr result ((device.new ≡ device.old) ⊎ (device.new ≡ after device.old request.now.pdu)) }
+{
+    let heard = heard_request(alloc, request)?;
+    let reply = device.answer(&heard)?;
+    heard_reply(alloc, &reply)
+}
+
+fn read_pdu(area: Area, place: u16) -> RequestPdu
+    ensures { result ≡ read_pdu area place }
+{
+    let quantity = 1;
+    match area {
+        Area::Coil => RequestPdu::ReadBits {
+            function: 1,
+            place,
+            quantity,
+        },
+        Area::Discrete => RequestPdu::ReadBits {
+            function: 2,
+            place,
+            quantity,
+        },
+        Area::Holding => RequestPdu::ReadRegisters {
+            function: 3,
+            place,
+            quantity,
+        },
+        Area::Input => RequestPdu::ReadRegisters {
+            function: 4,
+            place,
+            quantity,
+        },
+    }
+}
+
+fn write_pdu(area: Area, place: u16, raw: u16) -> RequestPdu
+    ensures { result ≡ write_pdu area place raw }
+{
+    match area {
+        Area::Coil => RequestPdu::WriteCoil {
+            place,
+            value: if raw == 0 { 0 } else { 0xff00 },
+        },
+        _ => RequestPdu::WriteRegister { place, value: raw },
+    }
+}
+
+/// The first bit or register of a reply.
+#[tactic(auto, unfolding(wire_parts::specs::Fields::u16_at))]
+fn raw_in(reply: &ReplyPdu) -> Option<u16>
+    ensures { result ≡ raw_in reply.now }
+{
+    match reply {
+        ReplyPdu::Bits { bytes, .. } => match bytes.as_slice().first() {
+            Some(byte) => Some(u16::from(*byte % 2)),
+            None => None,
+        },
+        ReplyPdu::Registers { bytes, .. } => {
+            if bytes.len() < 2 {
+                None
+            } else {
+                Some(BigEndian::read_u16(bytes.as_slice()))
+            }
+        }
+        _ => None,
+    }
+}
+
+fn exception_in(reply: &ReplyPdu) -> Option<u8>
+    ensures { result ≡ exception_in reply.now }
+{
+    match reply {
+        ReplyPdu::Exception { code, .. } => Some(*code),
+        _ => None,
+    }
+}
+
+/// What a raw value of a point stands for.
+fn scaled(point: &Point, raw: u16) -> i128
+    ensures value { result ≡ scaled point.now raw }
+    ensures fits { FitsSigned w128 result }
+{
+    i128::from(raw) * i128::from(point.scale) + i128::from(point.offset)
+}
+
+fn is_i64(value: i128) -> bool
+    ensures { result ≡ is_i64 value }
+{
+    -9_223_372_036_854_775_808 <= value && value <= 9_223_372_036_854_775_807
+}
+
+/// A value, where 64 bits can hold it.
+fn in_64_bits(value: i128) -> Option<i64>
+    ensures { result ≡ in_64_bits value }
+{
+    if !is_i64(value) {
+        return None;
+    }
+    Some(value as i64)
+}
+
+/// Asks the device for a reply to a request, under a transaction.
+fn reply_to(
+    alloc: Global,
+    device: &mut Device,
+    transaction: u16,
+    pdu: RequestPdu,
+) -> Result<ReplyPdu, Want>
+    requires fits { IsTrue (request_pdu_fits pdu) }
+    requires wide { FitsRequestPdu pdu }
+    ensures reply { IfOk result (λ reply. reply ≡ reply_pdu device.old pdu) }
+    ensures after { OnOk result (device.new ≡ after device.old pdu) }
+    ensures err { OnErr result ((device.new ≡ device.old) ⊎ (device.new ≡ after device.old pdu)) }
+{
+    let request = Request {
+        transaction,
+        unit: UNIT,
+        pdu,
+    };
+    let reply = ask(alloc, device, &request)?;
+    Ok(reply.pdu)
+}
+
+/// The raw value of a point, as the device replies.
+fn read_raw(
+    alloc: Global,
+    device: &mut Device,
+    transaction: u16,
+    point: &Point,
+) -> Result<Option<u16>, Want>
+    ensures raw { IfOk result (λ raw. raw ≡ raw_in (reply_pdu device.old (read_pdu point.now.area point.now.place))) }
+    ensures same { device.new ≡ device.old }
+{
+    let pdu = read_pdu(point.area, point.place);
+    let reply = reply_to(alloc, device, transaction, pdu)?;
+    Ok(raw_in(&reply))
+}
+
+/// Reads a point of the device.
+pub fn read_point(
+    alloc: Global,
+    device: &mut Device,
+    transaction: u16,
+    point: &Point,
+) -> Result<Option<i64>, Want>
+    ensures value { IfOk result (λ value. value ≡ given device.old point.now) }
+    ensures same { device.new ≡ device.old }
+{
+    let raw = read_raw(alloc, device, transaction, point)?;
+    match raw {
+        Some(raw) => Ok(in_64_bits(scaled(point, raw))),
+        None => Ok(None),
+    }
+}
+
+/// Writes a point of the device, and gives the code of the exception, if any. After want of memory the device may have
+/// written it.
+pub fn write_point(
+    alloc: Global,
+    device: &mut Device,
+    transaction: u16,
+    point: &Point,
+    raw: u16,
+) -> Result<Option<u8>, Want>
+    ensures exception { IfOk result (λ code. code ≡ exception_for device.old (write_request point.now raw)) }
+    ensures after { OnOk result (device.new ≡ after device.old (write_request point.now raw)) }
+    ensures err { OnErr result ((device.new ≡ device.old) ⊎ (device.new ≡ after device.old (write_request point.now raw))) }
+{
+    let pdu = write_pdu(point.area, point.place, raw);
+    let reply = reply_to(alloc, device, transaction, pdu)?;
+    Ok(exception_in(&reply))
+}

@@ -1,0 +1,202 @@
+ghost use Rattle.std.specs.Prelude.{◌≡◌, ◌↔◌, ◌+◌, ◌++◌, ◌∷◌, ◌<◌, ◌≤◌, ◌^◌, [], length, map, OnOk, OnErr, IfOk, IsErr, IsSomeAnd, slice_get, replicate, Some, None, nat_eq, ◌&&◌};
+ghost use Rattle.field_device.specs.Places.{size_of};
+ghost use Rattle.field_proxy.specs.Writes.{can_write, order_of};
+ghost use Rattle.field_proxy.specs.Front.{fresh, after_change, polled, poll_says, after_poll, after_vote};
+
+use crate::line::Line;
+use crate::orders::carry_out_vote;
+use crate::readings::{as_updates, due_readings, tell};
+use crate::writes::Write;
+use field_device::{Device, NoPlace};
+use master_points::Plant;
+use message_types::{Order, Update, Voucher};
+use plain_lists::{Copied, Items, Want};
+use point_table::{Area, DeviceSizes, Point};
+use quorum_sets::Sizes;
+use std::alloc::Global;
+use std::marker::Model;
+use vouched_orders::{Vote, Vouched};
+
+/// A proxy and the field device behind it.
+#[derive(Drop)]
+pub struct Proxy {
+    alloc: Global,
+    client: u32,
+    sizes: Sizes,
+    points: Items<Point>,
+    device: Device,
+    line: Line,
+    lasts: Vec<Option<i64>, Global>,
+    updates: u64,
+    vouched: Vouched,
+    writes: Vec<Write, Global>,
+}
+
+impl Model for Proxy {
+    ghost use Rattle.std.specs.Prelude.{◌≡◌, ◌≤◌, length, map, true};
+    ghost use Rattle.std.specs.List.{list_all};
+    ghost use Rattle.vouched_orders.specs.Vouching.{done};
+    ghost use Rattle.field_proxy.specs.Writes.{can_write, order_of};
+    ghost use Rattle.field_proxy.specs.Front.{Front};
+
+    ghost Value = { Front };
+
+    ghost view = { λ proxy. record {
+      client = proxy.client;
+      n = proxy.sizes.n;
+      f = proxy.sizes.f;
+      points = proxy.points;
+      places = proxy.device;
+      lasts = proxy.lasts.items;
+      updates = proxy.updates;
+      votes = proxy.vouched.votes;
+      writes = proxy.writes.items;
+    } };
+
+    ghost invariant = { λ proxy. (length proxy.points ≤ 1024)
+        × (length proxy.lasts.items ≡ length proxy.points)
+        × (proxy.vouched.f ≡ proxy.sizes.f)
+        × (map order_of proxy.writes.items ≡ done proxy.sizes.f proxy.vouched.votes)
+        × (list_all (λ vote. can_write proxy.points proxy.client vote.voucher.order) proxy.vouched.votes ≡ true) };
+}
+
+impl Proxy {
+    ghost use Rattle.field_proxy.specs.Front.{Front};
+    ghost use Rattle.vouched_orders.specs.Vouching.{done};
+
+    /// A proxy before its device, which begins with zeros. `client` is its number among the clients, and that of its
+    /// device in the plant.
+    pub fn make(alloc: Global, client: u32, sizes: Sizes, plant: &Plant) -> Result<Proxy, Want>
+        requires few { length plant.now.points ≤ 1024 }
+        requires there { client < length plant.now.devices }
+        ensures { IfOk result (λ proxy. IsSomeAnd (slice_get plant.now.devices client) (λ device.
+            proxy ≡ fresh client sizes.n sizes.f plant.now.points device)) }
+    {
+        let sizes_of_device = device_of(plant, client);
+        let points = plant.points.copy()?;
+        let count = points.len();
+        Ok(Proxy {
+            alloc,
+            client,
+            sizes,
+            points,
+            device: Device::make(alloc, &sizes_of_device)?,
+            line: Line { last: 0 },
+            lasts: none_said(alloc, count)?,
+            updates: 0,
+            vouched: Vouched::new(alloc, &sizes),
+            writes: Vec::new(alloc),
+        })
+    }
+
+    /// A change in the field.
+    pub fn change(&mut self, area: Area, place: u16, value: u16) -> Result<(), NoPlace>
+        ensures ok { OnOk result (self.new ≡ after_change self.old area place value) }
+        ensures err { OnErr result (self.new ≡ self.old) }
+        ensures no_place { IsErr result ↔ (size_of self.old.places area ≤ place) }
+    {
+        self.device.change(area, place, value)
+    }
+
+    /// Reads the proxy's points from the device, and gives what is to be said of them as the client's next updates. Of these
+    /// it gives the first `room`, and counts no other as said.
+    pub fn poll(&mut self, room: u64) -> Result<Vec<Update, Global>, Want>
+        requires { self.old.updates < 2 ^ 62 }
+        ensures says { IfOk result (λ updates. updates.items ≡ poll_says self.old room) }
+        ensures after { OnOk result (self.new ≡ after_poll self.old room) }
+        ensures err { OnErr result (self.new ≡ self.old) }
+    {
+        let mut line = self.line;
+        let mut ops = due_readings(
+            self.alloc,
+            &mut self.device,
+            &mut line,
+            self.client,
+            self.points.as_slice(),
+            &self.lasts,
+        )?;
+        ops.truncate(room as usize);
+        let updates = as_updates(self.alloc, self.client, self.updates + 1, &ops)?;
+        tell(&mut self.lasts, &ops);
+        self.updates += ops.len() as u64;
+        self.line = line;
+        Ok(updates)
+    }
+
+    /// Takes a master's voucher. Where it makes orders done, the device is written. One for another client, or with an order
+    /// that the proxy can't carry out, changes nothing; nor does one after which memory is wanted.
+    pub fn take_voucher(&mut self, signer: u32, voucher: &Voucher) -> Result<(), Want>
+        requires { signer < self.old.n }
+        ensures ok { OnOk result (self.new ≡ after_vote self.old (record { signer = signer; voucher = voucher.now })) }
+        ensures err { OnErr result (self.new ≡ self.old) }
+    {
+        if !self.counts(voucher) {
+            return Ok(());
+        }
+        let vote = Vote {
+            signer,
+            voucher: *voucher,
+        };
+        let orders = self.vouched.ready(&vote)?;
+        let mut line = self.line;
+        carry_out_vote(
+            self.alloc,
+            &mut self.device,
+            &mut line,
+            self.points.as_slice(),
+            &orders,
+            &mut self.writes,
+            &mut self.vouched,
+            vote,
+        )?;
+        self.line = line;
+        Ok(())
+    }
+
+    /// The writes made, in the order of their numbers, from 1. They are the orders done.
+    pub fn writes(&self) -> &[Write]
+        ensures writes { result.now ≡ self.now.writes }
+        ensures orders { map order_of result.now ≡ done self.now.f self.now.votes }
+    {
+        self.writes.as_slice()
+    }
+
+    /// Whether a voucher is for this proxy, and with an order that it can carry out.
+    fn counts(&self, voucher: &Voucher) -> bool
+        ensures { result ≡ (nat_eq voucher.now.client self.now.client && can_write self.now.points self.now.client voucher.now.order) }
+    {
+        voucher.client == self.client && self.can_write(&voucher.order)
+    }
+
+    /// Whether the proxy can carry an order out: it is a write to one of its own points that can be written.
+    fn can_write(&self, order: &Order) -> bool
+        ensures { result ≡ can_write self.now.points self.now.client order.now }
+    {
+        match order {
+            Order::Notice(_) => false,
+            Order::Write { point, .. } => match self.points.get(*point as usize) {
+                Some(target) => target.proxy == self.client && target.area.is_writable(),
+                None => false,
+            },
+        }
+    }
+}
+
+/// The sizes of a client's device.
+fn device_of(plant: &Plant, client: u32) -> DeviceSizes
+    requires { client < length plant.now.devices }
+    ensures { slice_get plant.now.devices client ≡ Some result }
+{
+    plant.devices.as_slice()[client as usize]
+}
+
+/// Nothing said yet of so many points.
+fn none_said(alloc: Global, count: usize) -> Result<Vec<Option<i64>, Global>, Want>
+    ensures { IfOk result (λ lasts. lasts.items ≡ replicate count None) }
+{
+    let mut lasts = Vec::with_capacity(alloc, count)?;
+    for _made in 0..count {
+        lasts.push(None)?;
+    }
+    Ok(lasts)
+}

@@ -1,0 +1,130 @@
+ghost use Rattle.std.specs.Prelude.{◌≡◌, length, IfOk};
+
+use crate::{Proxy, Write};
+use field_device::NoPlace;
+use master_points::Plant;
+use message_types::{Op, Order, Update, Voucher};
+use plain_lists::{Items, Text, Want};
+use point_table::{Area, DeviceSizes, Point};
+use quorum_sets::Sizes;
+use std::alloc::Global;
+use std::test::Fail;
+
+fn point(
+    alloc: Global,
+    name: &str,
+    proxy: u32,
+    area: Area,
+    place: u16,
+    scale: i64,
+) -> Result<Point, Want> {
+    Ok(Point {
+        name: Text::from_str(alloc, name)?,
+        proxy,
+        area,
+        place,
+        scale,
+        offset: 0,
+        low: 0,
+        high: 20000,
+        start: 0,
+    })
+}
+
+/// A feeder and a breaker behind proxy 0, and a pump behind proxy 1 at a place that its device lacks.
+fn plant(alloc: Global) -> Result<Plant, Want>
+    ensures points { IfOk result (λ plant. length plant.points ≡ 3) }
+    ensures devices { IfOk result (λ plant. length plant.devices ≡ 2) }
+{
+    let mut devices = Items::new(alloc);
+    devices.push(DeviceSizes {
+        coils: 2,
+        discrete: 0,
+        holding: 1,
+        input: 1,
+    })?;
+    devices.push(DeviceSizes {
+        coils: 2,
+        discrete: 0,
+        holding: 0,
+        input: 0,
+    })?;
+    let mut points = Items::new(alloc);
+    points.push(point(alloc, "feeder_amps", 0, Area::Input, 0, 10)?)?;
+    points.push(point(alloc, "breaker", 0, Area::Coil, 0, 1)?)?;
+    points.push(point(alloc, "pump", 1, Area::Coil, 9, 1)?)?;
+    Ok(Plant {
+        devices,
+        points,
+        alarms: Items::new(alloc),
+        interlocks: Items::new(alloc),
+    })
+}
+
+fn write(client: u32, number: u64, point: u32, raw: u16) -> Voucher {
+    Voucher {
+        client,
+        number,
+        order: Order::Write { point, raw },
+    }
+}
+
+fn kept(number: u64, point: u32, raw: u16, exception: Option<u8>) -> Write {
+    Write {
+        number,
+        point,
+        raw,
+        exception,
+    }
+}
+
+fn reading(t: u64, point: u32, value: i64) -> Update {
+    Update {
+        client: 0,
+        t,
+        op: Op::Reading { point, value },
+    }
+}
+
+#[test]
+fn writes_wait_for_two_masters_and_their_turn(rt: HostRuntime) -> Result<(), Fail> {
+    let sizes = Sizes::new(1, 0)?;
+    let mut proxy = Proxy::make(rt.alloc(), 0, sizes, &plant(rt.alloc())?)?;
+    proxy.take_voucher(0, &write(0, 2, 1, 1))?;
+    proxy.take_voucher(1, &write(0, 2, 1, 1))?;
+    proxy.take_voucher(0, &write(0, 1, 1, 0))?;
+    proxy.take_voucher(0, &write(0, 1, 1, 0))?;
+    proxy.take_voucher(3, &write(0, 1, 2, 0))?;
+    assert!(rt; proxy.writes().is_empty());
+    proxy.take_voucher(2, &write(0, 1, 1, 0))?;
+    assert_eq!(rt;
+        proxy.writes(),
+        [kept(1, 1, 0, None), kept(2, 1, 1, None)].as_slice()
+    );
+    Ok(())
+}
+
+#[test]
+fn a_place_that_lacks_is_written_with_an_exception(rt: HostRuntime) -> Result<(), Fail> {
+    let sizes = Sizes::new(1, 0)?;
+    let mut proxy = Proxy::make(rt.alloc(), 1, sizes, &plant(rt.alloc())?)?;
+    proxy.take_voucher(0, &write(1, 1, 2, 1))?;
+    proxy.take_voucher(2, &write(1, 1, 2, 1))?;
+    assert_eq!(rt; proxy.writes(), [kept(1, 2, 1, Some(2))].as_slice());
+    assert!(rt; proxy.poll(8)?.is_empty());
+    Ok(())
+}
+
+#[test]
+fn a_poll_says_what_is_new(rt: HostRuntime) -> Result<(), Fail> {
+    let sizes = Sizes::new(1, 0)?;
+    let mut proxy = Proxy::make(rt.alloc(), 0, sizes, &plant(rt.alloc())?)?;
+    assert_eq!(rt; proxy.change(Area::Coil, 2, 1), Err(NoPlace));
+    assert_eq!(rt; proxy.change(Area::Input, 0, 950), Ok(()));
+    assert!(rt; proxy.poll(1)?.as_slice() == [reading(1, 0, 9500)].as_slice());
+    assert!(rt; proxy.poll(8)?.as_slice() == [reading(2, 1, 0)].as_slice());
+    assert!(rt; proxy.poll(8)?.is_empty());
+    assert_eq!(rt; proxy.change(Area::Coil, 0, 5), Ok(()));
+    assert!(rt; proxy.poll(8)?.as_slice() == [reading(3, 1, 1)].as_slice());
+    Ok(())
+}

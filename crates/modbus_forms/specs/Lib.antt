@@ -1,0 +1,5 @@
+pub mod Frame
+pub mod Requests
+pub mod Replies
+pub mod Widths
+pub mod Answered
