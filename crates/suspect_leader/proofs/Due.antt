@@ -1,5 +1,5 @@
 -- What is due, and what it changes once it was said.
-use Rattle.std.proofs.Common.{◌≡◌, ℕ, ◌+◌, ◌-◌, ◌*◌, ◌%◌, Bool, true, false, cond, ◌&&◌, ◌||◌, not, List, [], ◌∷◌, ◌++◌, Option, Some, None, filter, nat_eq, nat_lt, refl, sym, ◌∙◌, ap}
+use Rattle.std.proofs.Common.{◌≡◌, ℕ, ◌%◌, Bool, true, false, cond, ◌&&◌, ◌||◌, not, List, [], ◌∷◌, ◌++◌, Option, Some, None, nat_eq, nat_lt, refl, sym, ◌∙◌, ap}
 use Rattle.std.specs.List.{list_any, filter_map}
 use Rattle.std.proofs.lemmas.List.{append_assoc}
 use Rattle.std.proofs.lemmas.List.Folds.{list_any-append}
@@ -7,11 +7,11 @@ use Rattle.message_types.specs.declared.signed.Signed.{Signed}
 use Rattle.message_types.specs.declared.body.Body.{Body}
 use Rattle.message_types.specs.declared.body.Body.TheVariants as body
 use Rattle.protocol_rules.specs.Group.{Group, most_view}
-use Rattle.protocol_rules.specs.Measures.{Told, ticks_of, waited, ping_in, pong_in, pongs_said, round_trips_said, tat_reports_said, own_bound, turnaround, acceptable, pings_due, pongs_due, round_trips_due, tat_reports_due, tat_bounds_due, suspects_due}
+use Rattle.protocol_rules.specs.Measures.{Told, ticks_of, waited, ping_in, pong_in, pongs_said, round_trips_said, tat_reports_said, own_bound, acceptable, pings_due, pongs_due, round_trips_due, tat_reports_due, tat_bounds_due, suspects_due}
 use Rattle.suspect_leader.specs.declared.saying.Saying.{Saying}
 use Rattle.suspect_leader.specs.declared.saying.Saying.TheVariants.{Ping, Pong, RoundTrip, Report, Bound, Vote}
 use Rattle.suspect_leader.specs.Sayings.{says, is_among, is_pending}
-use Rattle.suspect_leader.specs.Kept.{Kept, IsMeasureOf, waited_in, answer_to, measures_due, turnaround_kept, acceptable_kept, bound_kept, report_due_kept, bound_due_kept, vote_due_kept, due_kept}
+use Rattle.suspect_leader.specs.Kept.{Kept, IsMeasureOf, waited_in, answer_to, measures_due, turnaround_kept, acceptable_kept, report_due_kept, bound_due_kept, vote_due_kept, due_kept}
 use Rattle.suspect_leader.proofs.Order.{Rising}
 use Rattle.suspect_leader.proofs.Masters.{turnaround_is, acceptable_is, own_bound_is}
 use Rattle.suspect_leader.proofs.Owed.{answers_are}

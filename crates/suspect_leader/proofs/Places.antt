@@ -1,21 +1,21 @@
 -- What is due is in its place as a word of the master.
-use Rattle.std.proofs.Common.{◌≡◌, ℕ, zero, suc, ◌+◌, ◌-◌, ◌*◌, ◌%◌, ◌<◌, ◌≤◌, Bool, true, false, cond, ◌&&◌, ◌||◌, not, List, [], ◌∷◌, ◌++◌, Option, Some, None, length, reverse, get_or, nat_eq, nat_lt, nat_le, refl, sym, ◌∙◌, ap, subst, inl, inr, ◌⊎◌, arith}
-use Rattle.std.specs.List.{list_any, list_all, filter_map, cons_option, slice_index_or}
+use Rattle.std.proofs.Common.{◌≡◌, ℕ, zero, suc, ◌-◌, ◌*◌, ◌%◌, ◌<◌, ◌≤◌, Bool, true, false, cond, ◌&&◌, ◌||◌, not, List, [], ◌∷◌, Option, Some, None, length, reverse, get_or, nat_eq, nat_lt, nat_le, refl, sym, ◌∙◌, ap, subst, inl, inr, ◌⊎◌, arith}
+use Rattle.std.specs.List.{list_all, filter_map, cons_option, slice_index_or}
 use Rattle.std.specs.Option.{option_map}
-use Rattle.std.proofs.lemmas.Bool.{and_parts, or_right, true≢false, le-leb, lt-ltb, cases_lt}
+use Rattle.std.proofs.lemmas.Bool.{or_right, true≢false, le-leb, lt-ltb, cases_lt}
 use Rattle.std.proofs.lemmas.List.{get_or-reverse, get_or_past, length-reverse}
 use Rattle.quorum_sets.specs.Masters.{numbers_below}
 use Rattle.message_types.specs.declared.signed.Signed.{Signed}
 use Rattle.message_types.specs.declared.measures.Rtt.{Rtt}
 use Rattle.message_types.specs.declared.body.Body.{Body}
 use Rattle.message_types.specs.declared.body.Body.TheVariants as body
-use Rattle.protocol_rules.specs.Words.{in_order, put_in_order}
+use Rattle.protocol_rules.specs.Words.{in_order}
 use Rattle.protocol_rules.specs.Group.{Group, most_view}
 use Rattle.protocol_rules.specs.Measures.{Told, pings_due}
 use Rattle.suspect_leader.specs.declared.saying.Saying.{Saying}
 use Rattle.suspect_leader.specs.declared.saying.Saying.TheVariants.{Ping, Pong, RoundTrip, Report, Bound, Vote}
 use Rattle.suspect_leader.specs.Sayings.{same_saying, is_among, is_pending}
-use Rattle.suspect_leader.specs.Kept.{Kept, IsMeasureOf, waited_in, ticks_in, figure_of, figure_at, figures_kept, bound_kept, acceptable_kept, turnaround_kept, answer_to, report_due_kept, bound_due_kept, vote_due_kept, due_kept, is_word_in_place}
+use Rattle.suspect_leader.specs.Kept.{Kept, IsMeasureOf, waited_in, ticks_in, figure_of, figure_at, figures_kept, acceptable_kept, turnaround_kept, answer_to, report_due_kept, bound_due_kept, vote_due_kept, due_kept, is_word_in_place}
 use Rattle.suspect_leader.proofs.Order.{same_itself}
 use Rattle.suspect_leader.proofs.Rising.{Each, each_put, each_append}
 

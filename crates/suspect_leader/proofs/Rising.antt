@@ -1,14 +1,10 @@
 -- Numbers and sayings in rising order, and which there are.
-use Rattle.std.proofs.Common.{◌≡◌, ℕ, zero, suc, ◌+◌, ◌<◌, ◌≤◌, Less, Bool, true, false, cond, ◌&&◌, ◌||◌, not, List, [], ◌∷◌, ◌++◌, map, filter, nat_eq, nat_lt, nat_le, refl, sym, ◌∙◌, ap, arith, add-one, inl, inr, ◌⊎◌}
-use Rattle.std.specs.List.{list_any, flat_map, AllByRecursion}
-use Rattle.std.specs.List.Sorted.{IsStrictlySortedBy}
-use Rattle.std.proofs.lemmas.Bool.{leb-true, leb-false, ltb-true, ltb-false, lt-ltb, le-ltb, eqb-true, eqb-false, eq-eqb, ne_eqb, true≢false}
+use Rattle.std.proofs.Common.{◌≡◌, ℕ, zero, suc, ◌<◌, ◌≤◌, Bool, true, false, cond, ◌&&◌, ◌||◌, List, [], ◌∷◌, ◌++◌, filter, nat_eq, nat_lt, nat_le, refl, sym, ◌∙◌, ap, arith, add-one}
+use Rattle.std.specs.List.{list_any, AllByRecursion}
+use Rattle.std.proofs.lemmas.Bool.{leb-true, leb-false, ltb-true, ltb-false, lt-ltb, le-ltb, eqb-true, eqb-false}
 use Rattle.std.proofs.lemmas.List.Folds.{list_any-append}
 use Rattle.quorum_sets.specs.Masters.{numbers_below}
 use Rattle.protocol_rules.specs.Words.{put_in_order, in_order, each_once}
-use Rattle.suspect_leader.specs.declared.saying.Saying.{Saying}
-use Rattle.suspect_leader.specs.Sayings.{same_saying, is_among}
-use Rattle.suspect_leader.proofs.Order.{order, Rising}
 use Rattle.suspect_leader.proofs.Masters.{below_none_at, below_one_more}
 
 abbrev pub Each : {X : Type 0} → (X → Type 0) → List X → Type 0

@@ -1,5 +1,5 @@
 -- Measures where nothing was told, known or said.
-use Rattle.std.proofs.Common.{◌≡◌, ℕ, zero, suc, ◌<◌, Bool, true, false, cond, ◌&&◌, not, List, [], Option, None, get_or, nat_eq, nat_lt, refl, sym, ◌∙◌, ap}
+use Rattle.std.proofs.Common.{◌≡◌, ℕ, zero, suc, Bool, true, false, cond, ◌&&◌, not, [], Option, None, get_or, nat_eq, nat_lt, refl, sym, ◌∙◌, ap}
 use Rattle.std.specs.Prelude.{replicate}
 use Rattle.std.specs.Option.{unwrap_or}
 use Rattle.message_types.specs.declared.measures.Rtt.{Rtt}

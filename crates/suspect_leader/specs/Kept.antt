@@ -1,5 +1,5 @@
 -- What a master keeps of the measures, and when it is what these events, words and bodies make of it.
-use Rattle.std.specs.Prelude.{◌≡◌, ℕ, ◌+◌, ◌-◌, ◌*◌, ◌%◌, ◌<◌, Bool, false, ◌&&◌, not, length, map, reverse, slice_index, List, [], ◌∷◌, ◌++◌, Option, Some, None, nat_eq, nat_lt, nat_le, unwrap_or, option_map, if◌then◌else◌}
+use Rattle.std.specs.Prelude.{◌≡◌, ℕ, ◌+◌, ◌-◌, ◌*◌, ◌%◌, ◌<◌, Bool, ◌&&◌, not, length, map, reverse, slice_index, List, [], ◌∷◌, ◌++◌, Option, Some, None, nat_eq, nat_lt, nat_le, unwrap_or, option_map, if◌then◌else◌}
 use Rattle.std.specs.List.{list_any, filter_map, slice_index_or}
 use Rattle.message_types.specs.declared.signed.Signed.{Signed}
 use Rattle.message_types.specs.declared.measures.Rtt.{Rtt}

@@ -83,7 +83,7 @@ impl Measure {
         }
     }
 
-    /// Is told of a tick: the view at it, and whether the master then waits for the leader.
+    /// Is told of a tick: the view at it, and whether the master then waits for the leader. It takes no memory.
     pub fn tick(&mut self, view: u64, waits: bool) -> Result<(), Want>
         requires { self.old.ticks < 2 ^ 32 }
         ensures ok { IsOk result }
@@ -112,6 +112,7 @@ impl Measure {
     }
 
     /// Takes the next word known. Only pings, pongs, round trips, tatreports and tatbounds of masters change anything.
+    /// A round trip in its place has at most 2^32 ticks.
     pub fn take(&mut self, signer: u32, body: &Body) -> Result<(), Want>
         requires { ticks_of_round_trip body.now ≤ 4294967296 }
         ensures ticks { self.new.ticks ≡ self.old.ticks }
@@ -156,7 +157,7 @@ impl Measure {
 
     /// What to say at an event, in view `view`, once the event was told and its words were taken: a ping, the pongs
     /// and the round trips owed, how long the leader has kept the master waiting, its own bound, and a vote. They
-    /// count as said.
+    /// count as said. A pong that came before its ping was said stays owed, and is looked at again each time.
     pub fn due(&mut self, view: u64, at_tick: bool) -> Result<Vec<Body>, Want>
         ensures ticks { self.new.ticks ≡ self.old.ticks }
         ensures bodies { IfOk result (λ bodies. (g : Group) (me : ℕ) (told : List Told) (known : List (SignedWord Word)) (said : List Word)

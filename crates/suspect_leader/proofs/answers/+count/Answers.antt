@@ -1,4 +1,4 @@
-use Rattle.std.proofs.Common.{◌≡◌, ◌||◌, ◌∷◌, ◌-◌, length, List, take, drop, ap, sym, ◌∙◌}
+use Rattle.std.proofs.Common.{◌||◌, ◌-◌, length, List, take, drop, ap, sym, ◌∙◌}
 use Rattle.std.specs.List.{list_any}
 use Rattle.message_types.specs.declared.body.Body.{Body}
 use Rattle.suspect_leader.specs.Sayings.{says, is_among}

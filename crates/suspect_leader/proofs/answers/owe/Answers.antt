@@ -1,4 +1,4 @@
-use Rattle.std.proofs.Common.{◌∙◌, sym}
+use Rattle.std.proofs.Common.{◌∙◌}
 use Rattle.suspect_leader.proofs.Sets.{owed_put, owed_none, said_is}
 use Rattle.suspect_leader.proofs.answers.owe.Goals as goal
 

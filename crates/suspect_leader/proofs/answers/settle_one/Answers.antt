@@ -1,5 +1,5 @@
 use Rattle.std.proofs.Common.{◌∙◌, sym}
-use Rattle.suspect_leader.proofs.Sets.{settled_one, settled_none}
+use Rattle.suspect_leader.proofs.Sets.{settled_one}
 use Rattle.suspect_leader.proofs.answers.settle_one.Goals as goal
 
 pub returns-in-Some : goal.returns-in-Some

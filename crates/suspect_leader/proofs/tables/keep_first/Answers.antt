@@ -1,4 +1,4 @@
-use Rattle.std.proofs.Common.{◌≡◌, Option, None, true, false, sym, ◌∙◌, ap}
+use Rattle.std.proofs.Common.{sym, ◌∙◌, ap}
 use Rattle.std.specs.Option.{is_some}
 use Rattle.suspect_leader.proofs.Told.{first_kept, first_stays, none_told}
 use Rattle.suspect_leader.proofs.tables.keep_first.Goals as goal

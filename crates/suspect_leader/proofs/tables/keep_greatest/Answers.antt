@@ -1,4 +1,4 @@
-use Rattle.std.proofs.Common.{◌≡◌, ℕ, Option, max, sym, ◌∙◌, ap}
+use Rattle.std.proofs.Common.{ℕ, Option, max, ◌∙◌, ap}
 use Rattle.std.specs.Option.{unwrap_or}
 use Rattle.suspect_leader.proofs.Told.{greatest_kept}
 use Rattle.suspect_leader.proofs.tables.keep_greatest.Goals as goal

@@ -1,4 +1,4 @@
-use Rattle.std.proofs.Common.{◌∙◌, sym}
+use Rattle.std.proofs.Common.{◌∙◌}
 use Rattle.suspect_leader.proofs.Told.{told_is}
 use Rattle.suspect_leader.proofs.tables.told.Goals as goal
 

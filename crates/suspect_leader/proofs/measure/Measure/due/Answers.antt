@@ -1,4 +1,4 @@
-use Rattle.std.proofs.Common.{◌≡◌, ◌++◌, ◌||◌, ◌&&◌, not, List, [], sym, ap, subst, ◌∙◌}
+use Rattle.std.proofs.Common.{◌++◌, ◌||◌, ◌&&◌, not, List, sym, ap, subst, ◌∙◌}
 use Rattle.std.specs.List.{list_any, list_all}
 use Rattle.message_types.specs.declared.body.Body.{Body}
 use Rattle.suspect_leader.specs.Sayings.{says, is_among}

@@ -1,12 +1,11 @@
-use Rattle.std.proofs.Common.{◌≡◌, ◌<◌, ◌≤◌, ◌+◌, ◌-◌, ◌^◌, ℕ, List, Some, None, true, false, cond, nat_le, length, reverse, sym, ap, ◌∙◌, arith, rules}
+use Rattle.std.proofs.Common.{◌≡◌, ◌<◌, ◌≤◌, ◌+◌, ℕ, length, reverse, sym, ap, ◌∙◌, arith, rules}
 use Rattle.std.specs.Prelude.{slice_index}
 use Rattle.std.specs.List.{filter_map}
 use Rattle.std.specs.Option.{option_to_list}
-use Rattle.std.proofs.lemmas.Bool.{le-leb, lt-leb}
 use Rattle.quorum_sets.specs.Masters.{numbers_below}
 use Rattle.protocol_rules.specs.Words.{in_order}
-use Rattle.suspect_leader.specs.Kept.{Kept, figure_at, put_each, figures_kept, bound_kept}
-use Rattle.suspect_leader.proofs.Ranks.{some_more, nothing_in_order, length_in_order}
+use Rattle.suspect_leader.specs.Kept.{Kept, figure_at, put_each, figures_kept}
+use Rattle.suspect_leader.proofs.Ranks.{some_more, nothing_in_order}
 use Rattle.suspect_leader.proofs.Masters.{masters_few, quorum_size, filter_map_more, filter_map_start, ranked_some, bound_some, bound_none}
 use Rattle.suspect_leader.proofs.measure.Measure.own_bound.Goals as goal
 

@@ -1,9 +1,9 @@
-use Rattle.std.proofs.Common.{◌≡◌, ◌≤◌, ◌<◌, ℕ, Some, None, sym, ap, ◌∙◌, subst}
+use Rattle.std.proofs.Common.{◌≤◌, ◌<◌, ℕ, Some, sym, ap, ◌∙◌, subst}
 use Rattle.std.proofs.lemmas.Result.{on_ok_weaker}
 use Rattle.message_types.specs.declared.body.Body.{Body}
 use Rattle.message_types.specs.declared.body.Body.TheVariants as body
-use Rattle.suspect_leader.specs.Sayings.{heard_in, ticks_of_round_trip}
-use Rattle.suspect_leader.specs.Kept.{Kept, IsMeasureOf}
+use Rattle.suspect_leader.specs.Sayings.{ticks_of_round_trip}
+use Rattle.suspect_leader.specs.Kept.{Kept}
 use Rattle.suspect_leader.proofs.Taken.{viewed, stranger_passed, kind_passed, heard_ping, heard_pong, heard_trip, heard_report, heard_bound, took_report, took_bound, at_body}
 use Rattle.suspect_leader.proofs.measure.Measure.take.Goals as goal
 

@@ -1,7 +1,7 @@
-use Rattle.std.proofs.Common.{◌≡◌, ◌<◌, ℕ, nat_eq, sym, ap, ◌∙◌, subst}
+use Rattle.std.proofs.Common.{◌<◌, ℕ, nat_eq, sym, ap, ◌∙◌, subst}
 use Rattle.std.proofs.lemmas.Bool.{ne_eqb, lt-ltb}
 use Rattle.std.proofs.lemmas.Result.{on_ok_weaker}
-use Rattle.suspect_leader.specs.Kept.{Kept, IsMeasureOf}
+use Rattle.suspect_leader.specs.Kept.{Kept}
 use Rattle.suspect_leader.proofs.Taken.{viewed, own_ping_passed, took_ping}
 use Rattle.suspect_leader.proofs.measure.Measure.take_ping.Goals as goal
 

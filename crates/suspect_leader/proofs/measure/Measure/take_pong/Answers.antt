@@ -1,7 +1,7 @@
-use Rattle.std.proofs.Common.{◌≡◌, ◌<◌, ℕ, nat_eq, sym, ap, ◌∙◌, subst}
+use Rattle.std.proofs.Common.{◌<◌, ℕ, nat_eq, sym, ap, ◌∙◌, subst}
 use Rattle.std.proofs.lemmas.Bool.{ne_eqb, eq-eqb, lt-ltb}
 use Rattle.std.proofs.lemmas.Result.{on_ok_weaker}
-use Rattle.suspect_leader.specs.Kept.{Kept, IsMeasureOf}
+use Rattle.suspect_leader.specs.Kept.{Kept}
 use Rattle.suspect_leader.proofs.Taken.{viewed, pong_passed, took_pong}
 use Rattle.suspect_leader.proofs.measure.Measure.take_pong.Goals as goal
 

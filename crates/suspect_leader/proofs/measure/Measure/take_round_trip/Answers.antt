@@ -1,6 +1,6 @@
-use Rattle.std.proofs.Common.{◌≡◌, ◌<◌, ◌≤◌, ℕ, Some, None, nat_eq, sym, ap, ◌∙◌, subst, length, get_or, arith}
-use Rattle.std.proofs.lemmas.Bool.{ne_eqb, eq-eqb, lt-ltb}
-use Rattle.suspect_leader.specs.Kept.{Kept, IsMeasureOf, later_of}
+use Rattle.std.proofs.Common.{◌<◌, ◌≤◌, ℕ, nat_eq, sym, ap, ◌∙◌, subst, arith}
+use Rattle.std.proofs.lemmas.Bool.{ne_eqb, eq-eqb}
+use Rattle.suspect_leader.specs.Kept.{Kept}
 use Rattle.suspect_leader.proofs.Taken.{viewed, trip_passed, took_trip, trip_set}
 use Rattle.suspect_leader.proofs.Masters.{masters_few}
 use Rattle.suspect_leader.proofs.measure.Measure.take_round_trip.Goals as goal
