@@ -14,12 +14,16 @@ pub const SUMMARY: [u8; 36] = [
     0, 0, 0, 0,
 ];
 
+fn number_of(field: &[u8]) -> u32 {
+    (field.len() % 0x1_0000_0000) as u32
+}
+
 pub fn framed(alloc: Global, signer: u32, body: &[u8], sig: &[u8]) -> Result<Vec<u8>, Fail> {
     let mut bytes = Vec::new(alloc);
     put_u32(&mut bytes, signer)?;
-    put_u32(&mut bytes, u32::try_from(body.len())?)?;
+    put_u32(&mut bytes, number_of(body))?;
     put_bytes(&mut bytes, body)?;
-    put_u32(&mut bytes, u32::try_from(sig.len())?)?;
+    put_u32(&mut bytes, number_of(sig))?;
     put_bytes(&mut bytes, sig)?;
     Ok(bytes)
 }
@@ -46,6 +50,15 @@ fn plain_offer(alloc: Global, first: u32, second: u32, third: u32) -> Result<Vec
     framed(alloc, 0, &text, &[])
 }
 
+// The first fault of bytes that spell no frame.
+fn fault_of(alloc: Global, bytes: &[u8]) -> Option<FormRefusal> {
+    read_frame(alloc, bytes).err()
+}
+
+fn is_short(fault: Option<FormRefusal>) -> bool {
+    matches!(fault, Some(FormRefusal::Short { .. }))
+}
+
 #[test]
 fn each_cut_is_short(rt: HostRuntime) {
     for cut in 0..31usize {
@@ -55,24 +68,17 @@ fn each_cut_is_short(rt: HostRuntime) {
             8..=26 => 8,
             _ => 27,
         };
-        assert_eq!(rt;
-            read_frame(rt.alloc(), &PLAIN[..cut]).err(),
-            Some(FormRefusal::Short { place })
-        );
+        let fault = fault_of(rt.alloc(), &PLAIN[..cut]);
+        assert!(rt; fault == Some(FormRefusal::Short { place }));
     }
 }
 
 #[test]
 fn each_cut_of_a_preprepare_is_short(rt: HostRuntime) -> Result<(), Fail> {
     let whole = plain_offer(rt.alloc(), 1, 2, 3)?;
-    assert!(rt; read_frame(rt.alloc(), &whole).is_ok());
+    assert!(rt; fault_of(rt.alloc(), &whole).is_none());
     for cut in 0..whole.len() {
-        assert!(rt;
-            matches!(
-                read_frame(rt.alloc(), &whole[..cut]),
-                Err(FormRefusal::Short { .. })
-            )
-        );
+        assert!(rt; is_short(fault_of(rt.alloc(), &whole[..cut])));
     }
     Ok(())
 }
@@ -80,9 +86,7 @@ fn each_cut_of_a_preprepare_is_short(rt: HostRuntime) -> Result<(), Fail> {
 #[test]
 fn equal_signers_are_out_of_order(rt: HostRuntime) -> Result<(), Fail> {
     let bytes = plain_offer(rt.alloc(), 1, 1, 2)?;
-    assert_eq!(rt;
-        read_frame(rt.alloc(), &bytes).err(),
-        Some(FormRefusal::BadOrder { place: 76 })
-    );
+    let fault = fault_of(rt.alloc(), &bytes);
+    assert!(rt; fault == Some(FormRefusal::BadOrder { place: 76 }));
     Ok(())
 }

@@ -7,7 +7,7 @@ use quorum_sets::Sizes;
 use std::alloc::Global;
 use std::test::Fail;
 
-pub fn key_of(alloc: Global, actor: u8) -> Result<KeyState, Fail> {
+fn key_of(alloc: Global, actor: u8) -> Result<KeyState, Fail> {
     let key = KeyState::make(alloc, &[actor; 32], &[actor; 16], &[5], Ots::W4)?;
     Ok(key)
 }
@@ -25,17 +25,19 @@ fn ring_of(alloc: Global, publics: &[[u8; 60]; 5]) -> Result<KeyRing, Fail> {
 }
 
 fn real_ring(alloc: Global) -> Result<KeyRing, Fail> {
-    let mut publics = [[0; 60]; 5];
-    for (actor, public) in publics.iter_mut().enumerate() {
-        *public = public_of(alloc, (actor % 256) as u8)?;
-    }
+    let publics = [
+        public_of(alloc, 0)?,
+        public_of(alloc, 1)?,
+        public_of(alloc, 2)?,
+        public_of(alloc, 3)?,
+        [0; 60],
+    ];
     ring_of(alloc, &publics)
 }
 
 // A body's frame by the key of a master.
 fn by(alloc: Global, master: u8, body: &[u8]) -> Result<Vec<u8>, Fail> {
-    let mut key = key_of(alloc, master)?;
-    let sig = key.sign(body)?;
+    let sig = signature_by(alloc, master, body)?;
     framed(alloc, u32::from(master), body, &sig)
 }
 
@@ -61,32 +63,53 @@ fn refusal_of(alloc: Global, ring: &KeyRing, bytes: &[u8]) -> Result<Option<Chec
     Ok(check(alloc, ring, frame).err())
 }
 
+fn signers_of(alloc: Global, parts: &[(u32, Body)]) -> Result<Vec<u32>, Fail> {
+    let mut signers = Vec::new(alloc);
+    for (signer, _) in parts {
+        signers.push(*signer)?;
+    }
+    Ok(signers)
+}
+
+// The signers of the parts of the frame with these bytes, where it stands.
+fn standing_signers(alloc: Global, ring: &KeyRing, bytes: &[u8]) -> Result<Vec<u32>, Fail> {
+    let frame = read_frame(alloc, bytes)?;
+    let checked = check(alloc, ring, frame)?;
+    let list = parts(alloc, &checked)?;
+    signers_of(alloc, &list)
+}
+
 #[test]
-fn a_plain_frame_is_unsigned_and_another_signer_unknown(rt: HostRuntime) -> Result<(), Fail> {
+fn a_plain_frame_is_unsigned(rt: HostRuntime) -> Result<(), Fail> {
     let ring = ring_of(rt.alloc(), &[[7; 60]; 5])?;
-    assert_eq!(rt;
-        refusal_of(rt.alloc(), &ring, &PLAIN)?,
-        Some(CheckRefusal::Unsigned { part: 0 })
-    );
+    let refusal = refusal_of(rt.alloc(), &ring, &PLAIN)?;
+    assert!(rt; refusal == Some(CheckRefusal::Unsigned { part: 0 }));
+    Ok(())
+}
+
+#[test]
+fn a_signer_outside_the_ring_is_unknown(rt: HostRuntime) -> Result<(), Fail> {
+    let ring = ring_of(rt.alloc(), &[[7; 60]; 5])?;
     let mut other = PLAIN;
     other[3] = 5;
-    assert_eq!(rt;
-        refusal_of(rt.alloc(), &ring, &other)?,
-        Some(CheckRefusal::SignerUnknown { signer: 5 })
-    );
+    let refusal = refusal_of(rt.alloc(), &ring, &other)?;
+    assert!(rt; refusal == Some(CheckRefusal::SignerUnknown { signer: 5 }));
     Ok(())
+}
+
+// The preprepare of a master with the summary of master 2 as it was signed.
+fn preprepare_by(alloc: Global, master: u8) -> Result<Vec<u8>, Fail> {
+    let second = by(alloc, 2, &SUMMARY)?;
+    let text = offer_with(alloc, &second)?;
+    by(alloc, master, &text)
 }
 
 #[test]
 fn a_signed_preprepare_stands(rt: HostRuntime) -> Result<(), Fail> {
     let ring = real_ring(rt.alloc())?;
-    let text = offer_with(rt.alloc(), &by(rt.alloc(), 2, &SUMMARY)?)?;
-    let frame = read_frame(rt.alloc(), &by(rt.alloc(), 0, &text)?)?;
-    let checked = check(rt.alloc(), &ring, frame)?;
-    assert_eq!(rt; checked.frame().signer, 0);
-    let all = parts(rt.alloc(), &checked)?;
-    assert_eq!(rt; all.len(), 4);
-    assert!(rt; matches!(all[2], (2, Body::PoSummary(_))));
+    let bytes = preprepare_by(rt.alloc(), 0)?;
+    let signers = standing_signers(rt.alloc(), &ring, &bytes)?;
+    assert!(rt; signers.as_slice() == [0, 1, 2, 3].as_slice());
     Ok(())
 }
 
@@ -94,39 +117,49 @@ fn a_signed_preprepare_stands(rt: HostRuntime) -> Result<(), Fail> {
 #[test]
 fn a_preprepare_of_another_master_is_misplaced(rt: HostRuntime) -> Result<(), Fail> {
     let ring = real_ring(rt.alloc())?;
-    let text = offer_with(rt.alloc(), &by(rt.alloc(), 2, &SUMMARY)?)?;
-    assert_eq!(rt;
-        refusal_of(rt.alloc(), &ring, &by(rt.alloc(), 1, &text)?)?,
-        Some(CheckRefusal::Misplaced { part: 0 })
-    );
+    let bytes = preprepare_by(rt.alloc(), 1)?;
+    let refusal = refusal_of(rt.alloc(), &ring, &bytes)?;
+    assert!(rt; refusal == Some(CheckRefusal::Misplaced { part: 0 }));
     Ok(())
+}
+
+// The leader's frame over a summary of which a bit was changed before.
+fn changed_before(alloc: Global) -> Result<Vec<u8>, Fail> {
+    let second = changed_summary(alloc)?;
+    let text = offer_with(alloc, &second)?;
+    by(alloc, 0, &text)
 }
 
 #[test]
 fn a_bit_changed_before_the_leader_signed_is_found_inside(rt: HostRuntime) -> Result<(), Fail> {
     let ring = real_ring(rt.alloc())?;
-    let text = offer_with(rt.alloc(), &changed_summary(rt.alloc())?)?;
-    assert_eq!(rt;
-        refusal_of(rt.alloc(), &ring, &by(rt.alloc(), 0, &text)?)?,
-        Some(CheckRefusal::Unsigned { part: 2 })
-    );
+    let bytes = changed_before(rt.alloc())?;
+    let refusal = refusal_of(rt.alloc(), &ring, &bytes)?;
+    assert!(rt; refusal == Some(CheckRefusal::Unsigned { part: 2 }));
     Ok(())
 }
 
-// The leader's frame with its signature, but with the changed summary inside.
+// The signature of a master's next leaf.
+fn signature_by(alloc: Global, master: u8, text: &[u8]) -> Result<Vec<u8>, Fail> {
+    let mut key = key_of(alloc, master)?;
+    let sig = key.sign(text)?;
+    Ok(sig)
+}
+
+// The leader's signature, over a frame whose second summary was changed afterwards.
 fn changed_afterwards(alloc: Global) -> Result<Vec<u8>, Fail> {
-    let mut leader = key_of(alloc, 0)?;
-    let sig = leader.sign(&offer_with(alloc, &by(alloc, 2, &SUMMARY)?)?)?;
-    let text = offer_with(alloc, &changed_summary(alloc)?)?;
-    framed(alloc, 0, &text, &sig)
+    let second = by(alloc, 2, &SUMMARY)?;
+    let text = offer_with(alloc, &second)?;
+    let sig = signature_by(alloc, 0, &text)?;
+    let changed = offer_with(alloc, &changed_summary(alloc)?)?;
+    framed(alloc, 0, &changed, &sig)
 }
 
 #[test]
 fn a_bit_changed_after_the_leader_signed_is_found_outside(rt: HostRuntime) -> Result<(), Fail> {
     let ring = real_ring(rt.alloc())?;
-    assert_eq!(rt;
-        refusal_of(rt.alloc(), &ring, &changed_afterwards(rt.alloc())?)?,
-        Some(CheckRefusal::Unsigned { part: 0 })
-    );
+    let bytes = changed_afterwards(rt.alloc())?;
+    let refusal = refusal_of(rt.alloc(), &ring, &bytes)?;
+    assert!(rt; refusal == Some(CheckRefusal::Unsigned { part: 0 }));
     Ok(())
 }
