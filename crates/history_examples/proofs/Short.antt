@@ -1,9 +1,9 @@
 -- What a master answers, by a shorter way: the rows that go over all 4,096 numbers go only as far as the words known name
 -- numbers. So the answers of an example can be computed.
-use Rattle.std.proofs.Common.{◌≡◌, ℕ, zero, suc, ◌+◌, ◌<◌, ◌≤◌, Bool, true, false, ◌&&◌, ◌||◌, not, cond, List, [], ◌∷◌, ◌++◌, Some, None, map, refl, ap, nat_eq, arith}
-use Rattle.std.proofs.lemmas.Bool.{ne_eqb}
+use Rattle.std.proofs.Common.{◌≡◌, ℕ, zero, suc, ◌+◌, ◌<◌, ◌≤◌, Bool, true, false, ◌&&◌, ◌||◌, not, cond, List, [], ◌∷◌, ◌++◌, Some, None, map, refl, sym, ◌∙◌, ap, inl, inr, ◌⊎◌, length, nat_eq, nat_le, arith}
+use Rattle.std.proofs.lemmas.Bool.{ne_eqb, lt-leb, leb-true, cases_lt}
 use Rattle.std.specs.Prelude.{if◌then◌else◌, Option, take, nat_lt}
-use Rattle.std.specs.List.{list_any, flat_map, cons_option}
+use Rattle.std.specs.List.{list_any, filter_map, flat_map, cons_option}
 use Rattle.message_types.specs.declared.signed.Signed.{Signed}
 use Rattle.message_types.specs.declared.updates.Update.{Update}
 use Rattle.message_types.specs.declared.vouchers.Order.{Order}
@@ -12,11 +12,12 @@ use Rattle.message_types.specs.declared.body.Body.TheVariants as body
 use Rattle.message_types.specs.Digests.{digest_of_update}
 use Rattle.quorum_sets.specs.Masters.{numbers_below}
 use Rattle.protocol_rules.specs.declared.facts.OrderFact.{OrderFact}
-use Rattle.protocol_rules.specs.Words.{greatest_of, numbers_from}
-use Rattle.protocol_rules.specs.Group.{Group, most_number}
+use Rattle.protocol_rules.specs.declared.facts.OrderFact.TheVariants as fact
+use Rattle.protocol_rules.specs.Words.{greatest_of, greatest_to, numbers_from, first_of_list}
+use Rattle.protocol_rules.specs.Group.{Group, most_number, window}
 use Rattle.protocol_rules.specs.Facts.{facts_of}
 use Rattle.protocol_rules.specs.Preorder.{update_requested, updates_requested, acks, ack_due, requests_due, acks_due}
-use Rattle.protocol_rules.specs.Order.{stable, marks_for, certificates_below, prepares_due, commits_due, marks_due}
+use Rattle.protocol_rules.specs.Order.{is_voted, mark_by, stable, marks_for, certificates_below, prepare_due, commit_due, marks_due}
 use Rattle.protocol_rules.specs.Views.{view, is_open, report_due, new_view_due}
 use Rattle.protocol_rules.specs.Measures.{ticks_of, waited, pings_due, pongs_due, round_trips_due, tat_reports_due, tat_bounds_due, suspects_due}
 use Rattle.protocol_rules.specs.Reconcile.{asks_for_update, updates_given, give_due, gives_due, asks_for_order, orders_given, give_ordered_due, gives_ordered_due, ask_update_due, ask_order_due}
@@ -145,9 +146,73 @@ gives_ordered_same g me known facts said =
     enough (give_ordered_due g me known facts said) 1 most_number (highest order_asked known)
     (λ s h. nothing (list_any (asks_for_order me s) known) (not (list_any (orders_given s) said)) _ (none_asked_order me s known (omega arith)))
 
--- the answers with the three rows as given
-abbrev answers_with : Group → (List Update → ℕ → List Order) → ℕ → List Heard → Option (Signed Body) → Bool → List Body → List Body → List Body → List Body
-answers_with g orders me before took at_tick ack_row give_row order_row =
+lesser_low : (a b : ℕ) → a ≤ b → lesser a b ≡ a
+lesser_low zero b h = refl
+lesser_low (suc a) zero h = absurd (omega arith)
+lesser_low (suc a) (suc b) h = ap (λ k. suc k) (lesser_low a b (omega arith))
+
+lesser_high : (a b : ℕ) → b ≤ a → lesser a b ≡ b
+lesser_high zero zero h = refl
+lesser_high zero (suc b) h = absurd (omega arith)
+lesser_high (suc a) zero h = refl
+lesser_high (suc a) (suc b) h = ap (λ k. suc k) (lesser_high a b (omega arith))
+
+-- Where no number above m passes, the greatest is sought up to m.
+greatest_low : (passes : ℕ → Bool) (most m : ℕ) → ((k : ℕ) → m < k → passes k ≡ false) → greatest_to passes most ≡ greatest_to passes (lesser most m)
+unfolding greatest_to
+greatest_low passes zero m none = refl
+greatest_low passes (suc most) m none = by_place (cases_lt m (suc most)) (greatest_low passes most m none)
+  where
+    by_place : (m < suc most) ⊎ (suc most ≤ m) → greatest_to passes most ≡ greatest_to passes (lesser most m) → greatest_to passes (suc most) ≡ greatest_to passes (lesser (suc most) m)
+    by_place (inl above) deeper =
+        ap (λ b. cond b (suc most) (greatest_to passes most)) (none (suc most) above)
+        ∙ (deeper ∙ ap (greatest_to passes) (lesser_high most m (omega arith) ∙ sym (lesser_high (suc most) m (omega arith))))
+    by_place (inr within) deeper = ap (greatest_to passes) (sym (lesser_low (suc most) m within))
+
+-- the number that a mark names
+abbrev marked : OrderFact → ℕ
+marked (fact.Mark f) = f.body.s
+marked _ = 0
+
+no_mark : (s master : ℕ) (f : OrderFact) → marked f < s → mark_by s master f ≡ None
+no_mark s master (fact.Mark f) low = ap (λ t. cond t (Some f) None) (second_false (nat_eq f.signer master) (nat_eq f.body.s s) (ne_eqb f.body.s s (λ is. absurd (omega arith))))
+no_mark s master _ low = refl
+
+no_marks : (s master : ℕ) (facts : List OrderFact) → greatest_of (map marked facts) < s → filter_map (mark_by s master) facts ≡ []
+no_marks s master [] low = refl
+no_marks s master (f ∷ facts) low =
+    let first : mark_by s master f ≡ None = no_mark s master f (omega arith) in
+    let rest : filter_map (mark_by s master) facts ≡ [] = no_marks s master facts (omega arith) in
+    λ i. cons_option (first i) (rest i)
+
+no_first_marks : (s : ℕ) (facts : List OrderFact) (masters : List ℕ) → greatest_of (map marked facts) < s
+    → filter_map (λ master. first_of_list (filter_map (mark_by s master) facts)) masters ≡ []
+no_first_marks s facts [] low = refl
+no_first_marks s facts (m ∷ masters) low =
+    let first : first_of_list (filter_map (mark_by s m) facts) ≡ None = ap first_of_list (no_marks s m facts low) in
+    let rest : filter_map (λ master. first_of_list (filter_map (mark_by s master) facts)) masters ≡ [] = no_first_marks s facts masters low in
+    λ i. cons_option (first i) (rest i)
+
+not_marked : (g : Group) (s : ℕ) (facts : List OrderFact) → 1 ≤ g.q → greatest_of (map marked facts) < s → is_voted g (mark_by s) facts ≡ false
+unfolding is_voted
+not_marked g s facts some low = ap (λ votes. nat_le g.q (length votes)) (no_first_marks s facts (numbers_below g.n) low) ∙ lt-leb g.q 0 (omega arith)
+
+-- The stable number, sought up to the greatest mark known; a quorum of none would make each number stable.
+abbrev short_stable : Group → List OrderFact → ℕ
+short_stable g facts = if nat_le 1 g.q then greatest_to (λ s. is_voted g (mark_by s) facts) (lesser most_number (greatest_of (map marked facts))) else stable g facts
+
+stable_same : (g : Group) (facts : List OrderFact) → stable g facts ≡ short_stable g facts
+unfolding stable
+stable_same g facts = by_quorum (nat_le 1 g.q) refl
+  where
+    by_quorum : (b : Bool) → nat_le 1 g.q ≡ b → stable g facts ≡ cond b (greatest_to (λ s. is_voted g (mark_by s) facts) (lesser most_number (greatest_of (map marked facts)))) (stable g facts)
+    by_quorum true some =
+        greatest_low (λ s. is_voted g (mark_by s) facts) most_number (greatest_of (map marked facts)) (λ s low. not_marked g s facts (leb-true 1 g.q some) low)
+    by_quorum false none = refl
+
+-- the answers with three rows and the stable number as given
+abbrev answers_with : Group → (List Update → ℕ → List Order) → ℕ → List Heard → Option (Signed Body) → Bool → List Body → List Body → List Body → ℕ → List Body
+answers_with g orders me before took at_tick ack_row give_row order_row base =
     let known = known_at before took in
     let facts = facts_of g known in
     let said = said_before before in
@@ -157,15 +222,15 @@ answers_with g orders me before took at_tick ack_row give_row order_row =
     ++ ack_row
     ++ summaries_due g known said at_tick
     ++ preprepares_due g me known facts said at_tick
-    ++ prepares_due g facts said v (is_open g known)
-    ++ commits_due g facts said v
+    ++ (if is_open g known then flat_map (prepare_due facts said v) (numbers_from 1 (base + window)) else [])
+    ++ flat_map (commit_due g facts said v) (numbers_from 1 (base + window))
     ++ pings_due (ticks_of told) at_tick
     ++ pongs_due g me known said
     ++ round_trips_due g me known said (ticks_of told)
     ++ tat_reports_due said v (waited v told) at_tick
     ++ tat_bounds_due g me known said v at_tick
     ++ suspects_due g known said v at_tick
-    ++ report_due g known said (stable g facts) (marks_for g facts (stable g facts)) (certificates_below g facts v)
+    ++ report_due g known said base (marks_for g facts base) (certificates_below g facts v)
     ++ new_view_due g me known said
     ++ ask_update_due said at_tick (waiting_for g known)
     ++ give_row
@@ -177,8 +242,10 @@ answers_with g orders me before took at_tick ack_row give_row order_row =
 unfoldable pub short_answers : Group → (List Update → ℕ → List Order) → ℕ → List Heard → Option (Signed Body) → Bool → List Body
 short_answers g orders me before took at_tick =
     let known = known_at before took in
+    let facts = facts_of g known in
     let said = said_before before in
-    answers_with g orders me before took at_tick (short_acks g known said) (short_gives g me known said) (short_gives_ordered g me known (facts_of g known) said)
+    let base = short_stable g facts in
+    answers_with g orders me before took at_tick (short_acks g known said) (short_gives g me known said) (short_gives_ordered g me known facts said) base
 
 -- The answers are what the shorter way gives.
 pub answers_short : (g : Group) (orders : List Update → ℕ → List Order) (me : ℕ) (before : List Heard) (took : Option (Signed Body)) (at_tick : Bool)
@@ -186,8 +253,9 @@ pub answers_short : (g : Group) (orders : List Update → ℕ → List Order) (m
 unfolding answers short_answers
 answers_short g orders me before took at_tick =
     let known = known_at before took in
+    let facts = facts_of g known in
     let said = said_before before in
-    λ i. answers_with g orders me before took at_tick (acks_same g known said i) (gives_same g me known said i) (gives_ordered_same g me known (facts_of g known) said i)
+    λ i. answers_with g orders me before took at_tick (acks_same g known said i) (gives_same g me known said i) (gives_ordered_same g me known facts said i) (stable_same g facts i)
 
 -- what an actor says at an event, by the shorter way
 unfoldable pub short_says : Setup → List Entry → ℕ → Event → List Body
