@@ -29,7 +29,11 @@ pub fn describe(line: &mut String, scenario: &Scenario) -> Result<()> {
 
 fn describe_group(line: &mut String, scenario: &Scenario) -> Result<()> {
     let sizes = scenario.sizes;
-    write!(line, "n {} f {} k {} q {} seed ", sizes.n, sizes.f, sizes.k, sizes.q)?;
+    write!(
+        line,
+        "n {} f {} k {} q {} seed ",
+        sizes.n, sizes.f, sizes.k, sizes.q
+    )?;
     for byte in &scenario.seed {
         write!(line, "{byte:02x}")?;
     }
@@ -37,7 +41,11 @@ fn describe_group(line: &mut String, scenario: &Scenario) -> Result<()> {
     for height in scenario.heights.as_slice() {
         write!(line, " {height}")?;
     }
-    write!(line, " frames {} screens {} intruded", scenario.frames, scenario.screens)?;
+    write!(
+        line,
+        " frames {} screens {} intruded",
+        scenario.frames, scenario.screens
+    )?;
     describe_set(line, &scenario.intruded)
 }
 
@@ -66,7 +74,13 @@ fn area_name(area: Area) -> &'static str {
 }
 
 fn describe_point(line: &mut String, point: &Point) -> Result<()> {
-    write!(line, "; point {} {} {} ", point.name.as_str(), point.proxy, area_name(point.area))?;
+    write!(
+        line,
+        "; point {} {} {} ",
+        point.name.as_str(),
+        point.proxy,
+        area_name(point.area)
+    )?;
     write!(line, "{} {} {} ", point.place, point.scale, point.offset)?;
     write!(line, "{} {} {}", point.low, point.high, point.start)?;
     Ok(())
@@ -77,13 +91,23 @@ fn describe_alarm(line: &mut String, alarm: &AlarmRule) -> Result<()> {
         AlarmKind::High => "high",
         AlarmKind::Low => "low",
     };
-    write!(line, "; alarm {} {} {kind} ", alarm.name.as_str(), alarm.point)?;
+    write!(
+        line,
+        "; alarm {} {} {kind} ",
+        alarm.name.as_str(),
+        alarm.point
+    )?;
     write!(line, "{} {}", alarm.limit, alarm.band)?;
     Ok(())
 }
 
 fn describe_interlock(line: &mut String, interlock: &Interlock) -> Result<()> {
-    write!(line, "; interlock {} {}", interlock.name.as_str(), interlock.point)?;
+    write!(
+        line,
+        "; interlock {} {}",
+        interlock.name.as_str(),
+        interlock.point
+    )?;
     match interlock.value {
         Some(value) => write!(line, " {value}")?,
         None => line.push_str(" any")?,
