@@ -46,9 +46,6 @@ choices-alike known prepares first commits order a b like agrees = record {
   };
 }
 
-pub places-of : (known : List (List (List ℕ))) (prepares : ℕ × ℕ → List ℕ → Bool) (first : ℕ × ℕ → Option (List ℕ)) (commits : ℕ → List ℕ → Bool) (order : ℕ → Option (List ℕ)) (a : Choices) → Agrees known prepares first commits order a → HasPlaces a
-places-of known prepares first commits order a agrees = record { prepared = agrees.prepared.places; ordered = agrees.ordered.places }
-
 pub record IsLike (a b : Inside) : Type 0 where
   pub sizes : (b.sizes.n ≡ a.sizes.n) × (b.sizes.q ≡ a.sizes.q)
   pub facts : b.facts.items ≡ a.facts.items

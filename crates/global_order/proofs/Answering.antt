@@ -51,8 +51,11 @@ offered-by : (facts : List OrderFact) (v s : ℕ) (o : Option Plan) → o ≡ pl
 unfolding offered offered_by offered_after
 offered-by facts v s o e = ap (offered_by facts v s) e ∙ by (plan_known facts v)
   where
-    by : (o : Option Plan) → offered_by facts v s o ≡ (elim o [ None ↦ None | Some plan ↦
-        cond (nat_le s plan.base) None (cond (nat_le s (plan.base + length plan.rows)) (slice_get plan.rows (s - plan.base - 1)) (first_of_list (filter_map (proposal_in v s) facts))) ])
+    by : (o : Option Plan) → offered_by facts v s o ≡ (elim o [
+      | None ↦ None
+      | Some plan ↦
+          cond (nat_le s plan.base) None (cond (nat_le s (plan.base + length plan.rows)) (slice_get plan.rows (s - plan.base - 1)) (first_of_list (filter_map (proposal_in v s) facts)))
+    ])
     by None = refl
     by (Some plan) = refl
 

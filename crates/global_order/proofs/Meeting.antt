@@ -52,30 +52,6 @@ chosen-push backs facts x =
 pub chosen-none : (backs : List OrderFact → List ℕ → Bool) (facts : List OrderFact) → chosen backs facts ≡ None → first_backed (backs facts) (rows_known facts) ≡ None
 chosen-none backs facts none = first_met-none (λ beginning. first_backed (backs beginning) (rows_known beginning)) [] facts none
 
--- a digest that is backed and known was found
-backed-known : (backs : List ℕ → Bool) (rows : List (List (List ℕ))) (d : List ℕ) → first_backed backs rows ≡ None → (backs d && is_known rows d) ≡ false
-backed-known backs rows d none = by (backs d) (is_known rows d) refl refl
-  where
-    among : (rows : List (List (List ℕ))) → backs d ≡ true → is_known rows d ≡ true → is_some (first_backed backs rows) ≡ true
-    among [] back there = there
-    among (r ∷ rest) back there = step (has_digest d r) refl there (among rest back)
-      where
-        here : (b : Bool) → is_some (first_backed backs rest) ≡ true → is_some (cond b (Some r) (first_backed backs rest)) ≡ true
-        here true more = refl
-        here false more = more
-
-        step : (b : Bool) → has_digest d r ≡ b → (b || is_known rest d) ≡ true → (is_known rest d ≡ true → is_some (first_backed backs rest) ≡ true) → is_some (first_backed backs (r ∷ rest)) ≡ true
-        step true is known more = ap (λ b. is_some (cond b (Some r) (first_backed backs rest))) (ap backs (bytes-same (digest_of_rows r) d is) ∙ back)
-        step false is known more = here (backs (digest_of_rows r)) (more known)
-
-    by : (a b : Bool) → backs d ≡ a → is_known rows d ≡ b → (a && b) ≡ false
-    by true true back there = absurd (true≢false (sym (among rows back there) ∙ ap is_some none))
-    by true false back there = refl
-    by false b back there = refl
-
-pub chosen-closed : (backs : List OrderFact → List ℕ → Bool) (facts : List OrderFact) (d : List ℕ) → option_map digest_of_rows (chosen backs facts) ≡ None → (backs facts d && is_known (rows_known facts) d) ≡ false
-chosen-closed backs facts d none = backed-known (backs facts) (rows_known facts) d (chosen-none backs facts (option_map-none digest_of_rows (chosen backs facts) none))
-
 -- rows alone make rows chosen whose digest was backed
 pub chosen-rows : (backs : List OrderFact → List ℕ → Bool) (facts : List OrderFact) (x : OrderFact) → ((d : List ℕ) → backs (facts ++ x ∷ []) d ≡ backs facts d) →
     option_map digest_of_rows (chosen backs (facts ++ x ∷ [])) ≡ or_else (option_map digest_of_rows (chosen backs facts)) (option_map digest_of_rows (first_backed (backs facts) (rows_in x)))

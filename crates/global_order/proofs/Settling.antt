@@ -16,7 +16,7 @@ use Rattle.global_order.specs.declared.quorum.Quorum.{Quorum}
 use Rattle.global_order.specs.declared.choices.Choices.{Choices}
 use Rattle.global_order.proofs.Booleans.{bytes-same, same_pair-same, nat_eq-same, none_there, or_else-none, or_else-assoc, option_map-cond, option_map-or_else, list_any-push, find-append, find-some, stays, taken}
 use Rattle.global_order.proofs.Least.{below-irreflexive, least-more, least-alike}
-use Rattle.global_order.proofs.Steps.{chosen-again, chosen-rows-new, chosen-backed, chosen-waits, chosen-alike}
+use Rattle.global_order.proofs.Steps.{chosen-again, chosen-rows-new, chosen-backed, chosen-waits}
 use Rattle.protocol_rules.specs.Plans.{digest_below}
 
 -- one digest more, given twice
@@ -356,11 +356,6 @@ pub agrees-one_more : (known rows : List (List (List ℕ))) (r : List (List ℕ)
     Agrees (known ++ (rows ++ r ∷ [])) prepares (with_all prepares first (rows ++ r ∷ [])) commits (with_all commits order (rows ++ r ∷ [])) c
 agrees-one_more known rows r prepares first commits order c agrees =
     agrees-alike _ _ _ _ _ _ _ _ _ _ c (append_assoc known rows (r ∷ [])) (λ k d. refl) (more-of prepares first rows r) (λ s d. refl) (more-of commits order rows r) agrees
-
-pub agrees-no_more : (known : List (List (List ℕ))) (prepares : ℕ × ℕ → List ℕ → Bool) (first : ℕ × ℕ → Option (List ℕ)) (commits : ℕ → List ℕ → Bool) (order : ℕ → Option (List ℕ)) (c : Choices) →
-    Agrees known prepares first commits order c → Agrees (known ++ []) prepares (with_all prepares first []) commits (with_all commits order []) c
-agrees-no_more known prepares first commits order c agrees =
-    agrees-alike _ _ _ _ _ _ _ _ _ _ c (sym (append-nil known)) (λ k d. refl) (λ k. sym (or_else-none (first k))) (λ s d. refl) (λ s. sym (or_else-none (order s))) agrees
 
 pub none_left : {X : Type 0} (xs : List X) → length xs ≡ 0 → xs ≡ []
 none_left [] e = refl

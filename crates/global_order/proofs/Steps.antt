@@ -8,17 +8,9 @@ use Rattle.protocol_rules.specs.Words.{or_else}
 use Rattle.global_order.specs.Choosing.{has_digest, is_known, IsChosen}
 use Rattle.global_order.proofs.Booleans.{list_any-push, bytes-same, or_else-none}
 
-none-or : (a : Bool) → (a || false) ≡ false → a ≡ false
-none-or false e = refl
-none-or true e = e
-
 left-false : (a b : Bool) → (a || b) ≡ false → a ≡ false
 left-false false b e = refl
 left-false true b e = e
-
-right-false : (a b : Bool) → (a || b) ≡ false → b ≡ false
-right-false false b e = e
-right-false true b e = absurd (true≢false e)
 
 -- rows that were known, whose digest is d, change nothing
 pub chosen-again : {K : Type 0} (rows : List (List (List ℕ))) (r : List (List ℕ)) (backs : K → List ℕ → Bool) (first held : K → Option (List ℕ)) (waits : K → List ℕ → Bool) (has_place : K → Bool) →
@@ -48,10 +40,6 @@ chosen-again {K} rows r backs first held waits has_place known is = record {
       where
         there : is_known rows d ≡ true
         there = ap (is_known rows) (sym (bytes-same (digest_of_rows r) d e)) ∙ known
-
-both-of : (a b : Bool) → a ≡ b → (a && true) ≡ b
-both-of true b e = e
-both-of false b e = e
 
 -- rows of a digest that was unknown are chosen where their digest waited
 pub chosen-rows-new : {K : Type 0} (rows : List (List (List ℕ))) (r : List (List ℕ)) (backs : K → List ℕ → Bool) (first held : K → Option (List ℕ)) (waits : K → List ℕ → Bool) (has_place : K → Bool)
@@ -148,14 +136,3 @@ chosen-waits {K} same rows key d backs backs_after first first_after held waits 
     by e false false like is closed = refl
     by e false true false is closed = refl
     by e false true true is closed = ap (is_known rows) (sym (bytes-same d e is)) ∙ unknown
-
--- nothing changes where the tests are the same
-pub chosen-alike : {K : Type 0} (rows : List (List (List ℕ))) (backs backs_after : K → List ℕ → Bool) (first first_after held : K → Option (List ℕ)) (waits : K → List ℕ → Bool) (has_place : K → Bool) →
-    ((k : K) (e : List ℕ) → backs_after k e ≡ backs k e) → ((k : K) → first_after k ≡ first k) →
-    IsChosen rows backs first held waits has_place → IsChosen rows backs_after first_after held waits has_place
-chosen-alike rows backs backs_after first first_after held waits has_place same firsts is = record {
-  choice = λ k. is.choice k ∙ sym (firsts k);
-  waiting = λ k e none. is.waiting k e none ∙ sym (same k e);
-  places = is.places;
-  closed = λ k e none. ap (λ b. b && is_known rows e) (same k e) ∙ is.closed k e (sym (firsts k) ∙ none);
-}

@@ -71,12 +71,7 @@ pub fn marks_of(
     Ok(frames)
 }
 
-fn push_mark(
-    frames: &mut Vec<Signed<Mark>>,
-    marks: &Marks,
-    s: u64,
-    signer: u32,
-) -> Result<(), Want>
+fn push_mark(frames: &mut Vec<Signed<Mark>>, marks: &Marks, s: u64, signer: u32) -> Result<(), Want>
     ensures { OnOk result (frames.new.items ≡ frames.old.items ++ option_to_list (option_map (mark_of s signer) (mark_at marks.now s signer))) }
 {
     if let Some(sig) = marks.get(&(s, signer)) {

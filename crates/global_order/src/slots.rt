@@ -59,13 +59,7 @@ fn with_digest(slot: Slot, digest: [u8; 32]) -> Slot
     };
     let least = match slot.least {
         None => digest,
-        Some(least) => {
-            if digest < least {
-                digest
-            } else {
-                least
-            }
-        }
+        Some(least) => { if digest < least { digest } else { least } }
     };
     Slot {
         first: Some(first),

@@ -53,6 +53,41 @@ fn mark(alloc: Global, order: &mut Order, signer: u32, s: u64) -> Result<(), Wan
     order.take_mark(&Signed { signer, body, sig })
 }
 
+// These masters prepare number 1 in view 0.
+fn prepare_all(
+    alloc: Global,
+    order: &mut Order,
+    masters: &[u32],
+    digest: [u8; 32],
+) -> Result<(), Want> {
+    for master in masters {
+        prepare(alloc, order, *master, 0, 1, digest)?;
+    }
+    Ok(())
+}
+
+// These masters commit a number in view 0.
+fn commit_all(
+    alloc: Global,
+    order: &mut Order,
+    masters: &[u32],
+    s: u64,
+    digest: [u8; 32],
+) -> Result<(), Want> {
+    for master in masters {
+        commit(alloc, order, *master, 0, s, digest)?;
+    }
+    Ok(())
+}
+
+// These masters mark 8.
+fn mark_all(alloc: Global, order: &mut Order, masters: &[u32]) -> Result<(), Want> {
+    for master in masters {
+        mark(alloc, order, *master, 8)?;
+    }
+    Ok(())
+}
+
 fn is_prepare(body: Option<&Body>, v: u64, s: u64) -> bool {
     match body {
         Some(Body::Prepare(word)) => word.v == v && word.s == s,
@@ -74,55 +109,77 @@ fn is_mark(body: Option<&Body>, s: u64) -> bool {
     }
 }
 
-/// Three masters of four prepare number 1 and commit it. A second vote of one master counts for nothing.
+/// Rows that a preprepare offers are prepared once, and committed once a quorum prepared them, be the view open or
+/// not. A second vote of one master counts for nothing.
 #[test]
-fn a_quorum_prepares_and_orders(rt: HostRuntime) -> Result<(), Fail> {
+fn a_quorum_of_prepares_makes_a_commit_due(rt: HostRuntime) -> Result<(), Fail> {
     let alloc = rt.alloc();
     let mut order = Order::new(alloc, Sizes::new(1, 0)?);
     let rows = rows_of(alloc, 7)?;
-    let digest = rows_digest(&rows);
     order.take_preprepare(0, 1, &rows)?;
     let said = order.due(0, true)?;
     assert_eq!(rt; said.len(), 1);
     assert!(rt; is_prepare(said.get(0), 0, 1));
-    prepare(alloc, &mut order, 0, 0, 1, digest)?;
-    prepare(alloc, &mut order, 1, 0, 1, digest)?;
-    prepare(alloc, &mut order, 1, 0, 1, digest)?;
-    assert_eq!(rt; order.due(0, true)?.len(), 0);
-    prepare(alloc, &mut order, 3, 0, 1, digest)?;
-    let said = order.due(0, false)?;
-    assert_eq!(rt; said.len(), 1);
-    assert!(rt; is_commit(said.get(0), 0, 1));
-    commit(alloc, &mut order, 0, 0, 1, digest)?;
-    commit(alloc, &mut order, 1, 0, 1, digest)?;
-    assert!(rt; order.ordered(1).is_none());
-    commit(alloc, &mut order, 2, 0, 1, digest)?;
-    assert!(rt; order.ordered(1).is_some());
-    assert_eq!(rt; order.gapless(), 1);
-    assert_eq!(rt; order.certificates(0)?.len(), 0);
-    let certificates = order.certificates(1)?;
-    assert_eq!(rt; certificates.len(), 1);
-    assert_eq!(rt; certificates.get(0).map(|c| c.prepares.len()), Some(3));
+    prepare_all(alloc, &mut order, &[0, 1, 1], rows_digest(&rows))?;
+    let nothing = order.due(0, true)?;
+    assert_eq!(rt; nothing.len(), 0);
+    prepare_all(alloc, &mut order, &[3], rows_digest(&rows))?;
+    let committed = order.due(0, false)?;
+    assert_eq!(rt; committed.len(), 1);
+    assert!(rt; is_commit(committed.get(0), 0, 1));
     Ok(())
 }
 
-/// The plan of view 2 begins after 8 with two numbers. Preprepares of 8 and 9 change nothing; one of 11 counts, and
-/// rows that come after their commits order them.
+/// A report of view 1 brings the certificate that view 0 has, with three prepares; one of view 0 brings none.
+#[test]
+fn a_report_brings_certificates_of_earlier_views(rt: HostRuntime) -> Result<(), Fail> {
+    let alloc = rt.alloc();
+    let mut order = Order::new(alloc, Sizes::new(1, 0)?);
+    let rows = rows_of(alloc, 7)?;
+    order.take_rows(&rows)?;
+    prepare_all(alloc, &mut order, &[0, 1, 3], rows_digest(&rows))?;
+    let none = order.certificates(0)?;
+    assert_eq!(rt; none.len(), 0);
+    let one = order.certificates(1)?;
+    assert_eq!(rt; one.len(), 1);
+    assert_eq!(rt; one.get(0).map(|c| c.prepares.len()), Some(3));
+    Ok(())
+}
+
+/// Three commits of one view order a number once its rows are known, which may be later.
+#[test]
+fn a_quorum_of_commits_orders(rt: HostRuntime) -> Result<(), Fail> {
+    let alloc = rt.alloc();
+    let mut order = Order::new(alloc, Sizes::new(1, 0)?);
+    let rows = rows_of(alloc, 7)?;
+    commit_all(alloc, &mut order, &[0, 1, 1], 1, rows_digest(&rows))?;
+    order.take_rows(&rows)?;
+    assert!(rt; order.ordered(1).is_none());
+    commit_all(alloc, &mut order, &[2], 1, rows_digest(&rows))?;
+    assert!(rt; order.ordered(1).is_some());
+    assert_eq!(rt; order.gapless(), 1);
+    Ok(())
+}
+
+// The plan that begins after 8 with two numbers.
+fn plan_after_eight(alloc: Global) -> Result<Plan, Want>
+    ensures { IfOk result (λ plan. IsTrue (list_all rows_fit plan.rows)) }
+{
+    let mut rows = Items::new(alloc);
+    rows.push(rows_of(alloc, 9)?)?;
+    rows.push(rows_of(alloc, 10)?)?;
+    Ok(Plan { base: 8, rows })
+}
+
+/// A view offers the rows of its plan and preprepares after them, and nothing at or below the plan's base.
 #[test]
 fn a_view_offers_above_the_base_of_its_plan(rt: HostRuntime) -> Result<(), Fail> {
     let alloc = rt.alloc();
     let mut order = Order::new(alloc, Sizes::new(1, 0)?);
     let rows = rows_of(alloc, 7)?;
-    let late = rows_of(alloc, 8)?;
-    let digest = rows_digest(&late);
     order.take_preprepare(2, 8, &rows)?;
-    order.take_preprepare(2, 9, &rows)?;
     order.take_preprepare(2, 11, &rows)?;
-    assert_eq!(rt; order.due(2, true)?.len(), 0);
-    let mut planned = Items::new(alloc);
-    planned.push(Items::new(alloc))?;
-    planned.push(rows_of(alloc, 9)?)?;
-    let plan = Plan { base: 8, rows: planned };
+    let plan = plan_after_eight(alloc)?;
     order.offer_plan(2, &plan)?;
     assert_eq!(rt; order.plan(2).map(|p| p.base), Some(8));
     assert!(rt; order.offered(2, 8).is_none());
@@ -130,25 +187,17 @@ fn a_view_offers_above_the_base_of_its_plan(rt: HostRuntime) -> Result<(), Fail>
     assert_eq!(rt; said.len(), 3);
     assert!(rt; is_prepare(said.get(0), 2, 9));
     assert!(rt; is_prepare(said.get(2), 2, 11));
-    commit(alloc, &mut order, 0, 2, 9, digest)?;
-    commit(alloc, &mut order, 1, 2, 9, digest)?;
-    commit(alloc, &mut order, 2, 2, 9, digest)?;
-    assert!(rt; order.ordered(9).is_none());
-    order.take_rows(&late)?;
-    assert!(rt; order.ordered(9).is_some());
     Ok(())
 }
 
 fn order_eight(alloc: Global, order: &mut Order, digest: [u8; 32]) -> Result<(), Want> {
     for s in 1..9u64 {
-        commit(alloc, order, 0, 0, s, digest)?;
-        commit(alloc, order, 1, 0, s, digest)?;
-        commit(alloc, order, 3, 0, s, digest)?;
+        commit_all(alloc, order, &[0, 1, 3], s, digest)?;
     }
     Ok(())
 }
 
-/// Eight numbers ordered without a gap make a mark due, and three marks of 8 make it stable.
+/// Eight numbers ordered without a gap make a mark due, once.
 #[test]
 fn eight_numbers_are_marked(rt: HostRuntime) -> Result<(), Fail> {
     let alloc = rt.alloc();
@@ -160,10 +209,17 @@ fn eight_numbers_are_marked(rt: HostRuntime) -> Result<(), Fail> {
     let said = order.due(0, true)?;
     assert_eq!(rt; said.len(), 1);
     assert!(rt; is_mark(said.get(0), 8));
-    mark(alloc, &mut order, 3, 8)?;
-    mark(alloc, &mut order, 0, 8)?;
+    Ok(())
+}
+
+/// Three marks of 8 make it stable, and are shown by rising master.
+#[test]
+fn a_quorum_of_marks_is_stable(rt: HostRuntime) -> Result<(), Fail> {
+    let alloc = rt.alloc();
+    let mut order = Order::new(alloc, Sizes::new(1, 0)?);
+    mark_all(alloc, &mut order, &[3, 0])?;
     assert_eq!(rt; order.stable(), 0);
-    mark(alloc, &mut order, 2, 8)?;
+    mark_all(alloc, &mut order, &[2])?;
     assert_eq!(rt; order.stable(), 8);
     let marks = order.marks()?;
     assert_eq!(rt; marks.len(), 3);

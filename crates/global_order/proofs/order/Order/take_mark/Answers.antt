@@ -11,7 +11,7 @@ use Rattle.global_order.specs.Index.{HasPrepares, HasCommits, HasMarks, HasChoic
 use Rattle.global_order.specs.Offered.{HasOffers, OffersFit}
 use Rattle.global_order.specs.Taken.{HasSizes}
 use Rattle.global_order.specs.declared.choices.Choices.{Choices}
-use Rattle.global_order.proofs.Alike.{AreAlike, held-alike, choices-alike, places-of, keeps-itself, keeps-orders}
+use Rattle.global_order.proofs.Alike.{AreAlike, held-alike, choices-alike, keeps-itself, keeps-orders}
 use Rattle.global_order.proofs.Runs.{reaches-same, reaches-still}
 use Rattle.global_order.proofs.Taking.{choices-prepare, choices-commit, choices-none, choices-row, choices-rows, offers-other, offers-proposal, offers-plan, fit-proposal, fit-plan, taken-first, stable-no_mark, stable-mark, raised-limit}
 use Rattle.global_order.proofs.Voting.{prepares-push, prepares-other, commits-push, commits-other, marks-push, marks-other}
@@ -19,41 +19,41 @@ use Rattle.global_order.proofs.order.Order.take_mark.Goals as goal
 
 pub invariant_of-self : goal.invariant_of-self
 invariant_of-self c = held-alike c.self.inside _ record {
-      sizes = (refl, refl);
-      facts = c.reserve.ensures.items;
-      said = refl;
-      prepares = refl;
-      commits = refl;
-      marks = refl;
-      choices = record { rows = refl; prepared = keeps-itself c.self.inside.choices; backed = refl; ordered = keeps-orders c.self.inside.choices; committed = refl };
-      first_plan = refl;
-      plans = refl;
-      proposals = refl;
-      prepares_said = refl;
-      commits_said = refl;
-      marked = refl;
-      stable = refl;
-      gapless = refl;
-    } c.self.invariant
+  sizes = (refl, refl);
+  facts = c.reserve.ensures.items;
+  said = refl;
+  prepares = refl;
+  commits = refl;
+  marks = refl;
+  choices = record { rows = refl; prepared = keeps-itself c.self.inside.choices; backed = refl; ordered = keeps-orders c.self.inside.choices; committed = refl };
+  first_plan = refl;
+  plans = refl;
+  proposals = refl;
+  prepares_said = refl;
+  commits_said = refl;
+  marked = refl;
+  stable = refl;
+  gapless = refl;
+} c.self.invariant
 
 pub invariant_of-self-in_err-note_mark : goal.invariant_of-self-in_err-note_mark
 invariant_of-self-in_err-note_mark c = held-alike c.self.inside _ record {
-      sizes = (refl, refl);
-      facts = c.reserve.ensures.items;
-      said = refl;
-      prepares = refl;
-      commits = refl;
-      marks = c.in_err-note_mark.ensures.refused;
-      choices = record { rows = refl; prepared = keeps-itself c.self.inside.choices; backed = refl; ordered = keeps-orders c.self.inside.choices; committed = refl };
-      first_plan = refl;
-      plans = refl;
-      proposals = refl;
-      prepares_said = refl;
-      commits_said = refl;
-      marked = refl;
-      stable = refl;
-      gapless = refl;
-    } c.self.invariant
+  sizes = (refl, refl);
+  facts = c.reserve.ensures.items;
+  said = refl;
+  prepares = refl;
+  commits = refl;
+  marks = c.in_err-note_mark.ensures.refused;
+  choices = record { rows = refl; prepared = keeps-itself c.self.inside.choices; backed = refl; ordered = keeps-orders c.self.inside.choices; committed = refl };
+  first_plan = refl;
+  plans = refl;
+  proposals = refl;
+  prepares_said = refl;
+  commits_said = refl;
+  marked = refl;
+  stable = refl;
+  gapless = refl;
+} c.self.invariant
 
 pub invariant_of-self-2 : goal.invariant_of-self-2
 invariant_of-self-2 c =
