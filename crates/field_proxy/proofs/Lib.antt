@@ -4,3 +4,5 @@ pub mod ReadingLaws
 pub mod OrderLaws
 pub mod VoteLaws
 pub mod FrontLaws
+pub mod HistoryLaws
+pub mod SaidLaws

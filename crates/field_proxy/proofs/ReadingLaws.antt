@@ -109,3 +109,8 @@ reading_more d now client n points lasts p e ops more here less same stays so_fa
     ∙ ap (λ d'. readings_below d client points (last_in lasts) n ++ reading_of client n p (given d' p) (get_or lasts n e)) stays
     ∙ ap (λ last. readings_below d client points (last_in lasts) n ++ reading_of client n p (given d p) last) (sym (last_at lasts n e (omega arith)))
     ∙ readings_more d client points (last_in lasts) n p (slice_get_read points (length points) n p refl less here)
+
+pub length-numbered : (client t : ℕ) (ops : List Op) → length (numbered client t ops) ≡ length ops
+unfolding numbered
+length-numbered client t [] = refl
+length-numbered client t (o ∷ ops) = ap suc (length-numbered client (suc t) ops)

@@ -3,3 +3,4 @@ pub mod Readings
 pub mod Undoing
 pub mod Writes
 pub mod Front
+pub mod Happenings

@@ -3,6 +3,7 @@
 #![tactic(auto)]
 
 mod exchange;
+pub mod laws;
 mod line;
 mod orders;
 pub mod proxy;

@@ -69,7 +69,8 @@ impl Proxy {
     pub fn make(alloc: Global, client: u32, sizes: Sizes, plant: &Plant) -> Result<Proxy, Want>
         requires few { length plant.now.points ≤ 1024 }
         requires there { client < length plant.now.devices }
-        ensures { IfOk result (λ proxy. IsSomeAnd (slice_get plant.now.devices client) (λ device.
+        ensures n { IfOk result (λ proxy. proxy.n ≡ sizes.n) }
+        ensures made { IfOk result (λ proxy. IsSomeAnd (slice_get plant.now.devices client) (λ device.
             proxy ≡ fresh client sizes.n sizes.f plant.now.points device)) }
     {
         let sizes_of_device = device_of(plant, client);
@@ -104,6 +105,8 @@ impl Proxy {
         requires { self.old.updates < 2 ^ 62 }
         ensures says { IfOk result (λ updates. updates.items ≡ poll_says self.old room) }
         ensures after { OnOk result (self.new ≡ after_poll self.old room) }
+        ensures room { IfOk result (λ updates. length updates.items ≤ room) }
+        ensures counted { IfOk result (λ updates. self.new.updates ≡ self.old.updates + length updates.items) }
         ensures err { OnErr result (self.new ≡ self.old) }
     {
         let mut line = self.line;
@@ -121,6 +124,13 @@ impl Proxy {
         self.updates += ops.len() as u64;
         self.line = line;
         Ok(updates)
+    }
+
+    /// How many updates polls gave so far.
+    pub fn updates(&self) -> u64
+        ensures { result ≡ self.now.updates }
+    {
+        self.updates
     }
 
     /// Takes a master's voucher. Where it makes orders done, the device is written. One for another client, or with an order

