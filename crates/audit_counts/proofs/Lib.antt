@@ -3,3 +3,4 @@ pub mod Forged
 pub mod Alike
 pub mod Merged
 pub mod Sound
+pub mod Unmerged

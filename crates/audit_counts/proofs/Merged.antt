@@ -17,7 +17,7 @@ use Rattle.agreement.proofs.Places.{by_growth, legal_before, stands_last}
 use Rattle.audit_counts.proofs.Forged.{filter_none}
 
 -- over the numbers below n, one step at a time
-below_step : {X : Type 0} (f : ℕ → List X) (n : ℕ) → flat_map f (numbers_below (suc n)) ≡ flat_map f (numbers_below n) ++ f n
+pub below_step : {X : Type 0} (f : ℕ → List X) (n : ℕ) → flat_map f (numbers_below (suc n)) ≡ flat_map f (numbers_below n) ++ f n
 unfolding numbers_below
 below_step f n = flat_map-append f (numbers_below n) (n ∷ []) ∙ ap (λ (ys : List _). flat_map f (numbers_below n) ++ ys) (append-nil (f n))
 
@@ -29,7 +29,7 @@ same_below {X} f g (suc n) same =
     let last : f n ≡ g n = same n (omega arith) in
     below_step f n ∙ (λ i. rest i ++ last i) ∙ sym (below_step g n)
 
-none_below : {X : Type 0} (f : ℕ → List X) (n : ℕ) → ((a : ℕ) → a < n → f a ≡ []) → flat_map f (numbers_below n) ≡ []
+pub none_below : {X : Type 0} (f : ℕ → List X) (n : ℕ) → ((a : ℕ) → a < n → f a ≡ []) → flat_map f (numbers_below n) ≡ []
 unfolding numbers_below
 none_below f zero none = refl
 none_below f (suc n) none =
@@ -86,7 +86,7 @@ own_other before e a other =
     filter-append (λ x. nat_eq x.actor a) before (e ∷ []) ∙ (ap (λ b. filter (λ x. nat_eq x.actor a) before ++ cond b (e ∷ []) []) (ne_eqb e.actor a other)
     ∙ append-nil (filter (λ x. nat_eq x.actor a) before))
 
-own_within : (history : List Entry) (a : ℕ) (e : Entry) → IsIn e (own history a) → IsIn e history
+pub own_within : (history : List Entry) (a : ℕ) (e : Entry) → IsIn e (own history a) → IsIn e history
 unfolding own
 own_within history a e h = (in_filter_from (λ x. nat_eq x.actor a) history h).0
 

@@ -1,5 +1,6 @@
 -- The laws of an audit's counts, as statements over every setup and history.
-use Rattle.std.specs.Prelude.{◌≡◌, ◌↔◌, ◌+◌, true, List, map, ◌≤◌}
+use Rattle.std.specs.Prelude.{◌≡◌, ◌↔◌, ℕ, suc, ◌+◌, ◌<◌, ◌≤◌, true, List, [], ◌∷◌, Some, length, map, nat_lt, slice_get}
+use Rattle.std.specs.List.{list_all, flat_map}
 use Rattle.message_types.specs.declared.body.Body.{Body}
 use Rattle.quorum_sets.specs.Masters.{numbers_below}
 use Rattle.protocol_rules.specs.Group.{Group}
@@ -34,3 +35,20 @@ abbrev pub MergedWhole : Type 0
 MergedWhole =
     (w : Setup) (history : List Entry) → IsLegal w history
     → merged (map (own history) (numbers_below (w.group.n + w.group.clients))) ≡ history
+
+-- an actor's entries, of rising stamps below a total
+abbrev pub IsOwnList : ℕ → ℕ → List Entry → Type 0
+IsOwnList total actor [] = Unit {0}
+IsOwnList total actor (e ∷ rest) =
+    (e.actor ≡ actor) × (e.stamp < total) × (list_all (λ later. nat_lt e.stamp later.stamp) rest ≡ true) × IsOwnList total actor rest
+
+-- lists of entries, each of the actor whose number its place is, counted from `first`
+abbrev pub AreOwnLists : ℕ → ℕ → List (List Entry) → Type 0
+AreOwnLists total first [] = Unit {0}
+AreOwnLists total first (entries ∷ rest) = IsOwnList total first entries × AreOwnLists total (suc first) rest
+
+-- What is merged of actors' lists, of rising stamps below the number of all entries, has those lists as the actors' own.
+abbrev pub OwnOfMerged : Type 0
+OwnOfMerged =
+    (lists : List (List Entry)) → AreOwnLists (length (flat_map (λ entries. entries) lists)) 0 lists
+    → (actor : ℕ) (entries : List Entry) → slice_get lists actor ≡ Some entries → own (merged lists) actor ≡ entries

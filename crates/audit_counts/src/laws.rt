@@ -1,4 +1,4 @@
-ghost use Rattle.audit_counts.specs.Laws.{SameBodies, ForgedCounts, AlikeCounts, SoundByCounts, MergedWhole};
+ghost use Rattle.audit_counts.specs.Laws.{SameBodies, ForgedCounts, AlikeCounts, SoundByCounts, MergedWhole, OwnOfMerged};
 
 /// The test of bodies part by part decides whether they are equal.
 pub fn same_bodies()
@@ -23,4 +23,9 @@ pub fn sound_by_counts()
 /// The actors' own lists of a legal history make that history again.
 pub fn merged_whole()
     ensures { MergedWhole }
+{}
+
+/// Lists of actors that are merged stay the actors' own lists.
+pub fn own_of_merged()
+    ensures { OwnOfMerged }
 {}
