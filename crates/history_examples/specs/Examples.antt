@@ -1,4 +1,4 @@
--- What the examples show of the laws of agreement.
+-- What the examples show of the laws of agreement: that their premises can be met, and that they are needed.
 use Rattle.std.specs.Prelude.{◌≡◌, ℕ, ◌⊎◌, ◌+◌, true, List, [], ◌∷◌}
 use Rattle.message_types.specs.declared.updates.Update.{Update}
 use Rattle.protocol_rules.specs.Group.{leader_of}
