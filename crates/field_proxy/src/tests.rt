@@ -75,6 +75,13 @@ fn proxy(alloc: Global, client: u32) -> Result<Proxy, Fail>
     Ok(Proxy::make(alloc, client, sizes, &plant)?)
 }
 
+fn take(proxy: &mut Proxy, signer: u32, voucher: &Voucher) -> Result<(), Want>
+    requires { signer < proxy.old.n }
+    ensures { proxy.new.n ≡ proxy.old.n }
+{
+    proxy.take_voucher(signer, voucher)
+}
+
 fn polled(rt: &impl Abort, proxy: &mut Proxy, room: u64) -> Result<Vec<Update>, Want> {
     assert!(rt; proxy.updates() < 8);
     proxy.poll(room)
@@ -108,13 +115,13 @@ fn reading(t: u64, point: u32, value: i64) -> Update {
 #[test]
 fn writes_wait_for_two_masters_and_their_turn(rt: HostRuntime) -> Result<(), Fail> {
     let mut proxy = proxy(rt.alloc(), 0)?;
-    proxy.take_voucher(0, &write(0, 2, 1, 1))?;
-    proxy.take_voucher(1, &write(0, 2, 1, 1))?;
-    proxy.take_voucher(0, &write(0, 1, 1, 0))?;
-    proxy.take_voucher(0, &write(0, 1, 1, 0))?;
-    proxy.take_voucher(3, &write(0, 1, 2, 0))?;
+    take(&mut proxy, 0, &write(0, 2, 1, 1))?;
+    take(&mut proxy, 1, &write(0, 2, 1, 1))?;
+    take(&mut proxy, 0, &write(0, 1, 1, 0))?;
+    take(&mut proxy, 0, &write(0, 1, 1, 0))?;
+    take(&mut proxy, 3, &write(0, 1, 2, 0))?;
     assert!(rt; proxy.writes().is_empty());
-    proxy.take_voucher(2, &write(0, 1, 1, 0))?;
+    take(&mut proxy, 2, &write(0, 1, 1, 0))?;
     assert_eq!(rt;
         proxy.writes(),
         [kept(1, 1, 0, None), kept(2, 1, 1, None)].as_slice()
@@ -125,8 +132,8 @@ fn writes_wait_for_two_masters_and_their_turn(rt: HostRuntime) -> Result<(), Fai
 #[test]
 fn a_place_that_lacks_is_written_with_an_exception(rt: HostRuntime) -> Result<(), Fail> {
     let mut proxy = proxy(rt.alloc(), 1)?;
-    proxy.take_voucher(0, &write(1, 1, 2, 1))?;
-    proxy.take_voucher(2, &write(1, 1, 2, 1))?;
+    take(&mut proxy, 0, &write(1, 1, 2, 1))?;
+    take(&mut proxy, 2, &write(1, 1, 2, 1))?;
     assert_eq!(rt; proxy.writes(), [kept(1, 2, 1, Some(2))].as_slice());
     assert!(rt; polled(&rt, &mut proxy, 8)?.is_empty());
     Ok(())
