@@ -107,7 +107,11 @@ fn run<R: Env + AllocGlobal + Print>(rt: &R) -> Result<()> {
     let mut words = env::args(rt)?;
     let _program = words.next();
     let command = words.next().context("a command")?;
-    let count = words.next().context("a number")?.parse::<u64>().context("a number")?;
+    let count = words
+        .next()
+        .context("a number")?
+        .parse::<u64>()
+        .context("a number")?;
     let made = match command.as_str() {
         "read" => read_many(rt.alloc(), count)?,
         "write" => write_many(rt.alloc(), count)?,

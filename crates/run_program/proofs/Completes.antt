@@ -32,7 +32,7 @@ not_refused call lines name content number free loads refused =
 same_lines : (call : Call) (lines : List Line) (text : List ℕ) (free : IsUntroubled call lines) → Defines call text → text ≡ text_of_play lines
 same_lines call lines text free defines =
     let read : Some defines.lines ≡ Some lines =
-      ap lines_in (sym defines.accepted ∙ ap script_of (same_content call lines defines.name defines.content free defines.loads) ∙ free.accepted) in
+    ap lines_in (sym defines.accepted ∙ ap script_of (same_content call lines defines.name defines.content free defines.loads) ∙ free.accepted) in
     defines.is_text ∙ ap text_of_play (same_Some defines.lines lines read)
 
 status_of_want : (err : ErrorSink) (status : ℕ) → Told refusal.Memory err status → status ≡ 7
