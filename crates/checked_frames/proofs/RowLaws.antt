@@ -1,7 +1,9 @@
 -- Rows in their place are within the limits of rows that have a digest.
-use Rattle.std.proofs.Common.{◌≡◌, ◌≤◌, ℕ, true, false, ◌&&◌, List, [], ◌∷◌, length, nat_eq, nat_le, refl, sym, ◌∙◌, arith, eqb-true, le-leb}
+use Rattle.std.proofs.Common.{◌≡◌, ◌≤◌, ℕ, Bool, true, false, ◌&&◌, List, [], ◌∷◌, length, nat_eq, nat_le, refl, sym, ◌∙◌, arith, eqb-true, le-leb, if◌then◌else◌}
+use Rattle.std.specs.Prelude.{IsTrue}
 use Rattle.std.specs.List.{list_all}
 use Rattle.std.proofs.lemmas.Bool.{and_parts, and_from, ne_eqb, cond-false}
+use Rattle.quorum_sets.specs.declared.sizes.Sizes.{Sizes}
 use Rattle.message_types.specs.Spelling.{row_fits, rows_fit}
 use Rattle.protocol_rules.specs.Group.{Group, most_number}
 use Rattle.protocol_rules.specs.Places.{is_row, are_rows}

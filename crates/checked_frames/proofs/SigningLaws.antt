@@ -1,5 +1,5 @@
 -- What is made of a verified signature signs each text of its group.
-use Rattle.std.proofs.Common.{◌≡◌, ◌≤◌, ◌<◌, ◌+◌, ◌*◌, ◌/◌, ℕ, zero, suc, Bool, true, false, List, [], ◌∷◌, ◌++◌, length, take, drop, map, get_or, Some, None, refl, sym, ap, ◌∙◌, subst, arith, eq-eqb, lt-ltb, le-leb, length-append, inl, inr}
+use Rattle.std.proofs.Common.{◌≡◌, ◌≤◌, ◌<◌, ◌+◌, ◌*◌, ◌/◌, ◌^◌, ℕ, zero, suc, Bool, true, false, ◌&&◌, ◌||◌, List, [], ◌∷◌, ◌++◌, length, take, drop, map, get_or, Option, Some, None, refl, sym, ap, ◌∙◌, subst, arith, nat_eq, nat_lt, nat_le, eq-eqb, lt-ltb, le-leb, length-append, inl, inr}
 use Rattle.std.specs.Prelude.{slice_get}
 use Rattle.std.specs.List.{list_all}
 use Rattle.std.specs.Option.{option_map_or}
@@ -20,7 +20,7 @@ use Rattle.checked_frames.specs.Signing.{group_field, hashes_in, group_verifies,
 use Rattle.checked_frames.specs.Levels.{levels_up}
 use Rattle.checked_frames.specs.Kept.{field_through}
 use Rattle.checked_frames.proofs.PathLaws.{AreHashes, AreHashes-leaves, leads_to_root, path_size, path_through_levels}
-use Rattle.checked_frames.proofs.FieldReads.{group_field-read}
+use Rattle.checked_frames.proofs.FieldReads.{AreRead, group_field-read}
 use Rattle.checked_frames.proofs.VerifyingLaws.{verifies-Decides}
 
 -- the code's answer, from what it read

@@ -1,6 +1,7 @@
 -- The test `verifies` is true exactly where the relation `Verifies` holds.
-use Rattle.std.proofs.Common.{◌≡◌, ◌≤◌, ◌<◌, ◌+◌, ◌-◌, ◌*◌, ◌^◌, ℕ, zero, suc, Bool, true, ◌&&◌, List, ◌++◌, length, take, drop, sym, ap, ◌∙◌, subst, arith, nat_eq, nat_lt, nat_le, le-leb}
+use Rattle.std.proofs.Common.{◌≡◌, ◌≤◌, ◌<◌, ◌+◌, ◌-◌, ◌*◌, ◌/◌, ◌^◌, ℕ, zero, suc, Bool, true, false, ◌&&◌, List, ◌++◌, length, take, drop, refl, sym, ap, ◌∙◌, subst, arith, nat_eq, nat_lt, nat_le, le-leb}
 use Rattle.std.specs.Bool.{Decides}
+use Rattle.std.specs.Option.{option_map_or}
 use Rattle.std.specs.Str.{bytes_eq}
 use Rattle.std.proofs.lemmas.Bool.{leb-true}
 use Rattle.std.proofs.lemmas.Bool.Decides.{Decides-like, Decides-and, Decides-eqb, Decides-ltb, same_from_decides}
@@ -13,12 +14,12 @@ use Rattle.ots_keys.specs.Parameters.{type_code, signature_len}
 use Rattle.ots_keys.specs.Keys.{candidate}
 use Rattle.tree_keys.specs.declared.public_key.PublicKey.{PublicKey}
 use Rattle.tree_keys.specs.Nodes.{leaf_hash, climbed}
-use Rattle.tree_keys.specs.PublicKeys.{IsTreeHeight, IsKey, tree_signature_len, signature_bytes, IsSignedUnder}
+use Rattle.tree_keys.specs.PublicKeys.{IsTreeHeight, IsKey, tree_signature_len, signature_bytes, IsSignedUnder, TreeVerifies}
 use Rattle.tree_keys.proofs.Heights.{height_le, leaves_le}
 use Rattle.tree_keys.proofs.KeyLaws.{signed_cuts}
 use Rattle.hash_signatures.specs.Verification.{LeadsThrough, Verifies}
 use Rattle.hash_signatures.proofs.LeadLaws.{tree_key_len, LeadCuts, lead_cuts, lead_of_cuts, lead_key}
-use Rattle.checked_frames.specs.Verifying.{fields_lead, signed_under, leads_through, verifies}
+use Rattle.checked_frames.specs.Verifying.{key_in, fields_lead, signed_under, leads_through, verifies}
 use Rattle.checked_frames.proofs.KeyReads.{number_front, of_key-Decides}
 
 Decides-leb : (a b : ℕ) → Decides (nat_le a b) (a ≤ b)

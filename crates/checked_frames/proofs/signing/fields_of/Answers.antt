@@ -1,4 +1,4 @@
-use Rattle.std.proofs.Common.{◌∷◌, [], ◌++◌, map, sym, ap, ◌∙◌}
+use Rattle.std.proofs.Common.{◌≡◌, ◌∷◌, [], ◌++◌, map, sym, ap, ◌∙◌}
 use Rattle.quorum_sets.specs.Masters.{numbers_below}
 use Rattle.checked_frames.specs.Kept.{field_through}
 use Rattle.checked_frames.proofs.SigningLaws.{map_numbers_more}

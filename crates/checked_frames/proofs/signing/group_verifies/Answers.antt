@@ -1,4 +1,5 @@
 use Rattle.std.proofs.Common.{◌≡◌, ◌*◌, ◌∙◌, sym, ap, take, drop, Some}
+use Rattle.byteorder.specs.Endian.{big_number}
 use Rattle.checked_frames.specs.Groups.{leaf_hash, led_to, most_levels}
 use Rattle.checked_frames.proofs.SigningLaws.{group_verifies-is}
 use Rattle.checked_frames.proofs.signing.group_verifies.Goals as goal

@@ -1,4 +1,4 @@
-use Rattle.std.proofs.Common.{map, arith}
+use Rattle.std.proofs.Common.{◌≤◌, ◌∙◌, length, map, arith}
 use Rattle.std.proofs.lemmas.List.{length-map}
 use Rattle.message_types.specs.Texts.{body_text}
 use Rattle.hash_signatures.specs.Signatures.{key_public}

@@ -1,5 +1,7 @@
 use Rattle.std.proofs.Common.{◌≤◌, length, ◌∙◌, ap, sym, subst, List, ℕ}
+use Rattle.std.specs.Prelude.{slice_get}
 use Rattle.std.specs.Option.{option_copied}
+use Rattle.checked_frames.specs.Groups.{raised}
 use Rattle.checked_frames.proofs.PathLaws.{raised_some}
 use Rattle.checked_frames.proofs.SigningLaws.{first_is_there}
 use Rattle.checked_frames.proofs.signing.tree_over.Goals as goal
