@@ -13,8 +13,6 @@ mod orders;
 mod quorum;
 mod said;
 mod slots;
-#[cfg(test)]
-mod tests;
 mod votes;
 
 pub use order::Order;
