@@ -4,10 +4,10 @@ ghost use Rattle.message_types.specs.Spelling.{body_fits, has_spelling};
 ghost use Rattle.message_types.specs.Parts.{parts};
 ghost use Rattle.checked_frames.specs.Standing.{part_fault, fault_from, first_fault, stands, IsFault, said_by};
 
-use crate::frame_parts::put_inside;
 use crate::key_ring::KeyRing;
 use crate::refusal::CheckRefusal;
 use crate::signing::signs;
+use frame_parts::{parts_of, put_inside};
 use message_forms::text_of;
 use message_types::{Body, Frame, Signed};
 use plain_lists::{Copied, Want};
@@ -114,8 +114,6 @@ fn pairs(alloc: Global, frames: Vec<Frame>) -> Result<Vec<(u32, Body)>, Want>
 pub fn parts(alloc: Global, checked: &Checked) -> Result<Vec<(u32, Body)>, Want>
     ensures { IfOk result (λ list. list.items ≡ map said_by (parts checked.now)) }
 {
-    let mut frames = Vec::new(alloc);
-    frames.push(checked.frame.copy()?)?;
-    put_inside(&mut frames, &checked.frame.body)?;
+    let frames = parts_of(alloc, &checked.frame)?;
     pairs(alloc, frames)
 }

@@ -3,7 +3,6 @@
 #![tactic(auto)]
 
 mod checked;
-mod frame_parts;
 mod groups;
 mod key_ring;
 pub mod laws;

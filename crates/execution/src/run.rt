@@ -3,6 +3,8 @@ ghost use Rattle.message_types.specs.declared.updates.Update.{Update as Change};
 ghost use Rattle.protocol_rules.specs.Group.{Group, group_of, most_number};
 ghost use Rattle.protocol_rules.specs.Places.{are_rows};
 ghost use Rattle.protocol_rules.specs.Execution.{Request, executed_of, waiting_of};
+ghost use Rattle.protocol_rules.specs.Matrix as rules;
+ghost use Rattle.summary_matrix.specs.Held.{TellsEach};
 ghost use Rattle.execution.specs.Ran.{IsRunOf, requested, with_certificate};
 
 use crate::progress::{Certificates, advance};
@@ -128,6 +130,14 @@ impl Run {
         ensures { result ≡ self.now.numbers }
     {
         self.numbers
+    }
+
+    /// How far the rows taken make the requests of each master eligible.
+    pub fn reach(&self) -> Reach
+        ensures { (g : Group) (certified : Request → Option Change) (runs : List (List (List ℕ)))
+            → IsRunOf g self.now certified runs → TellsEach result.numbers (rules.reach g runs) }
+    {
+        self.reach
     }
 
     /// The request whose certificate the order waits for, as its master and its number. None exactly where all

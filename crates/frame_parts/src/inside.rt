@@ -1,14 +1,15 @@
-ghost use Rattle.std.specs.Prelude.{◌≡◌, ◌++◌, ◌∷◌, [], OnOk};
+ghost use Rattle.std.specs.Prelude.{◌≡◌, ◌++◌, ◌∷◌, [], IfOk, OnOk};
 ghost use Rattle.std.specs.List.{flat_map};
 ghost use Rattle.message_types.specs.declared.body.Body.{Body};
 ghost use Rattle.message_types.specs.declared.body.Body.TheVariants as body;
-ghost use Rattle.message_types.specs.Parts.{as_frame, frames_of, request_parts, inside_report, inside};
+ghost use Rattle.message_types.specs.Parts.{as_frame, frames_of, request_parts, inside_report, inside, parts};
 
 use message_types::{
     Body, Certificate, Commit, Frame, Give, Mark, PoAck, PoRequest, PoSummary, Prepare, Report,
     Signed, Update,
 };
 use plain_lists::{Copied, Want};
+use std::alloc::Global;
 
 // A body that frames inside others have.
 trait Inner: Copied {
@@ -153,7 +154,7 @@ fn put_give(out: &mut Vec<Frame>, give: &Give) -> Result<(), Want>
 }
 
 /// Appends the frames inside a body, in the order of the text, each before those inside it.
-pub(crate) fn put_inside(out: &mut Vec<Frame>, body: &Body) -> Result<(), Want>
+pub fn put_inside(out: &mut Vec<Frame>, body: &Body) -> Result<(), Want>
     ensures { OnOk result (out.new.items ≡ out.old.items ++ inside body.now) }
 {
     match body {
@@ -165,4 +166,15 @@ pub(crate) fn put_inside(out: &mut Vec<Frame>, body: &Body) -> Result<(), Want>
         Body::GiveOrdered(word) => put_frames(out, word.commits.as_slice()),
         _ => Ok(()),
     }
+}
+
+/// A frame and the frames inside it, in the order of the text, each before those inside it. They share its
+/// signatures.
+pub fn parts_of(alloc: Global, frame: &Frame) -> Result<Vec<Frame>, Want>
+    ensures { IfOk result (λ list. list.items ≡ parts frame.now) }
+{
+    let mut frames = Vec::new(alloc);
+    frames.push(frame.copy()?)?;
+    put_inside(&mut frames, &frame.body)?;
+    Ok(frames)
 }

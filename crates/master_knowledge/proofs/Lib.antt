@@ -1,0 +1,11 @@
+pub mod OfKind
+pub mod Whole
+pub mod Certified
+pub mod Growing
+pub mod Rows
+pub mod Placed
+pub mod Known
+pub mod NextRows
+pub mod Catching
+pub mod Waiting
+pub mod Starting

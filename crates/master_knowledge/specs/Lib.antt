@@ -1,0 +1,4 @@
+pub mod Whole
+pub mod Knows
+pub mod Certifying
+pub mod Numbers

@@ -1,0 +1,13 @@
+//! What a master knows: each part of each frame that it heard or said, handed to the seven parts of it that go by
+//! such words. All that they answer are then the definitions over the one list of all that the master knows.
+#![tactic(auto)]
+
+mod certificate;
+pub mod knowledge;
+mod numbers;
+mod order_words;
+mod requests;
+mod summaries;
+mod view_words;
+
+pub use knowledge::Knowledge;

@@ -1,0 +1,56 @@
+-- The laws of agreement with the orders that a plant's rules make.
+use Rattle.std.proofs.Common.{◌≡◌, ℕ, ◌+◌, List, ◌++◌, map, refl, sym, ◌∙◌, ap, subst}
+use Rattle.message_types.specs.declared.updates.Update.{Update}
+use Rattle.message_types.specs.declared.vouchers.Order.{Order}
+use Rattle.history_rules.specs.Events.{Entry}
+use Rattle.history_rules.specs.Setup.{Setup}
+use Rattle.history_rules.specs.Legal.{executions}
+use Rattle.master_points.specs.declared.plant.Plant.{Plant}
+use Rattle.master_points.specs.Orders.{orders}
+use Rattle.master_points.proofs.OrderLaws.{only-appends}
+use Rattle.field_proxy.specs.Writes.{can_write}
+use Rattle.vouched_orders.specs.Vouching.{orders_done}
+use Rattle.field_proxy.proofs.HistoryLaws.{after_happenings}
+use Rattle.operator_screen.specs.Board.{is_notice}
+use Rattle.agreement.specs.Laws.{IsSound, Begins, votes_taken}
+use Rattle.agreement.proofs.Vouched.{vouched_begin}
+use Rattle.agreement.proofs.Done.{done_begins}
+use Rattle.plant_agreement.specs.Laws.{GoesByPlant, BeginOrders, VouchedFollow, WritesFollow, BoardFollows}
+use Rattle.plant_agreement.proofs.Shown.{board_keeps_all}
+
+-- longer lists of updates only append orders
+appends : (w : Setup) (plant : Plant) (screens client : ℕ) → GoesByPlant w plant screens → (xs ys : List Update) → Begins xs ys → Begins (w.orders xs client) (w.orders ys client)
+appends w plant screens client goes xs ys begins =
+    let more = only-appends plant screens xs begins.rest client in record {
+      rest = more.0;
+      same = goes ys client ∙ ap (λ (zs : List Update). orders plant screens zs client) begins.same ∙ more.1 ∙ ap (λ (zs : List Order). zs ++ more.0) (sym (goes xs client));
+    }
+
+-- the setup's orders are the plant's
+by_plant : (w : Setup) (plant : Plant) (screens client : ℕ) (history : List Entry) (i : ℕ) (done : List Order) → GoesByPlant w plant screens
+    → Begins done (w.orders (executions w history i) client) → Begins done (orders plant screens (executions w history i) client)
+by_plant w plant screens client history i done goes begins = record { rest = begins.rest; same = sym (goes (executions w history i) client) ∙ begins.same }
+
+pub vouched_follow : VouchedFollow
+vouched_follow w plant screens history client sound goes done vouched =
+    let found = vouched_begin w history client sound (appends w plant screens client goes) done vouched in
+    (found.0, found.1, by_plant w plant screens client history found.0 done goes found.2)
+
+pub writes_follow : WritesFollow
+writes_follow w plant screens history proxy sizes happenings sound goes votes =
+    let found = done_begins w history proxy (can_write plant.points proxy) sound (appends w plant screens proxy goes) in
+    let same = after_happenings proxy w.group.n w.group.f plant.points sizes happenings ∙ ap (λ v. orders_done (can_write plant.points proxy) proxy w.group.f v) votes in (
+      found.0,
+      found.1,
+      subst (λ (done : List Order). Begins done (orders plant screens (executions w history found.0) proxy)) (sym same)
+          (by_plant w plant screens proxy history found.0 _ goes found.2),
+    )
+
+pub board_follows : BoardFollows
+board_follows w plant screens history screen sound goes =
+    let found = done_begins w history screen is_notice sound (appends w plant screens screen goes) in (
+      found.0,
+      found.1,
+      subst (λ (done : List Order). Begins done (orders plant screens (executions w history found.0) screen)) (sym (board_keeps_all screen w.group.f (votes_taken history (w.group.n + screen))))
+          (by_plant w plant screens screen history found.0 _ goes found.2),
+    )

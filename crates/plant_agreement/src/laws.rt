@@ -1,0 +1,17 @@
+ghost use Rattle.plant_agreement.specs.Laws.{VouchedFollow, WritesFollow, BoardFollows};
+
+/// Orders that more than f masters vouch for, one by one, begin what a correct master's executions make by the
+/// plant's rules.
+pub fn vouched_follow()
+    ensures { VouchedFollow }
+{}
+
+/// What a proxy wrote begins what a correct master's executions make of orders for it by the plant's rules.
+pub fn writes_follow()
+    ensures { WritesFollow }
+{}
+
+/// What a screen shows begins what a correct master's executions make of orders for it by the plant's rules.
+pub fn board_follows()
+    ensures { BoardFollows }
+{}
