@@ -6,3 +6,5 @@ pub mod Reporting
 pub mod Measuring
 pub mod Speaking
 pub mod Lasting
+pub mod Spelled
+pub mod Standing

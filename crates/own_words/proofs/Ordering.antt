@@ -55,11 +55,11 @@ commits_alike g v s digest facts = quorum_alike g (commit_by v s digest) facts _
     let is = commit_by_from v s digest m f x e in
     and_from _ _ (and_from _ _ (eq-eqb x.body.v v is.2) (eq-eqb x.body.s s is.3)) (same_bytes x.body.digest digest is.4))
 
-pub mark_by_at : (s m : ℕ) (x : OrderFact) (f : Signed Mark) → mark_by s m x ≡ Some f → (x ≡ fact.Mark f) × (f.body.s ≡ s)
+pub mark_by_at : (s m : ℕ) (x : OrderFact) (f : Signed Mark) → mark_by s m x ≡ Some f → (x ≡ fact.Mark f) × (f.signer ≡ m) × (f.body.s ≡ s)
 mark_by_at s m (fact.Mark h) f e =
     let held = if_some (nat_eq h.signer m && nat_eq h.body.s s) e in
     let both = and_parts (nat_eq h.signer m) (nat_eq h.body.s s) held.0 in
-    subst (λ (z : Signed Mark). (fact.Mark h ≡ fact.Mark z) × (z.body.s ≡ s)) held.1 (refl, eqb-true h.body.s s both.1)
+    subst (λ (z : Signed Mark). (fact.Mark h ≡ fact.Mark z) × (z.signer ≡ m) × (z.body.s ≡ s)) held.1 (refl, eqb-true h.signer m both.0, eqb-true h.body.s s both.1)
 mark_by_at s m _ f e = absurd (none_some e)
 
 one_more : (x : ℕ) → 1 ≤ x + 1
@@ -100,7 +100,7 @@ module _ (g : Group) (some : 1 ≤ g.q) (facts : List OrderFact) (placed : Each 
       let vote = vote_from g (mark_by s) facts one.0 one.1 in
       let is = mark_by_at s vote.0 vote.1 one.0 vote.4 in
       let at = subst (FactPlaced g) is.0 (placed vote.1 vote.3) in
-      subst (λ (x : ℕ). nat_eq (x % mark_step) 0 ≡ true) is.1 at.1
+      subst (λ (x : ℕ). nat_eq (x % mark_step) 0 ≡ true) is.2 at.1
 
   prepared_number : (v s : ℕ) (rows : List (List ℕ)) → prepared g facts v s ≡ Some rows → is_number s ≡ true
   unfolding prepared

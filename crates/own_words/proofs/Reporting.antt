@@ -55,7 +55,7 @@ marks_alike g facts base = by_base (nat_eq base 0)
   where
     by_base : (b : Bool) → list_all (λ m. nat_eq m.body.s base) (cond b [] (quorum_of g (mark_by base) facts)) ≡ true
     by_base true = refl
-    by_base false = quorum_alike g (mark_by base) facts _ (λ m f x e. eq-eqb x.body.s base (mark_by_at base m f x e).1)
+    by_base false = quorum_alike g (mark_by base) facts _ (λ m f x e. eq-eqb x.body.s base (mark_by_at base m f x e).2)
 
 module _ (g : Group) (some : 1 ≤ g.q) (facts : List OrderFact) (placed : Each (FactPlaced g) facts) where
   base_step : (base : ℕ) → IsShown g facts base → nat_eq (base % mark_step) 0 ≡ true

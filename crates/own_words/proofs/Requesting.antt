@@ -82,15 +82,15 @@ unfolding waiting_of
 waiting_placed g known r e = eligible_placed g [] _ r (missing_in _ _ r e)
 
 -- what an acknowledgement tells that is counted
-ack_from_word : (j k : ℕ) (digest : List ℕ) (m signer : ℕ) (word : Body) (sig : List ℕ) (u : Signed PoAck) → ack_of j k digest m record { signer = signer; body = word; sig = sig } ≡ Some u
-    → (u.body.j ≡ j) × (u.body.k ≡ k) × (u.body.digest ≡ digest)
+pub ack_from_word : (j k : ℕ) (digest : List ℕ) (m signer : ℕ) (word : Body) (sig : List ℕ) (u : Signed PoAck) → ack_of j k digest m record { signer = signer; body = word; sig = sig } ≡ Some u
+    → (u.signer ≡ m) × (u.body.j ≡ j) × (u.body.k ≡ k) × (u.body.digest ≡ digest)
 ack_from_word j k digest m signer (body.PoAck b) sig u e =
     let held = if_some (nat_eq signer m && nat_eq b.j j && nat_eq b.k k && bytes_eq b.digest digest) e in
     let digests = and_parts (nat_eq signer m && nat_eq b.j j && nat_eq b.k k) (bytes_eq b.digest digest) held.0 in
     let numbers = and_parts (nat_eq signer m && nat_eq b.j j) (nat_eq b.k k) digests.0 in
     let masters = and_parts (nat_eq signer m) (nat_eq b.j j) numbers.0 in
-    subst (λ (z : Signed PoAck). (z.body.j ≡ j) × (z.body.k ≡ k) × (z.body.digest ≡ digest)) held.1
-    (eqb-true b.j j masters.1, eqb-true b.k k numbers.1, bytes_same b.digest digest digests.1)
+    subst (λ (z : Signed PoAck). (z.signer ≡ m) × (z.body.j ≡ j) × (z.body.k ≡ k) × (z.body.digest ≡ digest)) held.1
+    (eqb-true signer m masters.0, eqb-true b.j j masters.1, eqb-true b.k k numbers.1, bytes_same b.digest digest digests.1)
 ack_from_word j k digest m signer _ sig u e = absurd (none_some e)
 
 cond_some : {X : Type 0} (b : Bool) (x : X) → b ≡ true → cond b (Some x) None ≡ Some x
@@ -104,7 +104,7 @@ ack_in_word j k digest m signer (body.PoAck b) sig e =
 ack_in_word j k digest m signer _ sig e = absurd (false≢true e)
 
 -- the master's first acknowledgement
-abbrev first_ack : List (Signed Body) → ℕ → ℕ → List ℕ → ℕ → Option (Signed PoAck)
+abbrev pub first_ack : List (Signed Body) → ℕ → ℕ → List ℕ → ℕ → Option (Signed PoAck)
 first_ack known j k digest m = first_of_list (filter_map (ack_of j k digest m) known)
 
 ack_known : (known : List (Signed Body)) (j k : ℕ) (digest : List ℕ) (m : ℕ) → list_any (is_ack j k digest m) known ≡ true → is_some (first_ack known j k digest m) ≡ true
@@ -195,8 +195,8 @@ module _ (g : Group) (me : ℕ) (known taken : List (Signed Body)) (said : List 
       let master = in_filter_map_from (first_ack known j k digest) (numbers_below g.n) (in_take g.q _ h) in
       let word = in_filter_map_from (ack_of j k digest master.0) known (first_in (filter_map (ack_of j k digest master.0) known) master.2) in
       let tells = ack_from_word j k digest master.0 word.0.signer word.0.body word.0.sig a word.2 in
-      and_from _ _ (and_from _ _ (eq-eqb a.body.j request.signer (tells.0 ∙ sym is.0)) (eq-eqb a.body.k request.body.k (tells.1 ∙ sym is.1)))
-      (same_bytes a.body.digest (digest_of_update request.body.update.body) (tells.2 ∙ sym (digest_of_text request.body.update.body u is.2)))))
+      and_from _ _ (and_from _ _ (eq-eqb a.body.j request.signer (tells.1 ∙ sym is.0)) (eq-eqb a.body.k request.body.k (tells.2 ∙ sym is.1)))
+      (same_bytes a.body.digest (digest_of_update request.body.update.body) (tells.3 ∙ sym (digest_of_text request.body.update.body u is.2)))))
 
   pub gives_placed : Each (WordPlaced g me) (gives_due g me known said)
   gives_placed = each_flat_map (WordPlaced g me) _ (numbers_below g.n) (λ j _. each_flat_map (WordPlaced g me) _ (numbers_from 1 most_number) (λ k _.

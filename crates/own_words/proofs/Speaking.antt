@@ -66,7 +66,7 @@ module _ (g : Group) (me : ℕ) (said : List Body) where
       vouchers_from_placed c (below_from g.clients c h) 1 (omega arith) (orders (executed g known) c))
 
 -- the frames taken are known
-taken_known : (before : List Heard) (took : Option (Signed Body)) → Within (taken_at before took) (known_at before took)
+pub taken_known : (before : List Heard) (took : Option (Signed Body)) → Within (taken_at before took) (known_at before took)
 unfolding known_at
 taken_known before took f h = elim (in_cases (flat_map (λ e. taken_frames e.took) before) h) [
   | inl earlier ↦
@@ -99,6 +99,14 @@ known_next before e next p h = elim (in_cases (flat_map learned (before ++ e ∷
 framed : (g : Group) (signer : ℕ) (b : Body) (sig : List ℕ) → signer < g.n → WordPlaced g signer b → in_place g record { signer = signer; body = b; sig = sig } ≡ true
 framed g signer (body.Update b) sig below placed = absurd (false≢true placed)
 framed g signer b sig below placed = and_from (nat_lt signer g.n) (word_in_place g signer b) (lt-ltb signer g.n below) placed
+
+-- a frame said is one's own, of one of the answers
+pub said_word : (g : Group) (orders : List Update → ℕ → List Order) (me : ℕ) (before : List Heard) (took : Option (Signed Body)) (at_tick : Bool) (count : ℕ) (frames : List (Signed Body))
+    → IsSaid g orders me before took at_tick count frames → (f : Signed Body) → IsIn f frames → (f.signer ≡ me) × IsIn f.body (answers g orders me before took at_tick)
+said_word g orders me before took at_tick count frames is f h = (
+  eqb-true f.signer me (all_each (λ f. nat_eq f.signer me) frames is.own f h),
+  in_take count _ (subst (λ (bs : List Body). IsIn f.body bs) is.words (in_map (λ (f : Signed Body). f.body) h)),
+)
 
 module _ (g : Group) (orders : List Update → ℕ → List Order) (me : ℕ) (before : List Heard) (took : Option (Signed Body)) (at_tick : Bool) (speaks : MaySpeak g me before took at_tick) where
   known_placed : Each (λ p. in_place g p ≡ true) (known_at before took)
@@ -162,10 +170,8 @@ module _ (g : Group) (orders : List Update → ℕ → List Order) (me : ℕ) (b
         (answers_are_due g orders me before took at_tick f.body h) p deeper)
   ]
 
-  pub own_placed : (count : ℕ) (frames : List (Signed Body)) → IsSaid g orders me before took at_tick count frames → Each (λ p. in_place g p ≡ true) (flat_map parts frames)
-  own_placed count frames is = each_flat_map (λ p. in_place g p ≡ true) parts frames (λ f h.
-      own_frame f (eqb-true f.signer me (all_each (λ f. nat_eq f.signer me) frames is.own f h))
-      (in_take count _ (subst (λ (bs : List Body). IsIn f.body bs) is.words (in_map (λ (f : Signed Body). f.body) h))))
+  own_placed : (count : ℕ) (frames : List (Signed Body)) → IsSaid g orders me before took at_tick count frames → Each (λ p. in_place g p ≡ true) (flat_map parts frames)
+  own_placed count frames is = each_flat_map (λ p. in_place g p ≡ true) parts frames (λ f h. let word = said_word g orders me before took at_tick count frames is f h in own_frame f word.0 word.1)
 
 pub answers_are_in_place : AnswersAreInPlace
 answers_are_in_place g orders me before took at_tick speaks = answers_placed g orders me before took at_tick speaks

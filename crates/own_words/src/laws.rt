@@ -1,4 +1,5 @@
 ghost use Rattle.own_words.specs.Laws.{KnownIsClosed, PartsAreClosed, RowsAreInPlace, OrderedAreInPlace, OfferedAreInPlace, PlansAreInPlace, AnswersAreInPlace, OwnPartsAreInPlace, KnownStaysInPlace, LearnedIsInPlace};
+ghost use Rattle.own_words.specs.Spellings.{RowsInPlaceFit, NewViewsFit, CertifiedAreInPlace, PartsAreSpelled, AnswersAreSpelled, OwnPartsAreSpelled, OwnFramesStand};
 
 /// With each word that a master knows it knows the frames inside it.
 pub fn known_is_closed()
@@ -48,4 +49,39 @@ pub fn known_stays_in_place()
 /// In every legal history all that a correct master has learned is in place.
 pub fn learned_is_in_place()
     ensures { LearnedIsInPlace }
+{}
+
+/// Rows of a group fit their spelling.
+pub fn rows_in_place_fit()
+    ensures { RowsInPlaceFit }
+{}
+
+/// The rows of the certificates that a new view with a spelling brings fit theirs.
+pub fn new_views_fit()
+    ensures { NewViewsFit }
+{}
+
+/// What is certified is an update in its place in its client's name.
+pub fn certified_are_in_place()
+    ensures { CertifiedAreInPlace }
+{}
+
+/// Each part of frames with spellings has one.
+pub fn parts_are_spelled()
+    ensures { PartsAreSpelled }
+{}
+
+/// Each word that a correct master says fits its spelling, where all that it knows has one.
+pub fn answers_are_spelled()
+    ensures { AnswersAreSpelled }
+{}
+
+/// Each part of the frames that it says has a spelling.
+pub fn own_parts_are_spelled()
+    ensures { OwnPartsAreSpelled }
+{}
+
+/// The frames that it says stand once they are signed, where all that it knows is signed.
+pub fn own_frames_stand()
+    ensures { OwnFramesStand }
 {}
