@@ -6,7 +6,7 @@ use message_types::{AskOrder, AskUpdate, Body, Op, PoAck, PoRequest, Signed, Upd
 use plain_lists::{Bytes, Want};
 use preorder::Preorder;
 use quorum_sets::Sizes;
-use reconcile::{Asks, Wanted};
+use reconcile::Asks;
 use std::alloc::Global;
 use std::test::Fail;
 
@@ -65,7 +65,16 @@ fn take_ack(
     gifts.take_ack(&frame)
 }
 
+/// A master's part in giving.
+#[derive(Drop)]
+struct Giver {
+    preorder: Preorder,
+    gifts: Gifts,
+    asks: Asks,
+}
+
 /// Has both take the request and acknowledgements of all four masters, of master 1 two.
+#[tactic(auto, unfolding(protocol_rules::specs::Group::most_number))]
 fn certify(alloc: Global, preorder: &mut Preorder, gifts: &mut Gifts) -> Result<(), Want>
     requires masters { preorder.old.group.n ≡ 4 }
 {
@@ -79,26 +88,50 @@ fn certify(alloc: Global, preorder: &mut Preorder, gifts: &mut Gifts) -> Result<
     gifts.take_request(&frame)
 }
 
-/// The bodies given where master 3 asked for the request: by the signer and the signature's byte of each
-/// acknowledgement.
-fn acks_given(
-    alloc: Global,
-    preorder: &Preorder,
-    gifts: &Gifts,
-    asks: &mut Asks,
-) -> Result<Vec<(u32, u8)>, Want> {
-    asks.take(3, &Body::AskUpdate(AskUpdate { j: 1, k: 1 }))?;
-    let bodies = gives(alloc, gifts, preorder, &asks.wanted()?)?;
-    note_given(asks, &bodies)?;
-    let mut given = Vec::new(alloc);
-    for body in &bodies {
+/// Master 0 where no word is known.
+fn knowing_nothing(alloc: Global, sizes: Sizes) -> Giver {
+    Giver {
+        preorder: Preorder::new(alloc, sizes, 1, 0),
+        gifts: Gifts::new(alloc, sizes),
+        asks: Asks::new(alloc, sizes, 0),
+    }
+}
+
+/// Master 0 of four, where the request is certified.
+fn knowing_one(alloc: Global, sizes: Sizes) -> Result<Giver, Want>
+    requires { sizes.n ≡ 4 }
+{
+    let mut preorder = Preorder::new(alloc, sizes, 1, 0);
+    let mut gifts = Gifts::new(alloc, sizes);
+    certify(alloc, &mut preorder, &mut gifts)?;
+    Ok(Giver {
+        preorder,
+        gifts,
+        asks: Asks::new(alloc, sizes, 0),
+    })
+}
+
+/// The signer and the signature's byte of each acknowledgement that is given where master 3 asks for the
+/// request.
+fn acks_given(alloc: Global, giver: &mut Giver) -> Result<Vec<(u32, u8)>, Want> {
+    let ask = Body::AskUpdate(AskUpdate { j: 1, k: 1 });
+    giver.asks.take(3, &ask)?;
+    let wanted = giver.asks.wanted()?;
+    let bodies = gives(alloc, &giver.gifts, &giver.preorder, &wanted)?;
+    note_given(&mut giver.asks, &bodies)?;
+    acks_in(alloc, &bodies)
+}
+
+fn acks_in(alloc: Global, bodies: &[Body]) -> Result<Vec<(u32, u8)>, Want> {
+    let mut acks = Vec::new(alloc);
+    for body in bodies {
         if let Body::Give(give) = body {
             for ack in give.acks.as_slice() {
-                given.push((ack.signer, first_byte(&ack.sig)))?;
+                acks.push((ack.signer, first_byte(&ack.sig)))?;
             }
         }
     }
-    Ok(given)
+    Ok(acks)
 }
 
 fn first_byte(sig: &Bytes) -> u8 {
@@ -108,37 +141,32 @@ fn first_byte(sig: &Bytes) -> u8 {
     }
 }
 
+/// What is wanted where master 1 asks for number 7: how much it is, and its numbers.
+fn still_wanted(alloc: Global, giver: &mut Giver) -> Result<(usize, Vec<u64>), Want> {
+    giver.asks.take(1, &Body::AskOrder(AskOrder { s: 7 }))?;
+    let wanted = giver.asks.wanted()?;
+    Ok((wanted.len(), numbers_wanted(alloc, &wanted)?))
+}
+
 #[test]
 fn lowest_masters_first_acks_are_given_once(rt: HostRuntime) -> Result<(), Fail> {
-    let alloc = rt.alloc();
     let sizes = Sizes::new(1, 0)?;
     assert_eq!(rt; sizes.n, 4);
-    let mut preorder = Preorder::new(alloc, sizes, 1, 0);
-    let mut gifts = Gifts::new(alloc, sizes);
-    let mut asks = Asks::new(alloc, sizes, 0);
-    certify(alloc, &mut preorder, &mut gifts)?;
-    let given = acks_given(alloc, &preorder, &gifts, &mut asks)?;
-    assert_eq!(rt; given.as_slice(), [(0, 10), (1, 11), (2, 12)].as_slice());
-    let again = acks_given(alloc, &preorder, &gifts, &mut asks)?;
-    assert_eq!(rt; again.len(), 0);
+    let mut giver = knowing_one(rt.alloc(), sizes)?;
+    let acks = acks_given(rt.alloc(), &mut giver)?;
+    assert_eq!(rt; acks.as_slice(), [(0, 10), (1, 11), (2, 12)].as_slice());
+    assert_eq!(rt; acks_given(rt.alloc(), &mut giver)?.len(), 0);
+    let (many, numbers) = still_wanted(rt.alloc(), &mut giver)?;
+    assert_eq!(rt; many, 1);
+    assert_eq!(rt; numbers.as_slice(), [7].as_slice());
     Ok(())
 }
 
 #[test]
 fn what_is_not_certified_stays_wanted(rt: HostRuntime) -> Result<(), Fail> {
-    let alloc = rt.alloc();
-    let sizes = Sizes::new(1, 0)?;
-    let preorder = Preorder::new(alloc, sizes, 1, 0);
-    let gifts = Gifts::new(alloc, sizes);
-    let mut asks = Asks::new(alloc, sizes, 0);
-    asks.take(1, &Body::AskOrder(AskOrder { s: 7 }))?;
-    let given = acks_given(alloc, &preorder, &gifts, &mut asks)?;
-    assert_eq!(rt; given.len(), 0);
-    let wanted = asks.wanted()?;
-    assert_eq!(rt;
-        wanted.as_slice(),
-        [Wanted::Request { j: 1, k: 1 }, Wanted::Number { s: 7 }].as_slice()
-    );
-    assert_eq!(rt; numbers_wanted(alloc, &wanted)?.as_slice(), [7].as_slice());
+    let mut giver = knowing_nothing(rt.alloc(), Sizes::new(1, 0)?);
+    assert_eq!(rt; acks_given(rt.alloc(), &mut giver)?.len(), 0);
+    let (many, _) = still_wanted(rt.alloc(), &mut giver)?;
+    assert_eq!(rt; many, 2);
     Ok(())
 }
