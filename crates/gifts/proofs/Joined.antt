@@ -1,28 +1,27 @@
 -- The gifts due are those of what is wanted.
-use Rattle.std.proofs.Common.{◌≡◌, ℕ, ◌+◌, ◌<◌, ◌≤◌, Bool, true, false, cond, ◌&&◌, not, List, [], ◌∷◌, ◌++◌, Option, Some, None, nat_le, nat_lt, refl, sym, ◌∙◌, ap, arith}
+use Rattle.std.proofs.Common.{◌≡◌, ℕ, ◌<◌, ◌≤◌, true, false, ◌&&◌, not, List, [], ◌∷◌, ◌++◌, Option, Some, None, nat_le, nat_lt, refl, sym, ◌∙◌, ap, arith}
 use Rattle.std.specs.List.{list_any, flat_map, filter_map}
 use Rattle.std.specs.Option.{option_map, option_to_list, option_and_then}
-use Rattle.std.proofs.lemmas.Bool.{and_parts, and_from, and_left, ltb-true, lt-ltb, leb-true, le-leb, true≢false}
+use Rattle.std.proofs.lemmas.Bool.{and_parts, and_from, ltb-true, lt-ltb, leb-true, le-leb, true≢false}
 use Rattle.message_types.specs.declared.signed.Signed.{Signed}
-use Rattle.message_types.specs.declared.preordering.PoAck.{PoAck}
 use Rattle.message_types.specs.declared.preordering.PoRequest.{PoRequest}
 use Rattle.message_types.specs.declared.updates.Update.{Update}
 use Rattle.message_types.specs.declared.body.Body.{Body}
 use Rattle.message_types.specs.declared.body.Body.TheVariants as body
 use Rattle.message_types.specs.Digests.{digest_of_update}
 use Rattle.protocol_rules.specs.declared.facts.OrderFact.{OrderFact}
-use Rattle.protocol_rules.specs.Words.{first_of_list, greatest_of}
+use Rattle.protocol_rules.specs.Words.{first_of_list}
 use Rattle.protocol_rules.specs.Group.{Group, most_number}
 use Rattle.protocol_rules.specs.Preorder.{certified}
 use Rattle.protocol_rules.specs.Order.{ordered}
-use Rattle.protocol_rules.specs.Reconcile.{updates_given, orders_given, asks_for_update, asks_for_order, request_of, quorum_of_acks, give_due, gives_due, give_ordered_due, gives_ordered_due}
+use Rattle.protocol_rules.specs.Reconcile.{request_of, quorum_of_acks, give_due, gives_due, give_ordered_due, gives_ordered_due}
 use Rattle.reconcile.specs.declared.wanted.Wanted.{Wanted}
 use Rattle.reconcile.specs.declared.wanted.Wanted.TheVariants.{Request, Number}
 use Rattle.reconcile.specs.Asking.{gives, other_asks, is_place, is_wanted, is_among}
-use Rattle.reconcile.specs.Kept.{AreInOrder, IsListOfWanted}
+use Rattle.reconcile.specs.Kept.{IsListOfWanted}
 use Rattle.gifts.specs.Giving.{gift_of, give_of, give_ordered_with, order_given, given_of, requests_in, numbers_in}
 use Rattle.gifts.proofs.Order.{among_all, among_first, among_later}
-use Rattle.gifts.proofs.Merge.{GivesNothing, merged}
+use Rattle.gifts.proofs.Merge.{merged}
 use Rattle.gifts.proofs.Grid.{grid, line, grid_all, row_all, grid_in_order, line_in_order, in_grid, in_line, grid_gives, line_gives}
 
 -- what the definition gives of one thing

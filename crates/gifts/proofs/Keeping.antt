@@ -10,7 +10,6 @@ use Rattle.std.proofs.lemmas.Slice.Eq.{bytes_eq-Decides}
 use Rattle.message_types.specs.declared.signed.Signed.{Signed}
 use Rattle.message_types.specs.declared.preordering.PoAck.{PoAck}
 use Rattle.message_types.specs.declared.preordering.PoRequest.{PoRequest}
-use Rattle.message_types.specs.declared.reconciling.Give.{Give}
 use Rattle.message_types.specs.declared.updates.Update.{Update}
 use Rattle.message_types.specs.declared.body.Body.{Body}
 use Rattle.message_types.specs.declared.body.Body.TheVariants as body

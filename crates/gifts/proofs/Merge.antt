@@ -1,7 +1,7 @@
 -- Two lists in order of which each gives nothing where it isn't in the other give the same.
-use Rattle.std.proofs.Common.{◌≡◌, Bool, true, false, List, [], ◌∷◌, ◌++◌, refl, sym, ◌∙◌, ap, inl, inr, ◌⊎◌}
+use Rattle.std.proofs.Common.{◌≡◌, true, false, List, [], ◌∷◌, ◌++◌, refl, sym, ◌∙◌, ap, inl, inr, ◌⊎◌}
 use Rattle.std.specs.List.{list_all, flat_map}
-use Rattle.std.proofs.lemmas.Bool.{and_from, or_from, true≢false}
+use Rattle.std.proofs.lemmas.Bool.{and_from, or_from}
 use Rattle.reconcile.specs.declared.wanted.Wanted.{Wanted}
 use Rattle.reconcile.specs.Asking.{same_wanted, is_among, comes_before}
 use Rattle.reconcile.specs.Kept.{AreInOrder}

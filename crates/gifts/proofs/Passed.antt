@@ -1,5 +1,5 @@
 -- What changes nothing: words of other kinds, and bodies that are no gifts.
-use Rattle.std.proofs.Common.{◌≡◌, ℕ, Bool, true, false, cond, ◌&&◌, ◌||◌, not, List, [], ◌∷◌, ◌++◌, Option, Some, None, filter, length, take, get_or, ◌+◌, ◌<◌, refl, sym, ◌∙◌, ap, subst, append_assoc, arith}
+use Rattle.std.proofs.Common.{◌≡◌, ℕ, Bool, true, false, ◌&&◌, ◌||◌, not, List, [], ◌∷◌, ◌++◌, Option, Some, None, filter, length, take, get_or, ◌+◌, ◌<◌, refl, sym, ◌∙◌, ap, subst, append_assoc}
 use Rattle.std.specs.List.{list_any, filter_map, flat_map}
 use Rattle.std.proofs.lemmas.Bool.{true≢false}
 use Rattle.std.proofs.lemmas.List.{take_more}
@@ -11,7 +11,6 @@ use Rattle.quorum_sets.specs.Masters.{numbers_below}
 use Rattle.protocol_rules.specs.declared.facts.OrderFact.{OrderFact}
 use Rattle.protocol_rules.specs.Words.{numbers_from, first_of_list}
 use Rattle.protocol_rules.specs.Group.{Group, most_number}
-use Rattle.protocol_rules.specs.Preorder.{certified}
 use Rattle.protocol_rules.specs.Reconcile.{ack_of, gives_due, gives_ordered_due, give_due, give_ordered_due}
 use Rattle.preorder.specs.Composed.{is_preordering, is_preordering_word}
 use Rattle.reconcile.specs.declared.wanted.Wanted.{Wanted}

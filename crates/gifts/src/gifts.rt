@@ -1,4 +1,4 @@
-ghost use Rattle.std.specs.Prelude.{◌≡◌, ◌++◌, ◌∷◌, ℕ, List, [], Some, OnOk, OnErr, IfOk};
+ghost use Rattle.std.specs.Prelude.{◌≡◌, ◌++◌, ◌∷◌, List, [], Some, OnOk, OnErr, IfOk};
 ghost use Rattle.message_types.specs.declared.signed.Signed.{Signed as SignedWord};
 ghost use Rattle.message_types.specs.declared.body.Body.{Body as Word};
 ghost use Rattle.message_types.specs.declared.body.Body.TheVariants as body;

@@ -1,4 +1,4 @@
-use Rattle.std.proofs.Common.{◌≡◌, ◌<◌, ◌++◌, List, length, get_or, sym, ◌∙◌, ap, arith}
+use Rattle.std.proofs.Common.{◌<◌, ◌++◌, List, length, get_or, sym, ◌∙◌, ap, arith}
 use Rattle.std.specs.List.{flat_map, list_any}
 use Rattle.reconcile.specs.Asking.{asks}
 use Rattle.std.proofs.lemmas.List.{take_all}
