@@ -4,7 +4,7 @@ use denote.Bor.{Bor}
 use Rattle.std.specs.Prelude.{slice_get}
 use Rattle.std.specs.List.{list_all, find, filter_map, flat_map, cons_option}
 use Rattle.std.specs.Option.{IfSome, option_copied}
-use Rattle.std.proofs.lemmas.Bool.{and_parts, leb-true}
+use Rattle.std.proofs.lemmas.Bool.{and_parts, and_from, leb-true}
 use Rattle.std.proofs.lemmas.Option.{none-some, same_Some}
 use Rattle.std.proofs.lemmas.Grind.{flat_map-append}
 use Rattle.std.proofs.lemmas.List.Folds.{list_all-append}
@@ -20,7 +20,8 @@ use Rattle.protocol_rules.specs.Order.{ordered, plan_in, plan_known, proposal_in
 use Rattle.leader_offers.specs.Counting.{are_few}
 use Rattle.leader_offers.proofs.Growing.{offered_by, offered-is}
 
-all_few : List OrderFact → Bool
+-- all rows that the facts make known are few
+unfoldable pub all_few : List OrderFact → Bool
 all_few facts = list_all are_few (rows_known facts)
 
 few-append : (xs ys : List OrderFact) → all_few (xs ++ ys) ≡ true → (all_few xs ≡ true) × (all_few ys ≡ true)
@@ -128,3 +129,22 @@ group_with t = record { n = t.masters; f = 0; k = 0; q = t.quorum; clients = 0 }
 pub few-read : (r : Option (Bor (List (List ℕ)))) → IfSome (option_copied r) (λ rows. length rows ≤ 14) → IfSome r (λ rows. length rows.now ≤ 14)
 few-read None few = tt
 few-read (Some rows) few = few
+
+-- where no fact is known
+pub few-none : list_all are_few (rows_known []) ≡ true
+unfolding rows_known
+few-none = refl
+
+pub few-none-known : all_few [] ≡ true
+unfolding all_few
+few-none-known = few-none
+
+pub few-of : (x : OrderFact) (facts : List OrderFact) → list_all are_few (rows_in x) ≡ true → all_few facts ≡ true → all_few (x ∷ facts) ≡ true
+unfolding rows_known all_few
+few-of x facts here rest = list_all-append are_few (rows_in x) (flat_map rows_in facts) ∙ and_from (list_all are_few (rows_in x)) (list_all are_few (flat_map rows_in facts)) here rest
+
+pub few-join : (xs ys : List OrderFact) → all_few xs ≡ true → all_few ys ≡ true → all_few (xs ++ ys) ≡ true
+unfolding rows_known all_few
+few-join xs ys first second =
+    ap (list_all are_few) (flat_map-append rows_in xs ys) ∙ list_all-append are_few (flat_map rows_in xs) (flat_map rows_in ys)
+    ∙ and_from (list_all are_few (flat_map rows_in xs)) (list_all are_few (flat_map rows_in ys)) first second

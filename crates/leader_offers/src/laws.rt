@@ -1,11 +1,16 @@
-ghost use Rattle.std.specs.Prelude.{◌≡◌, ◌≢◌, ◌≤◌, ◌<◌, ◌++◌, ℕ, List, length, slice_index, slice_set};
-ghost use Rattle.std.specs.List.{filter_map, flat_map, list_any};
+ghost use Rattle.std.specs.Prelude.{[], IsTrue, ◌≡◌, ◌≢◌, ◌≤◌, ◌<◌, ◌++◌, ℕ, List, length, slice_index, slice_set};
+ghost use Rattle.std.specs.List.{filter_map, flat_map, list_all, list_any};
+ghost use Rattle.message_types.specs.declared.signed.Signed.{Signed};
 ghost use Rattle.message_types.specs.declared.body.Body.{Body};
 ghost use Rattle.message_types.specs.declared.vouchers.Order.{Order};
+ghost use Rattle.message_types.specs.Parts.{parts};
 ghost use Rattle.quorum_sets.specs.Masters.{numbers_below};
 ghost use Rattle.protocol_rules.specs.declared.facts.OrderFact.{OrderFact};
 ghost use Rattle.protocol_rules.specs.Group.{Group};
+ghost use Rattle.protocol_rules.specs.Places.{in_place};
+ghost use Rattle.protocol_rules.specs.Facts.{facts_of};
 ghost use Rattle.protocol_rules.specs.Master.{offered_number, summary_in, vouchers_said, vouchers_from};
+ghost use Rattle.leader_offers.specs.Counting.{HasFewRows};
 ghost use Rattle.leader_offers.specs.Offering.{Offered, AreOffersOf};
 ghost use Rattle.leader_offers.specs.Saying.{SummedUp, IsSummaryOf, AreVouchersOf};
 
@@ -13,6 +18,14 @@ ghost use Rattle.leader_offers.specs.Saying.{SummedUp, IsSummaryOf, AreVouchersO
 pub fn facts_may_grow()
     ensures { (g : Group) (kept : Offered) (facts more : List OrderFact) (said : List Body)
         → AreOffersOf g kept facts said → AreOffersOf g kept (facts ++ more) said }
+{}
+
+/// A law, which does nothing: where all rows known are few, they stay so with each frame whose parts are in their place,
+/// as those of a frame that stands are.
+pub fn rows_stay_few()
+    ensures nothing { (g : Group) → HasFewRows (facts_of g []) }
+    ensures frame { (g : Group) (known : List (Signed Body)) (f : Signed Body) → g.n ≤ 14 → IsTrue (list_all (in_place g) (parts f))
+        → HasFewRows (facts_of g known) → HasFewRows (facts_of g (known ++ parts f)) }
 {}
 
 /// A law, which does nothing: of what was said only the numbers offered, the summaries and the vouchers matter, each to

@@ -31,7 +31,7 @@ pub struct Progress {
 
 impl Progress {
     /// Where nothing was offered in a view, and nothing is settled.
-    pub fn start(view: u64) -> Progress
+    pub(crate) fn start(view: u64) -> Progress
         ensures view { result.view ≡ view }
         ensures greatest { result.greatest ≡ 0 }
         ensures settled { result.settled ≡ 0 }
@@ -46,7 +46,7 @@ impl Progress {
     }
 
     /// The progress in this view or a later one, which begins anew.
-    pub fn in_view(&self, view: u64) -> Progress
+    pub(crate) fn in_view(&self, view: u64) -> Progress
         requires { self.now.view ≤ view }
         ensures view { result.view ≡ view }
         ensures kept { (g : Group) (facts : List Fact) (said : List Word) → IsProgressOf g self.now facts said → IsProgressOf g result facts said }
@@ -59,7 +59,7 @@ impl Progress {
     }
 
     /// The number that the leader offers next, where the limits allow it.
-    pub fn next_number(&self, plan: &Plan, stable: u64) -> Option<u64>
+    pub(crate) fn next_number(&self, plan: &Plan, stable: u64) -> Option<u64>
         ensures { result ≡ number_within self.now.greatest plan.now stable }
     {
         let planned = plan.base.saturating_add(plan.rows.len() as u64);
@@ -71,7 +71,7 @@ impl Progress {
     }
 
     /// Goes on over the numbers up to `last` whose rows are known without a gap.
-    pub fn settle(&self, order: &Order, plan: &Plan, sizes: &Sizes, last: u64) -> Progress
+    pub(crate) fn settle(&self, order: &Order, plan: &Plan, sizes: &Sizes, last: u64) -> Progress
         requires { HasFewRows order.now.facts }
         ensures view { result.view ≡ self.now.view }
         ensures greatest { result.greatest ≡ self.now.greatest }
@@ -105,7 +105,7 @@ impl Progress {
     }
 
     /// How far the known rows of the numbers up to `last` reach.
-    pub fn reach_to(&self, order: &Order, plan: &Plan, sizes: &Sizes, last: u64) -> Reach
+    pub(crate) fn reach_to(&self, order: &Order, plan: &Plan, sizes: &Sizes, last: u64) -> Reach
         requires { HasFewRows order.now.facts }
         ensures { (g : Group) → IsOrderOf g order.now → HasSizes g sizes.now.n sizes.now.q → plan_known order.now.facts self.now.view ≡ Some plan.now
             → self.now.settled ≤ last → IsSettled g order.now.facts self.now.view self.now.settled self.now.reach.numbers
@@ -120,7 +120,7 @@ impl Progress {
     }
 
     /// Where one number more was offered.
-    pub fn offer(&self, number: u64) -> Progress
+    pub(crate) fn offer(&self, number: u64) -> Progress
         ensures { result ≡ record self.now { greatest = number } }
     {
         Progress {

@@ -1,6 +1,5 @@
-ghost use Rattle.std.specs.Prelude.{◌≡◌, ◌≤◌, ◌<◌, true, length, nat_le, OnOk};
+ghost use Rattle.std.specs.Prelude.{◌≡◌, ◌≤◌, ◌<◌, true, length, nat_le, slice_index, OnOk};
 ghost use Rattle.std.specs.List.{list_all};
-ghost use Rattle.leader_offers.specs.Counting.{HasFewRows};
 
 use crate::{Offers, Summary, Vouchers};
 use global_order::Order;
@@ -34,32 +33,43 @@ fn take_numbers(
     matrix.take(&frame)
 }
 
-/// The number that the leader of view 0 offers at a tick.
-fn number_offered(offers: &mut Offers, order: &Order, matrix: &Matrix) -> Result<Option<u64>, Want>
-    requires view { offers.old.progress.view ≤ 0 }
-    requires rows { HasFewRows order.now.facts }
-    ensures { OnOk result (offers.new.progress.view ≤ 0) }
+/// Three of four masters summed up, the third up to this number.
+fn summed_up(alloc: Global, sizes: Sizes, third: u64) -> Result<Matrix, Want>
+    requires masters { sizes.n ≡ 4 }
+    requires small { third ≤ 4096 }
 {
-    match offers.due(order, matrix, true, 0, true, true)? {
-        Some(Body::PrePrepare(word)) => Ok(Some(word.s)),
-        _ => Ok(None),
+    let mut matrix = Matrix::new(alloc, sizes);
+    take_numbers(alloc, &mut matrix, 0, [1, 0, 0, 0])?;
+    take_numbers(alloc, &mut matrix, 1, [1, 0, 0, 0])?;
+    take_numbers(alloc, &mut matrix, 2, [third, 0, 0, 0])?;
+    Ok(matrix)
+}
+
+/// The number that the leader of view 0 offers first.
+fn first_number(alloc: Global, sizes: Sizes, matrix: &Matrix) -> Result<Option<u64>, Want> {
+    let order = Order::new(alloc, sizes);
+    let mut offers = Offers::new(sizes);
+    let word = offers.due(&order, matrix, true, 0, true, true)?;
+    Ok(number_of(&word))
+}
+
+fn number_of(word: &Option<Body>) -> Option<u64> {
+    match word {
+        Some(Body::PrePrepare(word)) => Some(word.s),
+        _ => None,
     }
 }
 
-/// Four masters: what three of them have certified is offered.
+/// What three of four masters have certified is offered.
 #[test]
 fn a_leader_offers_what_a_quorum_certified(rt: HostRuntime) -> Result<(), Fail> {
     let alloc = rt.alloc();
     let sizes = Sizes::new(1, 0)?;
     assert_eq!(rt; sizes.n, 4);
-    let order = Order::new(alloc, sizes);
-    let mut matrix = Matrix::new(alloc, sizes);
-    let mut offers = Offers::new(sizes);
-    take_numbers(alloc, &mut matrix, 0, [1, 0, 0, 0])?;
-    take_numbers(alloc, &mut matrix, 1, [1, 0, 0, 0])?;
-    assert_eq!(rt; number_offered(&mut offers, &order, &matrix)?, None);
-    take_numbers(alloc, &mut matrix, 2, [1, 0, 0, 0])?;
-    assert_eq!(rt; number_offered(&mut offers, &order, &matrix)?, Some(1));
+    let backed = summed_up(alloc, sizes, 1)?;
+    assert_eq!(rt; first_number(alloc, sizes, &backed)?, Some(1));
+    let not_backed = summed_up(alloc, sizes, 0)?;
+    assert_eq!(rt; first_number(alloc, sizes, &not_backed)?, None);
     Ok(())
 }
 
@@ -82,17 +92,30 @@ fn a_vector_is_summed_up_once(rt: HostRuntime) -> Result<(), Fail> {
     Ok(())
 }
 
+/// The number of the last voucher due for client 1, 0 where none is.
+fn last_vouched(alloc: Global, vouchers: &mut Vouchers, orders: &[ClientOrder]) -> Result<u64, Want>
+    requires { slice_index vouchers.old.counts 1 ≤ length orders.now }
+    ensures { OnOk result (slice_index vouchers.new.counts 1 ≤ length orders.now) }
+{
+    let mut bodies = Vec::new(alloc);
+    vouchers.due_for(&mut bodies, 1, orders)?;
+    Ok(number_vouched(bodies.last()))
+}
+
+fn number_vouched(body: Option<&Body>) -> u64 {
+    match body {
+        Some(Body::Voucher(word)) => word.number,
+        _ => 0,
+    }
+}
+
 #[test]
 fn each_order_is_vouched_for_once(rt: HostRuntime) -> Result<(), Fail> {
+    let alloc = rt.alloc();
     let order = ClientOrder::Write { point: 1, raw: 2 };
     let mut vouchers = Vouchers::none();
-    let mut bodies = Vec::new(rt.alloc());
-    vouchers.due_for(&mut bodies, 1, &[order])?;
-    vouchers.due_for(&mut bodies, 1, &[order, order])?;
-    assert_eq!(rt; bodies.len(), 2);
-    match &bodies[1] {
-        Body::Voucher(word) => assert_eq!(rt; word.number, 2),
-        _ => assert!(rt; false),
-    }
+    assert_eq!(rt; last_vouched(alloc, &mut vouchers, &[order])?, 1);
+    assert_eq!(rt; last_vouched(alloc, &mut vouchers, &[order, order])?, 2);
+    assert_eq!(rt; last_vouched(alloc, &mut vouchers, &[order, order])?, 0);
     Ok(())
 }

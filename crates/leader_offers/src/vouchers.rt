@@ -8,7 +8,8 @@ use message_types::{Body, Order, Voucher};
 use plain_lists::Want;
 use std::alloc::Global;
 
-/// How many vouchers a master said for each of up to 12 clients, from its first order on.
+/// How many vouchers a master said for each of up to 12 clients, from its first order on. A copy of it brings back what
+/// an event that was given up half way has counted.
 #[derive(Clone, Copy, Debug, PartialEq, Eq)]
 pub struct Vouchers {
     pub counts: [u64; 12],
@@ -17,7 +18,8 @@ pub struct Vouchers {
 impl Vouchers {
     /// Where no voucher was said.
     pub fn none() -> Vouchers
-        ensures { AreVouchersOf result.counts [] }
+        ensures counts { (c : ℕ) → slice_index result.counts c ≡ 0 }
+        ensures nothing { AreVouchersOf result.counts [] }
     {
         Vouchers { counts: [0; 12] }
     }
