@@ -20,7 +20,9 @@ use Rattle.protocol_rules.specs.Views.{view, is_open}
 use Rattle.protocol_rules.specs.Master.{latest_rows, offered_number, next_number, counted_rows, preprepares_due}
 use Rattle.summary_matrix.specs.Held.{TellsEach, proposal_of}
 use Rattle.summary_matrix.specs.declared.reach.Reach.{Reach}
-use Rattle.summary_matrix.proofs.Loops.{any_below}
+use Rattle.summary_matrix.proofs.Loops.{any_below, masters_few}
+use Rattle.quorum_sets.specs.declared.sizes.Sizes.{Sizes}
+use Rattle.global_order.specs.Taken.{HasSizes}
 use Rattle.leader_offers.specs.Counting.{counted_in, reach_to, IsSettled, plan_end, number_within}
 use Rattle.leader_offers.specs.Offering.{IsProgressOf, Offered, AreOffersOf}
 use Rattle.leader_offers.specs.declared.progress.Progress.{Progress}
@@ -298,9 +300,9 @@ kept-offered g p new facts said plan stable_number v number greatest frames here
     let above : p.greatest < number = omega arith in
     subst (λ (q : Progress). IsProgressOf g q facts (said ++ body.PrePrepare record { v = v; s = number; frames = frames } ∷ [])) (sym new_is) (progress-offered g p facts said v number frames here above is)
 
--- the parts of what is kept
-pub opened-progress : (g : Group) (kept : Offered) (p : Progress) (facts : List OrderFact) (said : List Body) → p ≡ kept.progress → AreOffersOf g kept facts said → IsProgressOf g p facts said
-opened-progress g kept p facts said e is = subst (λ (q : Progress). IsProgressOf g q facts said) (sym e) is.progress
+-- a group has at most 14 masters
+pub group-few : (g : Group) (sizes : Sizes) → HasSizes g sizes.n sizes.q → g.n ≤ 14
+group-few g sizes has = let few = masters_few sizes in let same : g.n ≡ sizes.n = has.masters in omega arith
 
 -- the next number as it is counted, no sum above `most`
 pub sum-within : (sum greatest most planned biggest number : ℕ) → 4096 < most → planned ≡ min sum most → biggest ≡ max planned greatest → number ≡ min (biggest + 1) most → number ≤ 4096 → number ≡ max sum greatest + 1
