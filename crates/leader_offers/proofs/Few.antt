@@ -1,5 +1,5 @@
 -- Where all rows known are few, those that are ordered or offered are.
-use Rattle.std.proofs.Common.{◌≡◌, ℕ, zero, suc, ◌+◌, ◌-◌, ◌≤◌, Bool, true, false, cond, ◌&&◌, List, [], ◌∷◌, ◌++◌, Option, Some, None, is_some, length, nat_eq, nat_le, refl, sym, ◌∙◌, ap, append_assoc, append-nil}
+use Rattle.std.proofs.Common.{◌≡◌, ℕ, zero, suc, ◌+◌, ◌-◌, ◌≤◌, Bool, true, false, cond, ◌&&◌, List, [], ◌∷◌, ◌++◌, Option, Some, None, length, nat_eq, nat_le, refl, sym, ◌∙◌, ap, append_assoc}
 use denote.Bor.{Bor}
 use Rattle.std.specs.Prelude.{slice_get}
 use Rattle.std.specs.List.{list_all, find, filter_map, flat_map, cons_option}
@@ -18,7 +18,7 @@ use Rattle.global_order.specs.Taken.{Taken}
 use Rattle.protocol_rules.specs.Plans.{first_plan}
 use Rattle.protocol_rules.specs.Order.{ordered, plan_in, plan_known, proposal_in, offered}
 use Rattle.leader_offers.specs.Counting.{are_few}
-use Rattle.leader_offers.proofs.Growing.{offered_by, offered-is}
+use Rattle.leader_offers.proofs.Growing.{offered_by}
 
 -- all rows that the facts make known are few
 unfoldable pub all_few : List OrderFact → Bool

@@ -3,7 +3,6 @@ use Rattle.std.proofs.Common.{◌≡◌, ℕ, zero, suc, ◌+◌, ◌%◌, ◌�
 use Rattle.std.specs.List.{list_all, flat_map}
 use Rattle.std.specs.Str.{bytes_eq}
 use Rattle.std.proofs.lemmas.Bool.{and_parts, and_from, le-leb, eqb-true, false≢true}
-use Rattle.std.proofs.lemmas.Option.{none-some, same_Some}
 use Rattle.std.proofs.lemmas.List.{length-map}
 use Rattle.std.proofs.lemmas.List.Folds.{list_all-append}
 use Rattle.std.proofs.lemmas.Grind.{flat_map-append}
@@ -14,15 +13,15 @@ use Rattle.message_types.specs.declared.views.Report.{Report}
 use Rattle.message_types.specs.declared.body.Body.{Body}
 use Rattle.message_types.specs.declared.body.Body.TheVariants as body
 use Rattle.message_types.specs.Digests.{digest_of_rows}
-use Rattle.message_types.specs.Parts.{as_frame, frames_of, request_parts, inside_report, inside, parts}
+use Rattle.message_types.specs.Parts.{as_frame, frames_of, inside_report, inside, parts}
 use Rattle.quorum_sets.specs.Masters.{numbers_below}
 use Rattle.protocol_rules.specs.declared.facts.OrderFact.{OrderFact}
 use Rattle.protocol_rules.specs.declared.facts.OrderFact.TheVariants as fact
-use Rattle.protocol_rules.specs.Words.{best_from, best_by, numbers_from}
+use Rattle.protocol_rules.specs.Words.{best_from, best_by}
 use Rattle.protocol_rules.specs.Group.{Group, most_number, window, mark_step}
 use Rattle.protocol_rules.specs.Places.{is_number, is_view, is_row, are_rows, certificate_in_place, report_in_place, word_in_place, in_place}
 use Rattle.protocol_rules.specs.Matrix.{rows_of_frames}
-use Rattle.protocol_rules.specs.Plans.{goes_before, certificates_of, chosen, no_rows, planned, base_of, last_of, plan_of}
+use Rattle.protocol_rules.specs.Plans.{goes_before, certificates_of, chosen, no_rows, planned, plan_of}
 use Rattle.protocol_rules.specs.Facts.{tells, facts_of, rows_in, rows_known}
 use Rattle.summary_matrix.proofs.Loops.{below_none_at, below_one_more}
 use Rattle.leader_offers.specs.Counting.{are_few}

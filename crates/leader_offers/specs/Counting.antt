@@ -1,5 +1,5 @@
 -- What a leader counts as offered in a view, and the number that it offers next.
-use Rattle.std.specs.Prelude.{ℕ, ◌+◌, ◌≤◌, Bool, ◌&&◌, List, [], Option, Some, None, IsSome, IsTrue, length, max, nat_le, if◌then◌else◌}
+use Rattle.std.specs.Prelude.{ℕ, ◌+◌, ◌≤◌, Bool, ◌&&◌, List, Option, Some, None, IsSome, IsTrue, length, max, nat_le, if◌then◌else◌}
 use Rattle.std.specs.List.{list_all, filter_map}
 use Rattle.std.specs.Option.{option_and_then}
 use Rattle.message_types.specs.declared.views.Plan.{Plan}

@@ -1,4 +1,4 @@
-use Rattle.std.proofs.Common.{◌≡◌, ◌≤◌, ◌++◌, ◌&&◌, ℕ, List, take, nat_le}
+use Rattle.std.proofs.Common.{◌≡◌, ◌++◌, ◌&&◌, ℕ, List, take, nat_le}
 use Rattle.std.specs.List.{list_any}
 use Rattle.message_types.specs.declared.body.Body.{Body}
 use Rattle.protocol_rules.specs.Master.{vouchers_said, vouchers_from}

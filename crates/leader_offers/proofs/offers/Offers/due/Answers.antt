@@ -1,6 +1,5 @@
-use Rattle.std.proofs.Common.{◌≡◌, ◌++◌, [], Some, None, List, sym, ◌∙◌, ap, subst, append-nil}
+use Rattle.std.proofs.Common.{Some, None, List, sym, ◌∙◌, ap, subst, append-nil}
 use Rattle.message_types.specs.declared.body.Body.{Body}
-use Rattle.protocol_rules.specs.Group.{Group}
 use Rattle.protocol_rules.specs.Order.{plan_known}
 use Rattle.leader_offers.specs.Offering.{Offered, AreOffersOf}
 use Rattle.leader_offers.proofs.Offering.{group-few, plan-allowed, nothing-due, answer-due, number-some, settled-below, kept-settled, kept-offered}
@@ -64,5 +63,5 @@ returns-in-Some-2-clause-said c = λ g said order is.
     record {
       sizes = before.sizes;
       progress = kept-offered g c.settle-settled.result c.offer-self-inside.result facts said c.in-Some.plan.now c.stable.result c.args.view c.in-Some-next_number.number c.in_view-present.result.greatest c.in-Some-2.frames
-      (c.settle-settled.ensures.view ∙ c.in_view-present.ensures.view) c.settle-settled.ensures.greatest c.in-Some-next_number.ensures c.offer-self-inside.ensures kept;
+          (c.settle-settled.ensures.view ∙ c.in_view-present.ensures.view) c.settle-settled.ensures.greatest c.in-Some-next_number.ensures c.offer-self-inside.ensures kept;
     }

@@ -1,4 +1,4 @@
-use Rattle.std.proofs.Common.{◌≡◌, ◌+◌, ◌-◌, ◌^◌, ◌<◌, ◌≤◌, ℕ, length, max, inl, inr, ◌∙◌, ap, arith, rules}
+use Rattle.std.proofs.Common.{◌≡◌, ◌+◌, ◌-◌, ◌^◌, ◌<◌, ◌≤◌, length, max, inl, inr, ◌∙◌, ap, arith, rules}
 use Rattle.leader_offers.proofs.Offering.{sum-within, sum-beyond, within-some, within-none}
 use Rattle.leader_offers.proofs.progress.Progress.next_number.Goals as goal
 use Rattle.leader_offers.proofs.progress.Progress.next_number.Goals.{then-number-gt-MOST_NUMBER-via-then-number-gt-MOST_NUMBER, then-number-gt-MOST_NUMBER-via-else-number-gt-MOST_NUMBER+then-saturating_sub-gt-WINDOW}

@@ -1,4 +1,4 @@
-use Rattle.std.proofs.Common.{◌≡◌, ◌+◌, ◌≤◌, ℕ, ◌∙◌, ap, subst, arith}
+use Rattle.std.proofs.Common.{◌≡◌, ℕ, subst, arith}
 use Rattle.summary_matrix.specs.Held.{TellsEach}
 use Rattle.leader_offers.specs.Counting.{reach_to}
 use Rattle.leader_offers.proofs.Reaching.{raised}

@@ -1,5 +1,4 @@
-use Rattle.std.proofs.Common.{◌≡◌, ◌+◌, ◌≤◌, ℕ, max, Some, is_some, sym, ◌∙◌, ap, subst, arith, rules}
-use Rattle.protocol_rules.specs.Group.{Group}
+use Rattle.std.proofs.Common.{◌≡◌, ℕ, subst, arith, rules}
 use Rattle.leader_offers.specs.Counting.{IsSettled}
 use Rattle.leader_offers.proofs.Offering.{settled-record}
 use Rattle.leader_offers.proofs.Reaching.{settled-more}

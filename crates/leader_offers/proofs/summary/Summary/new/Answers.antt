@@ -1,4 +1,4 @@
-use Rattle.std.proofs.Common.{◌≡◌, ◌≤◌, length, refl, arith}
+use Rattle.std.proofs.Common.{refl, arith}
 use Rattle.protocol_rules.specs.Group.{group_of}
 use Rattle.summary_matrix.proofs.Loops.{masters_few}
 use Rattle.leader_offers.proofs.Summing.{summary-none}
