@@ -24,6 +24,8 @@ pub record Offered : Type 0 where
   pub quorum : ℕ
   pub progress : Progress
 
+-- The offers of a master of this group that said these words where these facts are known: they don't depend on how many
+-- clients there are.
 pub record AreOffersOf (g : Group) (kept : Offered) (facts : List OrderFact) (said : List Body) : Type 0 where
   pub sizes : HasSizes g kept.masters kept.quorum
   pub progress : IsProgressOf g kept.progress facts said

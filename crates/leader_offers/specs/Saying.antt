@@ -13,6 +13,7 @@ pub record SummedUp : Type 0 where
   pub masters : ℕ
   pub numbers : List ℕ
 
+-- the summary of a master of this group that said these words: the last vector said, zeros before the first
 pub record IsSummaryOf (g : Group) (kept : SummedUp) (said : List Body) : Type 0 where
   pub masters : g.n ≡ kept.masters
   pub last : kept.numbers ≡ last_or (map (λ j. 0) (numbers_below g.n)) (filter_map summary_in said)
