@@ -1,0 +1,20 @@
+use Rattle.std.proofs.Common.{◌≡◌, ℕ, subst, arith, rules}
+use Rattle.leader_offers.specs.Counting.{IsSettled}
+use Rattle.leader_offers.proofs.Offering.{settled-record}
+use Rattle.leader_offers.proofs.Reaching.{settled-more}
+use Rattle.leader_offers.proofs.progress.Progress.settle.Goals as goal
+
+pub loop-settled-preserved : goal.loop-settled-preserved
+loop-settled-preserved c = λ g is sizes known before.
+    settled-more g c.args.order.now.facts c.args.self.now.view c.loop-settled.settled c.args.plan.now c.args.sizes.now c.loop-settled.reach.numbers c.raise_by.new.reach.numbers _
+    sizes.quorum known (c.counted-rows.ensures.rows g is) (search rules) (c.raise_by.ensures 0) (c.loop-settled.invariant g is sizes known before)
+
+pub returns-then-is_none-clause-settled : goal.returns-then-is_none-clause-settled
+returns-then-is_none-clause-settled c = λ g is sizes known before.
+    settled-record g c.args.order.now.facts c.args.self.now c.settled_at.result c.loop-settled.settled c.loop-settled.reach c.settled_at.ensures (c.loop-settled.invariant g is sizes known before)
+
+pub returns-clause-settled : goal.returns-clause-settled
+returns-clause-settled c = λ g is sizes known before.
+    let last : c.loop-settled.settled ≡ c.max-end.result = omega arith in
+    settled-record g c.args.order.now.facts c.args.self.now c.settled_at-2.result c.max-end.result c.loop-settled.reach c.settled_at-2.ensures
+    (subst (λ (n : ℕ). IsSettled g c.args.order.now.facts c.args.self.now.view n c.loop-settled.reach.numbers) last (c.loop-settled.invariant g is sizes known before))

@@ -1,0 +1,17 @@
+//! What a leader offers and what a master sums up at a tick, after Prime's pre-prepares and summaries, and the
+//! vouchers of a master. Each keeps what is needed of the words said, so that nothing is looked through again.
+#![tactic(auto)]
+
+mod counted;
+pub mod laws;
+pub mod offers;
+pub mod progress;
+pub mod summary;
+#[cfg(test)]
+mod tests;
+pub mod vouchers;
+
+pub use offers::Offers;
+pub use progress::Progress;
+pub use summary::Summary;
+pub use vouchers::Vouchers;
