@@ -12,6 +12,7 @@ use Rattle.global_order.specs.Offered.{fits, plan_fits}
 use Rattle.global_order.specs.Taken.{HasSizes}
 use Rattle.global_order.specs.declared.choices.Choices.{Choices}
 use Rattle.global_order.specs.declared.order.Order.TheInside.{Inside}
+use Rattle.global_order.proofs.Highest.{highest-kept}
 use Rattle.global_order.proofs.Runs.{reaches-same}
 
 pub record AreAlike (a b : Choices) : Type 0 where
@@ -20,6 +21,7 @@ pub record AreAlike (a b : Choices) : Type 0 where
   pub backed : b.backed.items ≡ a.backed.items
   pub ordered : KeepsOrders a.ordered b.ordered
   pub committed : b.committed.items ≡ a.committed.items
+  pub highest : b.highest ≡ a.highest
 
 pub keeps-itself : (a : Choices) → KeepsSlots a.prepared a.prepared
 keeps-itself a = record { first = λ k. refl; least = λ k. refl; places = λ k e. e }
@@ -54,6 +56,7 @@ pub record IsLike (a b : Inside) : Type 0 where
   pub commits : b.commits.entries ≡ a.commits.entries
   pub marks : b.marks.entries ≡ a.marks.entries
   pub choices : AreAlike a.choices b.choices
+  pub views : b.views.entries ≡ a.views.entries
   pub first_plan : b.offers.first_plan ≡ a.offers.first_plan
   pub plans : b.offers.plans.entries ≡ a.offers.plans.entries
   pub proposals : b.offers.proposals.entries ≡ a.offers.proposals.entries
@@ -69,6 +72,7 @@ held-alike a b like held = record {
   commits = λ v s d m. rw (like.commits, like.facts) (held.commits v s d m);
   marks = λ s m. rw (like.marks, like.facts) (held.marks s m);
   choices = λ g is. rw like.facts (choices-alike _ _ _ _ _ a.choices b.choices like.choices (held.choices g record { masters = is.masters ∙ like.sizes.0; quorum = is.quorum ∙ like.sizes.1 }));
+  views = λ g is s d. rw (like.views, like.facts) (held.views g record { masters = is.masters ∙ like.sizes.0; quorum = is.quorum ∙ like.sizes.1 } s d);
   offers = record {
     first = like.first_plan ∙ held.offers.first;
     plans = λ v. rw (like.plans, like.facts) (held.offers.plans v);
@@ -85,5 +89,6 @@ held-alike a b like held = record {
   marked_limit = rw (like.marked, like.gapless) held.marked_limit;
   stable = λ g is. rw (like.stable, like.facts) (held.stable g record { masters = is.masters ∙ like.sizes.0; quorum = is.quorum ∙ like.sizes.1 });
   stable_limit = rw like.stable held.stable_limit;
+  highest = rw like.choices.highest (highest-kept a.choices.ordered b.choices.ordered a.choices.highest like.choices.ordered held.highest);
   gapless = rw like.gapless (reaches-same (λ s. order_in (get nat_eq a.choices.ordered s)) (λ s. order_in (get nat_eq b.choices.ordered s)) a.gapless (λ s. sym (like.choices.ordered.order s)) held.gapless);
 }

@@ -10,10 +10,11 @@ use Rattle.message_types.specs.Digests.{digest_of_rows}
 use Rattle.quorum_sets.specs.Masters.{numbers_below}
 use Rattle.protocol_rules.specs.declared.facts.OrderFact.{OrderFact}
 use Rattle.protocol_rules.specs.Group.{Group, most_number}
-use Rattle.protocol_rules.specs.Words.{first_met, first_of_list, greatest_to}
+use Rattle.protocol_rules.specs.Words.{first_met, first_of_list, greatest_of, greatest_to}
 use Rattle.protocol_rules.specs.Facts.{rows_known}
 use Rattle.protocol_rules.specs.Plans.{first_plan}
 use Rattle.protocol_rules.specs.Order.{prepare_by, mark_by, is_voted, is_committed, prepared, ordered, stable}
+use Rattle.protocol_rules.specs.Reconcile.{committed_views}
 use Rattle.global_order.specs.Choosing.{has_digest, is_known, IsChosen, IsLeast}
 use Rattle.global_order.specs.Taken.{HasSizes}
 use Rattle.global_order.specs.Index.{Agrees, HasChoices, Reaches, first_in, least_in, order_in, is_backing, is_ordering, same_pair}
@@ -48,6 +49,9 @@ unfolding greatest_to
 none-greatest zero = refl
 none-greatest (suc most) = none-greatest most
 
+nothing-viewed : (g : Group) (s : ℕ) (d : List ℕ) → committed_views g [] s d ≡ []
+nothing-viewed g s d = refl
+
 nothing-stable : (g : Group) → 1 ≤ g.q → stable g [] ≡ 0
 unfolding stable
 nothing-stable g some = (λ i. greatest_to (λ s. no-quorum g (mark_by s) some i) most_number) ∙ none-greatest most_number
@@ -74,13 +78,14 @@ not-positive : (s : ℕ) → 1 ≤ s → false ≡ nat_le s 0
 not-positive s low = sym (lt-leb s 0 low)
 
 pub held-new : (a : Inside) → 1 ≤ a.sizes.q → a.facts.items ≡ [] → a.said.items ≡ [] → a.prepares.entries ≡ [] → a.commits.entries ≡ [] → a.marks.entries ≡ [] →
-    a.choices.rows.entries ≡ [] → a.choices.prepared.entries ≡ [] → a.choices.backed.items ≡ [] → a.choices.ordered.entries ≡ [] → a.choices.committed.items ≡ [] →
+    a.choices.rows.entries ≡ [] → a.choices.prepared.entries ≡ [] → a.choices.backed.items ≡ [] → a.choices.ordered.entries ≡ [] → a.choices.committed.items ≡ [] → a.choices.highest ≡ 0 → a.views.entries ≡ [] →
     a.offers.first_plan ≡ first_plan → a.offers.plans.entries ≡ [] → a.offers.proposals.entries ≡ [] → a.told.prepares.keys ≡ [] → a.told.commits.keys ≡ [] → a.told.marked ≡ 0 → a.stable ≡ 0 → a.gapless ≡ 0 → IsHeld a
-held-new a some facts said prepares commits marks rows slots backed orders committed first plans proposals told_prepares told_commits marked stable_is gapless_is = record {
+held-new a some facts said prepares commits marks rows slots backed orders committed highest_is views first plans proposals told_prepares told_commits marked stable_is gapless_is = record {
   prepares = λ v s d m. rw (prepares, facts) refl;
   commits = λ v s d m. rw (commits, facts) refl;
   marks = λ s m. rw (marks, facts) refl;
   choices = λ g is. rw facts (empty-choices g a.choices (enough g is) rows slots backed orders committed);
+  views = λ g is s d. rw (facts, views) (sym (ap greatest_of (nothing-viewed g s d)));
   offers = record { first = first; plans = λ v. rw (plans, facts) refl; proposals = λ v s. rw (proposals, facts) refl };
   fit = record { first = rw first refl; plans = λ v. rw plans refl; proposals = λ k. rw proposals refl };
   prepares_said = λ v s. rw (told_prepares, said) refl;
@@ -89,6 +94,7 @@ held-new a some facts said prepares commits marks rows slots backed orders commi
   marked_limit = omega arith;
   stable = λ g is. rw facts (stable_is ∙ sym (nothing-stable g (enough g is)));
   stable_limit = let z : 0 ≤ most_number = omega arith in rw stable_is z;
+  highest = rw highest_is (record { limit = omega arith; there = λ low. absurd (omega arith); above = λ s high le. ap (λ es. order_in (lookup (nat_eq s) es)) orders });
   gapless = rw gapless_is (record {
     limit = omega arith;
     without_gap = λ s low high. absurd (omega arith);

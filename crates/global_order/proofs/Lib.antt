@@ -11,6 +11,8 @@ pub mod Answering
 pub mod Marking
 pub mod Alike
 pub mod Taking
+pub mod Highest
+pub mod Viewing
 pub mod Saying
 pub mod Beginning
 pub mod Certifying

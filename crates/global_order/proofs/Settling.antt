@@ -180,19 +180,19 @@ agrees-again known r digest prepares first commits order c is_digest there agree
 
 -- rows of a new digest
 pub agrees-new : (known : List (List (List ℕ))) (r : List (List ℕ)) (digest : List ℕ) (prepares : ℕ × ℕ → List ℕ → Bool) (first : ℕ × ℕ → Option (List ℕ)) (commits : ℕ → List ℕ → Bool) (order : ℕ → Option (List ℕ)) (c : Choices)
-    (rows : Map (List ℕ) (List (List ℕ))) (slots : Map (ℕ × ℕ) Slot) (orders : Map ℕ (Option (List ℕ))) →
+    (rows : Map (List ℕ) (List (List ℕ))) (slots : Map (ℕ × ℕ) Slot) (orders : Map ℕ (Option (List ℕ))) (highest : ℕ) →
     digest ≡ digest_of_rows r → false ≡ is_some (get bytes_eq c.rows digest) → ((d : List ℕ) → get bytes_eq rows d ≡ cond (bytes_eq digest d) (Some r) (get bytes_eq c.rows d)) →
     TakesDigest (λ k. list_any (is_backing k digest) c.backed.items) digest c.prepared slots → TakesOrder (λ s. list_any (is_ordering s digest) c.committed.items) digest c.ordered orders →
     Agrees known prepares first commits order c →
     Agrees (known ++ r ∷ []) prepares (with_rows prepares first (digest_of_rows r)) commits (with_rows commits order (digest_of_rows r))
-    record { rows = rows; prepared = slots; backed = c.backed; ordered = orders; committed = c.committed }
-agrees-new known r digest prepares first commits order c rows slots orders is_digest absent put takes orders_take agrees =
+    record { rows = rows; prepared = slots; backed = c.backed; ordered = orders; committed = c.committed; highest = highest }
+agrees-new known r digest prepares first commits order c rows slots orders highest is_digest absent put takes orders_take agrees =
     with (rw is_digest at absent) (rw is_digest at put) (rw is_digest at takes) (rw is_digest at orders_take)
   where
     with : false ≡ is_some (get bytes_eq c.rows (digest_of_rows r)) → ((d : List ℕ) → get bytes_eq rows d ≡ cond (bytes_eq (digest_of_rows r) d) (Some r) (get bytes_eq c.rows d)) →
         TakesDigest (λ k. list_any (is_backing k (digest_of_rows r)) c.backed.items) (digest_of_rows r) c.prepared slots → TakesOrder (λ s. list_any (is_ordering s (digest_of_rows r)) c.committed.items) (digest_of_rows r) c.ordered orders →
         Agrees (known ++ r ∷ []) prepares (with_rows prepares first (digest_of_rows r)) commits (with_rows commits order (digest_of_rows r))
-        record { rows = rows; prepared = slots; backed = c.backed; ordered = orders; committed = c.committed }
+        record { rows = rows; prepared = slots; backed = c.backed; ordered = orders; committed = c.committed; highest = highest }
     with absent put takes orders_take = record {
       rows = rows-new known r c.rows rows unknown put agrees.rows;
       prepared = chosen-rows-new known r prepares first _ _ _ _ _ unknown takes.first (λ k e. takes.places k ∙ e) agrees.prepared;
@@ -226,7 +226,7 @@ agrees-new known r digest prepares first commits order c rows slots orders is_di
 pub agrees-backed : (known : List (List (List ℕ))) (key : ℕ × ℕ) (d : List ℕ) (prepares : ℕ × ℕ → List ℕ → Bool) (first : ℕ × ℕ → Option (List ℕ)) (commits : ℕ → List ℕ → Bool) (order : ℕ → Option (List ℕ)) (c : Choices) (slots : Map (ℕ × ℕ) Slot) →
     true ≡ is_some (get bytes_eq c.rows d) → TakesDigest (same_pair key) d c.prepared slots → Agrees known prepares first commits order c →
     Agrees known (with_quorum same_pair key d prepares) (with_choice same_pair key d known first) commits order
-    record { rows = c.rows; prepared = slots; backed = c.backed; ordered = c.ordered; committed = c.committed }
+    record { rows = c.rows; prepared = slots; backed = c.backed; ordered = c.ordered; committed = c.committed; highest = c.highest }
 agrees-backed known key d prepares first commits order c slots there takes agrees = record {
   rows = agrees.rows;
   prepared = chosen-backed same_pair known key d prepares _ first _ _ _ _ _ _ knows (λ k e. refl) (λ k. ap (λ b. or_else (first k) (cond (same_pair key k && b) (Some d) None)) knows ∙ ap (λ b. or_else (first k) (cond b (Some d) None)) (true-and (same_pair key k)))
@@ -279,11 +279,11 @@ agrees-waits known q prepares first commits order c after absent place pushed ro
     apart false n true true e = e refl
 
 -- a quorum of commits whose rows are known
-pub agrees-committed : (known : List (List (List ℕ))) (s : ℕ) (d : List ℕ) (prepares : ℕ × ℕ → List ℕ → Bool) (first : ℕ × ℕ → Option (List ℕ)) (commits : ℕ → List ℕ → Bool) (order : ℕ → Option (List ℕ)) (c : Choices) (orders : Map ℕ (Option (List ℕ))) →
+pub agrees-committed : (known : List (List (List ℕ))) (s : ℕ) (d : List ℕ) (prepares : ℕ × ℕ → List ℕ → Bool) (first : ℕ × ℕ → Option (List ℕ)) (commits : ℕ → List ℕ → Bool) (order : ℕ → Option (List ℕ)) (c : Choices) (orders : Map ℕ (Option (List ℕ))) (highest : ℕ) →
     true ≡ is_some (get bytes_eq c.rows d) → TakesOrder (nat_eq s) d c.ordered orders → Agrees known prepares first commits order c →
     Agrees known prepares first (with_quorum nat_eq s d commits) (with_choice nat_eq s d known order)
-    record { rows = c.rows; prepared = c.prepared; backed = c.backed; ordered = orders; committed = c.committed }
-agrees-committed known s d prepares first commits order c orders there takes agrees = record {
+    record { rows = c.rows; prepared = c.prepared; backed = c.backed; ordered = orders; committed = c.committed; highest = highest }
+agrees-committed known s d prepares first commits order c orders highest there takes agrees = record {
   rows = agrees.rows;
   prepared = agrees.prepared;
   least = agrees.least;

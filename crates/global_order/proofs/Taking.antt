@@ -41,7 +41,7 @@ false-and true = refl
 false-and false = refl
 
 -- the view of a commit for a number and a digest
-abbrev view_of : ℕ → List ℕ → OrderFact → Option ℕ
+abbrev pub view_of : ℕ → List ℕ → OrderFact → Option ℕ
 view_of s digest f = elim f [ fact.Commit c ↦ cond (nat_eq c.body.s s && bytes_eq c.body.digest digest) (Some c.body.v) None | _ ↦ None ]
 
 -- the fact is no vote that the choices go by
@@ -50,7 +50,7 @@ pub record IsNoVote (x : OrderFact) : Type 0 where
   pub commit : (v s : ℕ) (d : List ℕ) (m : ℕ) → commit_by v s d m x ≡ None
   pub view : (s : ℕ) (d : List ℕ) → view_of s d x ≡ None
 
-views-push : (facts : List OrderFact) (x : OrderFact) (s : ℕ) (d : List ℕ) → commit_views (facts ++ x ∷ []) s d ≡ commit_views facts s d ++ cons_option (view_of s d x) []
+pub views-push : (facts : List OrderFact) (x : OrderFact) (s : ℕ) (d : List ℕ) → commit_views (facts ++ x ∷ []) s d ≡ commit_views facts s d ++ cons_option (view_of s d x) []
 views-push facts x s d = filter_map-append (view_of s d) facts (x ∷ [])
 
 committed-other : (g : Group) (facts : List OrderFact) (x : OrderFact) (s : ℕ) (d : List ℕ) → ((v m : ℕ) → commit_by v s d m x ≡ None) → view_of s d x ≡ None → is_committed g (facts ++ x ∷ []) s d ≡ is_committed g facts s d

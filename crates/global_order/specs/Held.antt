@@ -5,7 +5,8 @@ use Rattle.std.specs.Prelude.{nat_eq}
 use Rattle.protocol_rules.specs.Group.{Group, most_number}
 use Rattle.protocol_rules.specs.Order.{stable}
 use Rattle.global_order.specs.Taken.{Taken, HasSizes}
-use Rattle.global_order.specs.Index.{HasPrepares, HasCommits, HasMarks, HasChoices, Reaches, order_in}
+use Rattle.global_order.specs.Index.{HasPrepares, HasCommits, HasMarks, HasChoices, HasHighestOrder, Reaches, order_in}
+use Rattle.global_order.specs.Giving.{HasViews}
 use Rattle.global_order.specs.Offered.{HasOffers, OffersFit}
 use Rattle.global_order.specs.Saying.{HasSaidPrepares, HasSaidCommits, HasMarked}
 use Rattle.global_order.specs.declared.order.Order.TheInside.{Inside}
@@ -18,6 +19,7 @@ pub record IsHeld (a : Inside) : Type 0 where
   pub commits : HasCommits a.facts.items a.commits
   pub marks : HasMarks a.facts.items a.marks
   pub choices : (g : Group) → HasSizes g a.sizes.n a.sizes.q → HasChoices g a.facts.items a.choices
+  pub views : (g : Group) → HasSizes g a.sizes.n a.sizes.q → HasViews g a.facts.items a.views
   pub offers : HasOffers a.facts.items a.offers
   pub fit : OffersFit a.offers
   pub prepares_said : HasSaidPrepares a.said.items a.told.prepares
@@ -26,4 +28,5 @@ pub record IsHeld (a : Inside) : Type 0 where
   pub marked_limit : a.told.marked ≤ a.gapless
   pub stable : (g : Group) → HasSizes g a.sizes.n a.sizes.q → a.stable ≡ stable g a.facts.items
   pub stable_limit : a.stable ≤ most_number
+  pub highest : HasHighestOrder a.choices
   pub gapless : Reaches (λ s. order_in (get nat_eq a.choices.ordered s)) a.gapless

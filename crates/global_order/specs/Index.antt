@@ -1,5 +1,5 @@
 -- The index beside the list of facts: each part of it agrees with a definition over the list.
-use Rattle.std.specs.Prelude.{◌≡◌, ℕ, suc, ◌≤◌, ◌<◌, IsSome, Bool, ◌&&◌, ◌||◌, List, ◌++◌, ◌∷◌, [], true, Option, Some, None, is_some, nat_eq, if◌then◌else◌}
+use Rattle.std.specs.Prelude.{◌≡◌, ◌⊎◌, ℕ, suc, ◌≤◌, ◌<◌, IsSome, Bool, ◌&&◌, ◌||◌, List, ◌++◌, ◌∷◌, [], true, Option, Some, None, is_some, nat_eq, if◌then◌else◌}
 use Rattle.std.specs.List.{filter_map, find, list_any}
 use Rattle.std.specs.Option.{option_map}
 use Rattle.std.specs.Str.{bytes_eq}
@@ -163,6 +163,23 @@ pub record Reaches (f : ℕ → Option (List ℕ)) (reach : ℕ) : Type 0 where
   pub limit : reach ≤ most_number
   pub without_gap : (s : ℕ) → 1 ≤ s → s ≤ reach → IsSome (f s)
   pub stops : reach < most_number → f (suc reach) ≡ None
+
+-- the greatest of the numbers that f gives something of, 0 where there is none
+pub record HasHighest (f : ℕ → Option (List ℕ)) (highest : ℕ) : Type 0 where
+  pub limit : highest ≤ most_number
+  pub there : 1 ≤ highest → IsSome (f highest)
+  pub above : (s : ℕ) → highest < s → s ≤ most_number → f s ≡ None
+
+-- the greatest number ordered
+abbrev pub HasHighestOrder : Choices → Type 0
+HasHighestOrder choices = HasHighest (λ s. order_in (get nat_eq choices.ordered s)) choices.highest
+
+-- the number rose to the greatest of those that pass, unless it was greater
+pub record RisesTo (passes : ℕ → Bool) (old new : ℕ) : Type 0 where
+  pub from : old ≤ new
+  pub limit : old ≤ most_number → new ≤ most_number
+  pub one_of : (new ≡ old) ⊎ (passes new ≡ true)
+  pub covers : (s : ℕ) → passes s ≡ true → s ≤ most_number → s ≤ new
 
 -- what is ordered stays ordered
 abbrev pub OrdersGrow : Map ℕ (Option (List ℕ)) → Map ℕ (Option (List ℕ)) → Type 0

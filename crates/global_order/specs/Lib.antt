@@ -3,4 +3,5 @@ pub mod Choosing
 pub mod Index
 pub mod Offered
 pub mod Saying
+pub mod Giving
 pub mod Held

@@ -4,9 +4,9 @@ ghost use Rattle.std.specs.List.{list_all};
 ghost use Rattle.indexmap.specs.IndexMap.{spare, get};
 ghost use Rattle.message_types.specs.Digests.{digest_of_rows};
 ghost use Rattle.message_types.specs.Spelling.{rows_fit};
-ghost use Rattle.global_order.specs.Index.{Agrees, HasPlaces, OrdersGrow, same_pair, with_rows, with_all, with_quorum, with_choice};
+ghost use Rattle.global_order.specs.Index.{Agrees, HasHighestOrder, HasPlaces, OrdersGrow, same_pair, with_rows, with_all, with_quorum, with_choice};
 
-use crate::orders::{Orders, put_order, settle_orders};
+use crate::orders::{Orders, put_order, raised_to, raised_to_settled, settle_orders};
 use crate::quorum::Quorum;
 use crate::slots::{Slots, put_digest, settle_slots};
 use indexmap::IndexMap;
@@ -26,6 +26,8 @@ pub struct Choices {
     pub ordered: Orders,
     /// The quorums of commits that wait for their rows.
     pub committed: Vec<Quorum>,
+    /// The greatest number ordered, 0 where there is none.
+    pub highest: u64,
 }
 
 /// Makes rows known.
@@ -39,6 +41,7 @@ pub fn learn(choices: &mut Choices, rows: Rows)
         → Agrees (known ++ rows ∷ []) prepares (with_rows prepares first (digest_of_rows rows)) commits (with_rows commits order (digest_of_rows rows)) choices.new }
     ensures room { spare choices.old.rows ≤ spare choices.new.rows + 1 }
     ensures grow { OrdersGrow choices.old.ordered choices.new.ordered }
+    ensures highest { HasHighestOrder choices.old → HasHighestOrder choices.new }
 {
     let digest = rows_digest(&rows);
     if choices.rows.contains_key(&digest) {
@@ -46,6 +49,7 @@ pub fn learn(choices: &mut Choices, rows: Rows)
     }
     settle_slots(&mut choices.prepared, &choices.backed, digest);
     settle_orders(&mut choices.ordered, &choices.committed, digest);
+    choices.highest = raised_to_settled(choices.highest, &choices.committed, digest);
     choices.rows.insert(digest, rows).unwrap();
 }
 
@@ -58,6 +62,7 @@ pub fn learn_all(choices: &mut Choices, all: Vec<Rows>)
         → Agrees known prepares first commits order choices.old
         → Agrees (known ++ all.items) prepares (with_all prepares first all.items) commits (with_all commits order all.items) choices.new }
     ensures grow { OrdersGrow choices.old.ordered choices.new.ordered }
+    ensures highest { HasHighestOrder choices.old → HasHighestOrder choices.new }
 {
     for rows in all {
         learn(choices, rows);
@@ -73,6 +78,7 @@ pub fn note_if_prepared(choices: &mut Choices, is_new: bool, v: u64, s: u64, dig
         → Agrees known (with_quorum same_pair (v, s) digest prepares) (with_choice same_pair (v, s) digest known first) commits order choices.new) }
     ensures old { OnFalse is_new (choices.new ≡ choices.old) }
     ensures ordered { choices.new.ordered ≡ choices.old.ordered }
+    ensures highest { choices.new.highest ≡ choices.old.highest }
 {
     if is_new {
         note_prepared(choices, v, s, digest);
@@ -88,6 +94,7 @@ pub fn note_if_committed(choices: &mut Choices, is_new: bool, v: u64, s: u64, di
         → Agrees known prepares first (with_quorum nat_eq s digest commits) (with_choice nat_eq s digest known order) choices.new) }
     ensures old { OnFalse is_new (choices.new ≡ choices.old) }
     ensures grow { OrdersGrow choices.old.ordered choices.new.ordered }
+    ensures highest { HasHighestOrder choices.old → HasHighestOrder choices.new }
 {
     if is_new {
         note_committed(choices, v, s, digest);
@@ -102,6 +109,7 @@ fn note_prepared(choices: &mut Choices, v: u64, s: u64, digest: [u8; 32])
         → Agrees known prepares first commits order choices.old
         → Agrees known (with_quorum same_pair (v, s) digest prepares) (with_choice same_pair (v, s) digest known first) commits order choices.new }
     ensures ordered { choices.new.ordered ≡ choices.old.ordered }
+    ensures highest { choices.new.highest ≡ choices.old.highest }
 {
     if choices.rows.contains_key(&digest) {
         put_digest(&mut choices.prepared, v, s, digest);
@@ -118,9 +126,11 @@ fn note_committed(choices: &mut Choices, v: u64, s: u64, digest: [u8; 32])
         → Agrees known prepares first commits order choices.old
         → Agrees known prepares first (with_quorum nat_eq s digest commits) (with_choice nat_eq s digest known order) choices.new }
     ensures grow { OrdersGrow choices.old.ordered choices.new.ordered }
+    ensures highest { HasHighestOrder choices.old → HasHighestOrder choices.new }
 {
     if choices.rows.contains_key(&digest) {
         put_order(&mut choices.ordered, s, digest);
+        choices.highest = raised_to(choices.highest, s);
         return;
     }
     choices.committed.push(Quorum { v, s, digest }).unwrap();

@@ -6,6 +6,7 @@
 mod certificates;
 mod choices;
 mod due;
+mod gifts;
 pub mod laws;
 mod offers;
 pub mod order;

@@ -1,8 +1,9 @@
 ghost use Rattle.std.specs.Prelude.{◌≡◌, ◌≤◌, ℕ, List, None, Some, OnOk, IsTrue, is_some, nat_eq};
 ghost use Rattle.std.specs.List.{list_any};
 ghost use Rattle.indexmap.specs.IndexMap.{get};
+ghost use Rattle.protocol_rules.specs.Group.{most_number};
 ghost use Rattle.protocol_rules.specs.Words.{or_else};
-ghost use Rattle.global_order.specs.Index.{order_in, is_ordering, KeepsOrders, TakesOrder, Reaches, ReachesLess};
+ghost use Rattle.global_order.specs.Index.{order_in, is_ordering, KeepsOrders, TakesOrder, Reaches, ReachesLess, RisesTo};
 
 use crate::quorum::Quorum;
 use indexmap::IndexMap;
@@ -47,6 +48,30 @@ pub fn settle_orders(orders: &mut Orders, waiting: &[Quorum], digest: [u8; 32])
             put_order(orders, quorum.s, digest);
         }
     }
+}
+
+/// The number raised to another one that is ordered now.
+pub fn raised_to(highest: u64, s: u64) -> u64
+    ensures { RisesTo (nat_eq s) highest result }
+{
+    if s <= MOST_NUMBER {
+        highest.max(s)
+    } else {
+        highest
+    }
+}
+
+/// The number raised to the greatest of those whose quorums waited for rows of this digest.
+pub fn raised_to_settled(highest: u64, waiting: &[Quorum], digest: [u8; 32]) -> u64
+    ensures { RisesTo (λ s. list_any (is_ordering s digest) waiting.now) highest result }
+{
+    let mut raised = highest;
+    for quorum in waiting {
+        if quorum.digest == digest {
+            raised = raised_to(raised, quorum.s);
+        }
+    }
+    raised
 }
 
 /// The digest that is ordered as a number.

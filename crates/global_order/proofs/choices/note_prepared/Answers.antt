@@ -10,5 +10,5 @@ pub returns-clause-agrees : goal.returns-clause-agrees
 returns-clause-agrees c = λ known prepares first commits order agrees.
     let pushed = rw c.unwrap.ensures at c.push.ensures.items in
     agrees-waits known record { v = c.args.v; s = c.args.s; digest = c.args.digest } prepares first commits order c.args.choices.now
-    record { rows = c.args.choices.now.rows; prepared = c.args.choices.now.prepared; backed = c.push.new.self; ordered = c.args.choices.now.ordered; committed = c.args.choices.now.committed }
+    record { rows = c.args.choices.now.rows; prepared = c.args.choices.now.prepared; backed = c.push.new.self; ordered = c.args.choices.now.ordered; committed = c.args.choices.now.committed; highest = c.args.choices.now.highest }
     c.if-contains_key.ensures c.requires.place pushed refl refl refl refl agrees

@@ -52,6 +52,7 @@ invariant_of-self-2 c =
       commits = held.commits;
       marks = held.marks;
       choices = held.choices;
+      views = held.views;
       offers = held.offers;
       fit = held.fit;
       prepares_said = subst (λ s. HasSaidPrepares s c.note_said.new.prepares) said_is (said-more a.said.items bodies c.deref.result.now a.told.prepares c.reserve.new.self c.note_said.new.prepares c.reserve.ensures.keys c.deref.ensures.value (λ v s. prepares_said v s) held.prepares_said c.note_said.ensures.prepares);
@@ -60,6 +61,7 @@ invariant_of-self-2 c =
       marked_limit = omega arith;
       stable = held.stable;
       stable_limit = held.stable_limit;
+      highest = held.highest;
       gapless = held.gapless;
     }
 

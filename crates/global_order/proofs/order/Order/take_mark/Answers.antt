@@ -8,12 +8,14 @@ use Rattle.protocol_rules.specs.declared.facts.OrderFact.TheVariants as fact
 use Rattle.protocol_rules.specs.Group.{Group, group_of}
 use Rattle.protocol_rules.specs.Order.{stable}
 use Rattle.global_order.specs.Index.{HasPrepares, HasCommits, HasMarks, HasChoices, Reaches, TakesFirst, order_in, same_pair}
+use Rattle.global_order.specs.Giving.{HasViews}
 use Rattle.global_order.specs.Offered.{HasOffers, OffersFit}
 use Rattle.global_order.specs.Taken.{HasSizes}
 use Rattle.global_order.specs.declared.choices.Choices.{Choices}
 use Rattle.global_order.proofs.Alike.{AreAlike, held-alike, choices-alike, keeps-itself, keeps-orders}
 use Rattle.global_order.proofs.Runs.{reaches-same, reaches-still}
 use Rattle.global_order.proofs.Taking.{choices-prepare, choices-commit, choices-none, choices-row, choices-rows, offers-other, offers-proposal, offers-plan, fit-proposal, fit-plan, taken-first, stable-no_mark, stable-mark, raised-limit}
+use Rattle.global_order.proofs.Viewing.{views-other, views-commit}
 use Rattle.global_order.proofs.Voting.{prepares-push, prepares-other, commits-push, commits-other, marks-push, marks-other}
 use Rattle.global_order.proofs.order.Order.take_mark.Goals as goal
 
@@ -25,7 +27,8 @@ invariant_of-self c = held-alike c.self.inside _ record {
   prepares = refl;
   commits = refl;
   marks = refl;
-  choices = record { rows = refl; prepared = keeps-itself c.self.inside.choices; backed = refl; ordered = keeps-orders c.self.inside.choices; committed = refl };
+  choices = record { rows = refl; prepared = keeps-itself c.self.inside.choices; backed = refl; ordered = keeps-orders c.self.inside.choices; committed = refl; highest = refl };
+  views = refl;
   first_plan = refl;
   plans = refl;
   proposals = refl;
@@ -44,7 +47,8 @@ invariant_of-self-in_err-note_mark c = held-alike c.self.inside _ record {
   prepares = refl;
   commits = refl;
   marks = c.in_err-note_mark.ensures.refused;
-  choices = record { rows = refl; prepared = keeps-itself c.self.inside.choices; backed = refl; ordered = keeps-orders c.self.inside.choices; committed = refl };
+  choices = record { rows = refl; prepared = keeps-itself c.self.inside.choices; backed = refl; ordered = keeps-orders c.self.inside.choices; committed = refl; highest = refl };
+  views = refl;
   first_plan = refl;
   plans = refl;
   proposals = refl;
@@ -68,6 +72,7 @@ invariant_of-self-2 c =
       commits = subst (λ t. HasCommits t a.commits) facts_is (commits-other a.facts.items x a.commits (λ v s d m. refl) held.commits);
       marks = subst (λ t. HasMarks t c.note_mark.new.marks) facts_is new_marks;
       choices = λ g is. subst (λ t. HasChoices g t a.choices) facts_is (choices-none g a.facts.items x a.choices record { prepare = λ v s d m. refl; commit = λ v s d m. refl; view = λ s d. refl } refl (held.choices g is));
+      views = λ g is. subst (λ t. HasViews g t a.views) facts_is (views-other g a.facts.items x a.views (λ v s d m. refl) (λ s d. refl) (held.views g is));
       offers = subst (λ t. HasOffers t a.offers) facts_is (offers-other a.facts.items x a.offers (λ v. refl) (λ v s. refl) held.offers);
       fit = held.fit;
       prepares_said = held.prepares_said;
@@ -76,5 +81,6 @@ invariant_of-self-2 c =
       marked_limit = held.marked_limit;
       stable = λ g is. stable-mark g a.sizes.n a.sizes.q a.facts.items c.args.frame.now c.note_mark.new.marks c.count_marks-count.result a.stable c.raised-self-inside.result is new_marks c.count_marks-count.ensures (held.stable g is) c.raised-self-inside.ensures ∙ ap (stable g) facts_is;
       stable_limit = rw c.raised-self-inside.ensures (raised-limit _ a.stable c.args.frame.now.body.s held.stable_limit);
+      highest = held.highest;
       gapless = held.gapless;
     }
