@@ -6,22 +6,23 @@ use Rattle.std.specs.Str.{bytes_eq}
 use Rattle.indexmap.specs.IndexMap.{get}
 use Rattle.protocol_rules.specs.Group.{Group}
 use Rattle.global_order.specs.Choosing.{IsChosen, IsLeast}
-use Rattle.global_order.specs.Index.{Agrees, HasPlaces, KeepsSlots, KeepsOrders, Reaches, same_pair, first_in, least_in, order_in, is_backing, is_ordering}
+use Rattle.global_order.specs.Index.{Agrees, KeepsSlots, KeepsOrders, KeepsWaiting, Reaches, same_pair, first_in, least_in, order_in, is_backing, is_ordering}
 use Rattle.global_order.specs.Held.{IsHeld}
 use Rattle.global_order.specs.Offered.{fits, plan_fits}
+use Rattle.global_order.specs.Unsaid.{said_in}
 use Rattle.global_order.specs.Taken.{HasSizes}
 use Rattle.global_order.specs.declared.choices.Choices.{Choices}
 use Rattle.global_order.specs.declared.order.Order.TheInside.{Inside}
 use Rattle.global_order.proofs.Highest.{highest-kept}
+use Rattle.global_order.proofs.Touching.{pending-kept}
 use Rattle.global_order.proofs.Runs.{reaches-same}
 
 pub record AreAlike (a b : Choices) : Type 0 where
   pub rows : b.rows.entries ≡ a.rows.entries
   pub prepared : KeepsSlots a.prepared b.prepared
-  pub backed : b.backed.items ≡ a.backed.items
+  pub backed : KeepsWaiting a.backed b.backed
   pub ordered : KeepsOrders a.ordered b.ordered
-  pub committed : b.committed.items ≡ a.committed.items
-  pub highest : b.highest ≡ a.highest
+  pub committed : KeepsWaiting a.committed b.committed
 
 pub keeps-itself : (a : Choices) → KeepsSlots a.prepared a.prepared
 keeps-itself a = record { first = λ k. refl; least = λ k. refl; places = λ k e. e }
@@ -35,15 +36,15 @@ choices-alike known prepares first commits order a b like agrees = record {
   rows = λ d. ap (lookup (bytes_eq d)) like.rows ∙ agrees.rows d;
   prepared = record {
     choice = λ k. like.prepared.first k ∙ agrees.prepared.choice k;
-    waiting = λ k d none. ap (list_any (is_backing k d)) like.backed ∙ agrees.prepared.waiting k d none;
-    places = λ k d waits. like.prepared.places k (agrees.prepared.places k d (sym (ap (list_any (is_backing k d)) like.backed) ∙ waits));
+    waiting = λ k d none. ap (list_any (is_backing k d)) (like.backed d) ∙ agrees.prepared.waiting k d none;
+    places = λ k d waits. like.prepared.places k (agrees.prepared.places k d (sym (ap (list_any (is_backing k d)) (like.backed d)) ∙ waits));
     closed = agrees.prepared.closed;
   };
   least = λ k. subst (IsLeast _) (sym (like.prepared.least k)) (agrees.least k);
   ordered = record {
     choice = λ s. like.ordered.order s ∙ agrees.ordered.choice s;
-    waiting = λ s d none. ap (list_any (is_ordering s d)) like.committed ∙ agrees.ordered.waiting s d none;
-    places = λ s d waits. like.ordered.places s (agrees.ordered.places s d (sym (ap (list_any (is_ordering s d)) like.committed) ∙ waits));
+    waiting = λ s d none. ap (list_any (is_ordering s d)) (like.committed d) ∙ agrees.ordered.waiting s d none;
+    places = λ s d waits. like.ordered.places s (agrees.ordered.places s d (sym (ap (list_any (is_ordering s d)) (like.committed d)) ∙ waits));
     closed = agrees.ordered.closed;
   };
 }
@@ -60,6 +61,9 @@ pub record IsLike (a b : Inside) : Type 0 where
   pub first_plan : b.offers.first_plan ≡ a.offers.first_plan
   pub plans : b.offers.plans.entries ≡ a.offers.plans.entries
   pub proposals : b.offers.proposals.entries ≡ a.offers.proposals.entries
+  pub commits_pending : b.choices.pending ≡ a.choices.pending
+  pub highest : b.choices.highest ≡ a.choices.highest
+  pub offers_pending : b.offers.pending ≡ a.offers.pending
   pub prepares_said : b.told.prepares.keys ≡ a.told.prepares.keys
   pub commits_said : b.told.commits.keys ≡ a.told.commits.keys
   pub marked : b.told.marked ≡ a.told.marked
@@ -89,6 +93,8 @@ held-alike a b like held = record {
   marked_limit = rw (like.marked, like.gapless) held.marked_limit;
   stable = λ g is. rw (like.stable, like.facts) (held.stable g record { masters = is.masters ∙ like.sizes.0; quorum = is.quorum ∙ like.sizes.1 });
   stable_limit = rw like.stable held.stable_limit;
-  highest = rw like.choices.highest (highest-kept a.choices.ordered b.choices.ordered a.choices.highest like.choices.ordered held.highest);
+  prepares_pending = rw (like.prepares_said, like.facts, like.offers_pending) held.prepares_pending;
+  commits_pending = rw (like.commits_said, like.commits_pending) (pending-kept (said_in a.told.commits) a.choices.prepared b.choices.prepared a.choices.pending like.choices.prepared held.commits_pending);
+  highest = rw like.highest (highest-kept a.choices.ordered b.choices.ordered a.choices.highest like.choices.ordered held.highest);
   gapless = rw like.gapless (reaches-same (λ s. order_in (get nat_eq a.choices.ordered s)) (λ s. order_in (get nat_eq b.choices.ordered s)) a.gapless (λ s. sym (like.choices.ordered.order s)) held.gapless);
 }

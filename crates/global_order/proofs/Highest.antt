@@ -17,14 +17,6 @@ use Rattle.global_order.specs.declared.quorum.Quorum.{Quorum}
 use Rattle.global_order.specs.Index.{Map, HasHighest, KeepsOrders, RisesTo, TakesOrder, is_ordering, order_in, ordered_in}
 use Rattle.global_order.proofs.Booleans.{nat_eq-same}
 
-pub rises-itself : (passes : ℕ → Bool) (h : ℕ) → ((s : ℕ) → passes s ≡ false) → RisesTo passes h h
-rises-itself passes h none = record {
-  from = omega arith;
-  limit = λ le. le;
-  one_of = inl refl;
-  covers = λ s pass le. absurd (true≢false (sym pass ∙ none s));
-}
-
 pub rises-max : (s h : ℕ) → s ≤ most_number → RisesTo (nat_eq s) h (max h s)
 rises-max s h le = record {
   from = omega arith;
@@ -45,65 +37,9 @@ rises-beyond s h beyond = record {
   covers = λ t pass limit. let same : s ≡ t = nat_eq-same s t pass in absurd (omega arith);
 }
 
-pub rises-both : (p q r : ℕ → Bool) (old mid new : ℕ) → ((s : ℕ) → r s ≡ (p s || q s)) → RisesTo p old mid → RisesTo q mid new → RisesTo r old new
-rises-both p q r old mid new either one two = record {
-  from = omega (arith, one.from, two.from);
-  limit = λ le. two.limit (one.limit le);
-  one_of = by one.one_of two.one_of;
-  covers = λ s pass le. at s (p s) (q s) refl refl (sym (either s) ∙ pass) le;
-}
-  where
-    or-true : (b : Bool) → (b || true) ≡ true
-    or-true true = refl
-    or-true false = refl
-
-    by : (mid ≡ old) ⊎ (p mid ≡ true) → (new ≡ mid) ⊎ (q new ≡ true) → (new ≡ old) ⊎ (r new ≡ true)
-    by first (inr pass) = inr (either new ∙ ap (λ b. p new || b) pass ∙ or-true (p new))
-    by (inl same) (inl still) = inl (still ∙ same)
-    by (inr pass) (inl still) = inr (ap r still ∙ either mid ∙ ap (λ b. b || q mid) pass)
-
-    at : (s : ℕ) (a b : Bool) → p s ≡ a → q s ≡ b → (p s || q s) ≡ true → s ≤ most_number → s ≤ new
-    at s a true is pass e le = two.covers s pass le
-    at s true false is pass e le = omega (arith, one.covers s is le, two.from)
-    at s false false is pass e le = absurd (true≢false (sym e ∙ (λ i. is i || pass i)))
-
-pub rises-same : (p r : ℕ → Bool) (old new : ℕ) → ((s : ℕ) → r s ≡ p s) → RisesTo p old new → RisesTo r old new
-rises-same p r old new same one = record {
-  from = one.from;
-  limit = one.limit;
-  one_of = by one.one_of;
-  covers = λ s pass le. one.covers s (sym (same s) ∙ pass) le;
-}
-  where
-    by : (new ≡ old) ⊎ (p new ≡ true) → (new ≡ old) ⊎ (r new ≡ true)
-    by (inl e) = inl e
-    by (inr pass) = inr (same new ∙ pass)
-
-true-and : (b : Bool) → (b && true) ≡ b
-true-and true = refl
-true-and false = refl
-
 false-and : (b : Bool) → (b && false) ≡ false
 false-and true = refl
 false-and false = refl
-
-or-none : (b : Bool) → (b || false) ≡ b
-or-none true = refl
-or-none false = refl
-
-pub rises-step : (waiting : List Quorum) (i : ℕ) (none : Quorum) (d : List ℕ) (old mid new : ℕ) → i < length waiting → bytes_eq (get_or waiting i none).digest d ≡ true →
-    RisesTo (λ s. list_any (is_ordering s d) (take i waiting)) old mid → RisesTo (nat_eq (get_or waiting i none).s) mid new → RisesTo (λ s. list_any (is_ordering s d) (take (i + 1) waiting)) old new
-rises-step waiting i none d old mid new within like one two =
-    rises-both (λ s. list_any (is_ordering s d) (take i waiting)) (nat_eq (get_or waiting i none).s) (λ s. list_any (is_ordering s d) (take (i + 1) waiting)) old mid new
-    (λ s. list_any_more (is_ordering s d) waiting i none within ∙ ap (λ b. list_any (is_ordering s d) (take i waiting) || (nat_eq (get_or waiting i none).s s && b)) like
-    ∙ ap (λ b. list_any (is_ordering s d) (take i waiting) || b) (true-and (nat_eq (get_or waiting i none).s s))) one two
-
-pub rises-skip : (waiting : List Quorum) (i : ℕ) (none : Quorum) (d : List ℕ) (old mid : ℕ) → i < length waiting → bytes_eq (get_or waiting i none).digest d ≡ false →
-    RisesTo (λ s. list_any (is_ordering s d) (take i waiting)) old mid → RisesTo (λ s. list_any (is_ordering s d) (take (i + 1) waiting)) old mid
-rises-skip waiting i none d old mid within like one =
-    rises-same (λ s. list_any (is_ordering s d) (take i waiting)) (λ s. list_any (is_ordering s d) (take (i + 1) waiting)) old mid
-    (λ s. list_any_more (is_ordering s d) waiting i none within ∙ ap (λ b. list_any (is_ordering s d) (take i waiting) || (nat_eq (get_or waiting i none).s s && b)) like
-    ∙ ap (λ b. list_any (is_ordering s d) (take i waiting) || b) (false-and (nat_eq (get_or waiting i none).s s)) ∙ or-none (list_any (is_ordering s d) (take i waiting))) one
 
 -- the greatest number stays the greatest, where it rises to those that take a digest
 pub highest-takes : (passes : ℕ → Bool) (d : List ℕ) (old new : Map ℕ (Option (List ℕ))) (h raised : ℕ) → TakesOrder passes d old new → RisesTo passes h raised →

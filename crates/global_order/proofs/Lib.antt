@@ -14,5 +14,7 @@ pub mod Taking
 pub mod Highest
 pub mod Viewing
 pub mod Saying
+pub mod Touching
+pub mod Waits
 pub mod Beginning
 pub mod Certifying

@@ -8,6 +8,7 @@ use Rattle.global_order.specs.Taken.{Taken, HasSizes}
 use Rattle.global_order.specs.Index.{HasPrepares, HasCommits, HasMarks, HasChoices, HasHighestOrder, Reaches, order_in}
 use Rattle.global_order.specs.Giving.{HasViews}
 use Rattle.global_order.specs.Offered.{HasOffers, OffersFit}
+use Rattle.global_order.specs.Unsaid.{HasPending, HasPendingCommits, said_in, offers_rows}
 use Rattle.global_order.specs.Saying.{HasSaidPrepares, HasSaidCommits, HasMarked}
 use Rattle.global_order.specs.declared.order.Order.TheInside.{Inside}
 
@@ -28,5 +29,7 @@ pub record IsHeld (a : Inside) : Type 0 where
   pub marked_limit : a.told.marked ≤ a.gapless
   pub stable : (g : Group) → HasSizes g a.sizes.n a.sizes.q → a.stable ≡ stable g a.facts.items
   pub stable_limit : a.stable ≤ most_number
+  pub prepares_pending : HasPending (said_in a.told.prepares) (offers_rows a.facts.items) a.offers.pending
+  pub commits_pending : HasPendingCommits (said_in a.told.commits) a.choices
   pub highest : HasHighestOrder a.choices
   pub gapless : Reaches (λ s. order_in (get nat_eq a.choices.ordered s)) a.gapless

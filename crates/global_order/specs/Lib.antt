@@ -4,4 +4,5 @@ pub mod Index
 pub mod Offered
 pub mod Saying
 pub mod Giving
+pub mod Unsaid
 pub mod Held

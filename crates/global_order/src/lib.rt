@@ -11,9 +11,11 @@ pub mod laws;
 mod offers;
 pub mod order;
 mod orders;
+mod pending;
 mod quorum;
 mod said;
 mod slots;
 mod votes;
+mod waiting;
 
 pub use order::Order;

@@ -14,9 +14,11 @@ use crate::due::{push_commits, push_marks, push_prepares};
 use crate::gifts::{Views, commits_of, note_view, view_of};
 use crate::offers::{Offers, note_plan, note_proposal, offered_in, plan_of_view};
 use crate::orders::{make_order, order_of, run_end};
+use crate::pending::{WINDOW, all_pending, pending_from, pending_in};
 use crate::said::{Said, note_said};
 use crate::slots::make_slot;
 use crate::votes::{Marks, Votes, count_marks, count_votes, note_mark, note_vote};
+use crate::waiting::make_room;
 use indexmap::{IndexMap, IndexSet};
 use message_types::{Body, Certificate, Commit, GiveOrdered, Mark, Plan, Prepare, Rows, Signed};
 use plain_lists::{Copied, Items, Want};
@@ -24,9 +26,6 @@ use protocol_rules::OrderFact;
 use quorum_sets::Sizes;
 use std::alloc::Global;
 use std::marker::Model;
-
-/// How far above the stable number a view's numbers may be.
-const WINDOW: u64 = 16;
 
 /// One master's global order. Contracts see the facts that it was handed, in order, and what it said.
 #[derive(Drop)]
@@ -74,9 +73,10 @@ impl Order {
             choices: Choices {
                 rows: IndexMap::new(alloc),
                 prepared: IndexMap::new(alloc),
-                backed: Vec::new(alloc),
+                backed: IndexMap::new(alloc),
+                pending: all_pending(0),
                 ordered: IndexMap::new(alloc),
-                committed: Vec::new(alloc),
+                committed: IndexMap::new(alloc),
                 highest: 0,
             },
             views: IndexMap::new(alloc),
@@ -87,6 +87,7 @@ impl Order {
                 },
                 plans: IndexMap::new(alloc),
                 proposals: IndexMap::new(alloc),
+                pending: all_pending(0),
             },
             told: Said {
                 prepares: IndexSet::new(alloc),
@@ -112,7 +113,13 @@ impl Order {
         self.offers.proposals.reserve(1)?;
         learn(&mut self.choices, known);
         self.gapless = run_end(&self.choices.ordered, self.gapless);
-        note_proposal(&mut self.offers.proposals, v, s, offered);
+        note_proposal(
+            &mut self.offers.proposals,
+            &mut self.offers.pending,
+            v,
+            s,
+            offered,
+        );
         self.facts.push(OrderFact::Proposal { v, s, rows }).unwrap();
         Ok(())
     }
@@ -126,7 +133,7 @@ impl Order {
         let vote = (v, s, digest, frame.signer);
         let own = frame.copy()?;
         self.facts.reserve(1)?;
-        self.choices.backed.reserve(1)?;
+        make_room(self.alloc, &mut self.choices.backed, digest)?;
         make_slot(&mut self.choices.prepared, v, s)?;
         let before = count_votes(&self.prepares, self.sizes.n, v, s, digest);
         note_vote(&mut self.prepares, vote, &frame.sig)?;
@@ -146,7 +153,7 @@ impl Order {
         let vote = (v, s, digest, frame.signer);
         let own = frame.copy()?;
         self.facts.reserve(1)?;
-        self.choices.committed.reserve(1)?;
+        make_room(self.alloc, &mut self.choices.committed, digest)?;
         make_order(&mut self.choices.ordered, s)?;
         self.views.reserve(1)?;
         let before = count_votes(&self.commits, self.sizes.n, v, s, digest);
@@ -205,7 +212,7 @@ impl Order {
         self.offers.plans.reserve(1)?;
         learn_all(&mut self.choices, known.into_vec());
         self.gapless = run_end(&self.choices.ordered, self.gapless);
-        note_plan(&mut self.offers.plans, v, offered);
+        note_plan(&mut self.offers.plans, &mut self.offers.pending, v, offered);
         self.facts.push(OrderFact::Plan { v, plan: own }).unwrap();
         Ok(())
     }
@@ -219,21 +226,23 @@ impl Order {
         let mut bodies = Vec::new(self.alloc);
         let end = self.stable + WINDOW + 1;
         let prepares_end = if is_open { end } else { 1 };
+        let prepares = pending_in(&self.offers.pending, view);
         push_prepares(
             &mut bodies,
             &self.offers,
             &self.told.prepares,
             view,
-            1,
-            prepares_end,
+            prepares.low,
+            prepares_end.min(prepares.high),
         )?;
+        let commits = pending_in(&self.choices.pending, view);
         push_commits(
             &mut bodies,
             &self.choices.prepared,
             &self.told.commits,
             view,
-            1,
-            end,
+            commits.low,
+            end.min(commits.high),
         )?;
         push_marks(&mut bodies, self.told.marked, self.gapless)?;
         let mut again = copy_all(self.alloc, &bodies)?;
@@ -242,6 +251,8 @@ impl Order {
         self.said.append(&mut again)?;
         note_said(&mut self.told.prepares, &mut self.told.commits, &bodies);
         self.told.marked = self.gapless;
+        self.offers.pending = pending_from(&prepares, prepares_end);
+        self.choices.pending = pending_from(&commits, end);
         Ok(bodies)
     }
 

@@ -10,11 +10,13 @@ use Rattle.protocol_rules.specs.Order.{stable}
 use Rattle.global_order.specs.Index.{HasPrepares, HasCommits, HasMarks, HasChoices, Reaches, TakesFirst, order_in, same_pair}
 use Rattle.global_order.specs.Giving.{HasViews}
 use Rattle.global_order.specs.Offered.{HasOffers, OffersFit}
+use Rattle.global_order.specs.Unsaid.{HasPending, offers_rows, said_in}
 use Rattle.global_order.specs.Taken.{HasSizes}
 use Rattle.global_order.specs.declared.choices.Choices.{Choices}
 use Rattle.global_order.proofs.Alike.{AreAlike, held-alike, choices-alike, keeps-itself, keeps-orders}
 use Rattle.global_order.proofs.Runs.{reaches-same, reaches-still}
 use Rattle.global_order.proofs.Taking.{choices-prepare, choices-commit, choices-none, choices-row, choices-rows, offers-other, offers-proposal, offers-plan, fit-proposal, fit-plan, taken-first, stable-no_mark, stable-mark, raised-limit}
+use Rattle.global_order.proofs.Touching.{pending-kept, pending-other, pending-plan, pending-proposal}
 use Rattle.global_order.proofs.Viewing.{views-other, views-commit}
 use Rattle.global_order.proofs.Voting.{prepares-push, prepares-other, commits-push, commits-other, marks-push, marks-other}
 use Rattle.global_order.proofs.order.Order.take_mark.Goals as goal
@@ -27,11 +29,14 @@ invariant_of-self c = held-alike c.self.inside _ record {
   prepares = refl;
   commits = refl;
   marks = refl;
-  choices = record { rows = refl; prepared = keeps-itself c.self.inside.choices; backed = refl; ordered = keeps-orders c.self.inside.choices; committed = refl; highest = refl };
+  choices = record { rows = refl; prepared = keeps-itself c.self.inside.choices; backed = λ d. refl; ordered = keeps-orders c.self.inside.choices; committed = λ d. refl };
   views = refl;
   first_plan = refl;
   plans = refl;
   proposals = refl;
+  commits_pending = refl;
+  highest = refl;
+  offers_pending = refl;
   prepares_said = refl;
   commits_said = refl;
   marked = refl;
@@ -47,11 +52,14 @@ invariant_of-self-in_err-note_mark c = held-alike c.self.inside _ record {
   prepares = refl;
   commits = refl;
   marks = c.in_err-note_mark.ensures.refused;
-  choices = record { rows = refl; prepared = keeps-itself c.self.inside.choices; backed = refl; ordered = keeps-orders c.self.inside.choices; committed = refl; highest = refl };
+  choices = record { rows = refl; prepared = keeps-itself c.self.inside.choices; backed = λ d. refl; ordered = keeps-orders c.self.inside.choices; committed = λ d. refl };
   views = refl;
   first_plan = refl;
   plans = refl;
   proposals = refl;
+  commits_pending = refl;
+  highest = refl;
+  offers_pending = refl;
   prepares_said = refl;
   commits_said = refl;
   marked = refl;
@@ -81,6 +89,8 @@ invariant_of-self-2 c =
       marked_limit = held.marked_limit;
       stable = λ g is. stable-mark g a.sizes.n a.sizes.q a.facts.items c.args.frame.now c.note_mark.new.marks c.count_marks-count.result a.stable c.raised-self-inside.result is new_marks c.count_marks-count.ensures (held.stable g is) c.raised-self-inside.ensures ∙ ap (stable g) facts_is;
       stable_limit = rw c.raised-self-inside.ensures (raised-limit _ a.stable c.args.frame.now.body.s held.stable_limit);
+      prepares_pending = subst (λ t. HasPending (said_in a.told.prepares) (offers_rows t) a.offers.pending) facts_is (pending-other (said_in a.told.prepares) a.facts.items x a.offers.pending (λ v. refl) (λ v s. refl) held.prepares_pending);
+      commits_pending = held.commits_pending;
       highest = held.highest;
       gapless = held.gapless;
     }

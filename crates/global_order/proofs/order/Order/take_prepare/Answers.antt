@@ -10,11 +10,13 @@ use Rattle.protocol_rules.specs.Order.{stable}
 use Rattle.global_order.specs.Index.{HasPrepares, HasCommits, HasMarks, HasChoices, Reaches, TakesFirst, order_in, same_pair}
 use Rattle.global_order.specs.Giving.{HasViews}
 use Rattle.global_order.specs.Offered.{HasOffers, OffersFit}
+use Rattle.global_order.specs.Unsaid.{HasPending, offers_rows, said_in}
 use Rattle.global_order.specs.Taken.{HasSizes}
 use Rattle.global_order.specs.declared.choices.Choices.{Choices}
 use Rattle.global_order.proofs.Alike.{AreAlike, held-alike, choices-alike, keeps-itself, keeps-orders}
 use Rattle.global_order.proofs.Runs.{reaches-same, reaches-still}
 use Rattle.global_order.proofs.Taking.{choices-prepare, choices-commit, choices-none, choices-row, choices-rows, offers-other, offers-proposal, offers-plan, fit-proposal, fit-plan, taken-first, stable-no_mark, stable-mark, raised-limit}
+use Rattle.global_order.proofs.Touching.{pending-kept, pending-other, pending-plan, pending-proposal}
 use Rattle.global_order.proofs.Viewing.{views-other, views-commit}
 use Rattle.global_order.proofs.Voting.{prepares-push, prepares-other, commits-push, commits-other, marks-push, marks-other}
 use Rattle.global_order.proofs.order.Order.take_prepare.Goals as goal
@@ -27,11 +29,14 @@ invariant_of-self c = held-alike c.self.inside _ record {
   prepares = refl;
   commits = refl;
   marks = refl;
-  choices = record { rows = refl; prepared = keeps-itself c.self.inside.choices; backed = refl; ordered = keeps-orders c.self.inside.choices; committed = refl; highest = refl };
+  choices = record { rows = refl; prepared = keeps-itself c.self.inside.choices; backed = λ d. refl; ordered = keeps-orders c.self.inside.choices; committed = λ d. refl };
   views = refl;
   first_plan = refl;
   plans = refl;
   proposals = refl;
+  commits_pending = refl;
+  highest = refl;
+  offers_pending = refl;
   prepares_said = refl;
   commits_said = refl;
   marked = refl;
@@ -39,19 +44,22 @@ invariant_of-self c = held-alike c.self.inside _ record {
   gapless = refl;
 } c.self.invariant
 
-pub invariant_of-self-in_err-reserve-2 : goal.invariant_of-self-in_err-reserve-2
-invariant_of-self-in_err-reserve-2 c = held-alike c.self.inside _ record {
+pub invariant_of-self-in_err-make_room : goal.invariant_of-self-in_err-make_room
+invariant_of-self-in_err-make_room c = held-alike c.self.inside _ record {
   sizes = (refl, refl);
   facts = c.reserve.ensures.items;
   said = refl;
   prepares = refl;
   commits = refl;
   marks = refl;
-  choices = record { rows = refl; prepared = keeps-itself c.self.inside.choices; backed = c.reserve-2.ensures.items; ordered = keeps-orders c.self.inside.choices; committed = refl; highest = refl };
+  choices = record { rows = refl; prepared = keeps-itself c.self.inside.choices; backed = c.make_room.ensures.kept; ordered = keeps-orders c.self.inside.choices; committed = λ d. refl };
   views = refl;
   first_plan = refl;
   plans = refl;
   proposals = refl;
+  commits_pending = refl;
+  highest = refl;
+  offers_pending = refl;
   prepares_said = refl;
   commits_said = refl;
   marked = refl;
@@ -67,11 +75,14 @@ invariant_of-self-in_err-make_slot c = held-alike c.self.inside _ record {
   prepares = refl;
   commits = refl;
   marks = refl;
-  choices = record { rows = refl; prepared = c.make_slot.ensures.kept; backed = c.reserve-2.ensures.items; ordered = keeps-orders c.self.inside.choices; committed = refl; highest = refl };
+  choices = record { rows = refl; prepared = c.make_slot.ensures.kept; backed = c.make_room.ensures.kept; ordered = keeps-orders c.self.inside.choices; committed = λ d. refl };
   views = refl;
   first_plan = refl;
   plans = refl;
   proposals = refl;
+  commits_pending = refl;
+  highest = refl;
+  offers_pending = refl;
   prepares_said = refl;
   commits_said = refl;
   marked = refl;
@@ -87,11 +98,14 @@ invariant_of-self-in_err-note_vote c = held-alike c.self.inside _ record {
   prepares = c.in_err-note_vote.ensures.refused;
   commits = refl;
   marks = refl;
-  choices = record { rows = refl; prepared = c.make_slot.ensures.kept; backed = c.reserve-2.ensures.items; ordered = keeps-orders c.self.inside.choices; committed = refl; highest = refl };
+  choices = record { rows = refl; prepared = c.make_slot.ensures.kept; backed = c.make_room.ensures.kept; ordered = keeps-orders c.self.inside.choices; committed = λ d. refl };
   views = refl;
   first_plan = refl;
   plans = refl;
   proposals = refl;
+  commits_pending = refl;
+  highest = refl;
+  offers_pending = refl;
   prepares_said = refl;
   commits_said = refl;
   marked = refl;
@@ -106,8 +120,8 @@ invariant_of-self-2 c =
     let x : OrderFact = fact.Prepare c.args.frame.now in
     let pushed = rw c.unwrap.ensures at c.push.ensures.items in
     let facts_is : a.facts.items ++ x ∷ [] ≡ c.push.new.self.items = sym (pushed ∙ ap (λ xs. xs ++ fact.Prepare c.in_ok-own.own ∷ []) c.reserve.ensures.items ∙ ap (λ own. a.facts.items ++ fact.Prepare own ∷ []) c.in_ok-own.ensures) in
-    let mid : Choices = record { rows = a.choices.rows; prepared = c.make_slot.new.slots; backed = c.reserve-2.new.self; ordered = a.choices.ordered; committed = a.choices.committed; highest = a.choices.highest } in
-    let like : AreAlike a.choices mid = record { rows = refl; prepared = c.make_slot.ensures.kept; backed = c.reserve-2.ensures.items; ordered = keeps-orders a.choices; committed = refl; highest = refl } in
+    let mid : Choices = record { rows = a.choices.rows; prepared = c.make_slot.new.slots; backed = c.make_room.new.waiting; pending = a.choices.pending; ordered = a.choices.ordered; committed = a.choices.committed; highest = a.choices.highest } in
+    let like : AreAlike a.choices mid = record { rows = refl; prepared = c.make_slot.ensures.kept; backed = c.make_room.ensures.kept; ordered = keeps-orders a.choices; committed = λ d. refl } in
     let new_votes = prepares-push a.facts.items c.args.frame.now a.prepares c.note_vote.new.votes c.in_ok-note_vote.ensures.noted held.prepares in
     record {
       prepares = subst (λ t. HasPrepares t c.note_vote.new.votes) facts_is new_votes;
@@ -123,6 +137,8 @@ invariant_of-self-2 c =
       marked_limit = held.marked_limit;
       stable = λ g is. held.stable g is ∙ sym (stable-no_mark g a.facts.items x (λ s m. refl)) ∙ ap (stable g) facts_is;
       stable_limit = held.stable_limit;
+      prepares_pending = subst (λ t. HasPending (said_in a.told.prepares) (offers_rows t) a.offers.pending) facts_is (pending-other (said_in a.told.prepares) a.facts.items x a.offers.pending (λ v. refl) (λ v s. refl) held.prepares_pending);
+      commits_pending = c.note_if_prepared.ensures.pending (said_in a.told.commits) (pending-kept (said_in a.told.commits) a.choices.prepared mid.prepared a.choices.pending c.make_slot.ensures.kept held.commits_pending);
       highest = rw (c.note_if_prepared.ensures.ordered, c.note_if_prepared.ensures.highest) held.highest;
       gapless = rw c.note_if_prepared.ensures.ordered held.gapless;
     }
