@@ -5,6 +5,7 @@ use Rattle.std.specs.Bool.{OnTrue, OnFalse}
 use Rattle.std.specs.List.{filter_map, flat_map, list_any}
 use Rattle.std.specs.Option.{option_map}
 use Rattle.std.proofs.lemmas.Bool.{cases_lt, eq-eqb, or_left, or_parts, or_right}
+use Rattle.std.proofs.lemmas.Grind.{flat_map-append}
 use Rattle.std.proofs.lemmas.List.Folds.{list_any-append}
 use Rattle.indexmap.specs.IndexMap.{get}
 use Rattle.indexmap.specs.IndexSet.{contains}
@@ -16,56 +17,72 @@ use Rattle.protocol_rules.specs.declared.facts.OrderFact.{OrderFact}
 use Rattle.protocol_rules.specs.declared.facts.OrderFact.TheVariants as fact
 use Rattle.protocol_rules.specs.Words.{first_of_list, numbers_from, or_else}
 use Rattle.protocol_rules.specs.Plans.{first_plan}
-use Rattle.protocol_rules.specs.Group.{Group, most_number, window}
+use Rattle.protocol_rules.specs.Group.{Group, window}
 use Rattle.protocol_rules.specs.Order.{commit_due, commits_due, commits_said, offered, plan_in, plan_known, prepare_due, prepared, prepares_due, prepares_said, proposal_in, stable}
 use Rattle.global_order.specs.declared.pending.Pending.{Pending}
 use Rattle.global_order.specs.declared.slots.Slot.{Slot}
 use Rattle.global_order.specs.Index.{KeepsSlots, Map, TakesDigest, first_in, prepared_in, same_pair}
 use Rattle.global_order.specs.Saying.{HasSaidCommits, HasSaidPrepares, Places}
-use Rattle.global_order.specs.Unsaid.{HasPending, IsNoted, holds_prepared, last_number, offers_rows, said_in, whole_view, with_view}
+use Rattle.global_order.specs.Unsaid.{HasPending, IsAmong, IsNoted, LooksFrom, holds_prepared, offers_rows, said_in, whole_view, with_view}
 use Rattle.global_order.proofs.Booleans.{and-parts, first_of_list-push, nat_eq-same, same_pair-same, stays}
-use Rattle.global_order.proofs.Ranges.{narrow}
-use Rattle.global_order.proofs.Saying.{any-from, commits-are, prepares-are}
+use Rattle.global_order.proofs.Ranges.{flat_map-none, narrow}
+use Rattle.global_order.proofs.Saying.{any-from}
 use Rattle.global_order.proofs.Voting.{first-other}
 
 -- nothing more is there
 pub pending-less : (said there now : ℕ → ℕ → Bool) (p : Pending) → ((w t : ℕ) → now w t ≡ true → there w t ≡ true) → HasPending said there p → HasPending said now p
 pending-less said there now p less has = record {
   from_one = has.from_one;
-  within = λ s one le unsaid some. has.within s one le unsaid (less p.view s some);
+  apart = has.apart;
+  within = λ s one unsaid some. has.within s one unsaid (less p.view s some);
 }
 
 -- more is there at one number alone, which is noted
 pub pending-noted : (said there now : ℕ → ℕ → Bool) (v s : ℕ) (p q : Pending) → IsNoted v s p q → ((w t : ℕ) → same_pair (v, s) (w, t) ≡ false → now w t ≡ true → there w t ≡ true) →
     HasPending said there p → HasPending said now q
 pending-noted said there now v s p q noted less has = record {
-  from_one = noted.from_one has.from_one;
-  within = λ t one le unsaid some. at t (same_pair (v, s) (q.view, t)) refl one le unsaid some;
+  from_one = (noted.from_one has.from_one.0, omega (arith, noted.beyond, has.from_one.1));
+  apart = noted.apart has.apart;
+  within = λ t one unsaid some. at t (same_pair (v, s) (q.view, t)) refl one unsaid some;
 }
   where
-    at : (t : ℕ) (b : Bool) → same_pair (v, s) (q.view, t) ≡ b → 1 ≤ t → t ≤ last_number → said q.view t ≡ false → now q.view t ≡ true → (q.low ≤ t) × (t < q.high)
-    at t true e one le unsaid some =
+    wider : (t : ℕ) → IsAmong p t → IsAmong q t
+    wider t (inl within) = inl (omega (arith, noted.low, within.0), omega (arith, noted.high, within.1))
+    wider t (inr beyond) = inr (omega (arith, noted.beyond, beyond))
+
+    at : (t : ℕ) (b : Bool) → same_pair (v, s) (q.view, t) ≡ b → 1 ≤ t → said q.view t ≡ false → now q.view t ≡ true → IsAmong q t
+    at t true e one unsaid some =
         let both : (nat_eq v q.view ≡ true) × (nat_eq s t ≡ true) = and-parts (nat_eq v q.view) (nat_eq s t) e in
         let here : s ≡ t = nat_eq-same s t both.1 in
-        subst (λ (u : ℕ). (q.low ≤ u) × (u < q.high)) here
-        (noted.within (nat_eq-same v q.view both.0 ∙ noted.view) (subst (λ (u : ℕ). 1 ≤ u) (sym here) one) (subst (λ (u : ℕ). u ≤ last_number) (sym here) le))
-    at t false e one le unsaid some =
-        let within : (p.low ≤ t) × (t < p.high) = has.within t one le (ap (λ w. said w t) (sym noted.view) ∙ unsaid) (ap (λ w. there w t) (sym noted.view) ∙ less q.view t e some) in
-        (omega (arith, noted.low, within.0), omega (arith, noted.high, within.1))
+        subst (IsAmong q) here (noted.within (nat_eq-same v q.view both.0 ∙ noted.view) (subst (λ (u : ℕ). 1 ≤ u) (sym here) one))
+    at t false e one unsaid some =
+        wider t (has.within t one (ap (λ w. said w t) (sym noted.view) ∙ unsaid) (ap (λ w. there w t) (sym noted.view) ∙ less q.view t e some))
+
+pub pending-whole : (said there : ℕ → ℕ → Bool) (v : ℕ) → HasPending said there (whole_view v)
+pending-whole said there v = record { from_one = (omega arith, omega arith); apart = omega arith; within = λ s one unsaid some. inr one }
 
 -- more is there in one view alone, all of which is noted
 pub pending-view : (said there now : ℕ → ℕ → Bool) (v : ℕ) (p : Pending) → ((w t : ℕ) → nat_eq v w ≡ false → now w t ≡ true → there w t ≡ true) → HasPending said there p → HasPending said now (with_view v p)
 pending-view said there now v p less has = by (nat_eq v p.view) refl
   where
     by : (b : Bool) → nat_eq v p.view ≡ b → HasPending said now (cond b (whole_view v) p)
-    by true e = record { from_one = omega arith; within = λ s one le unsaid some. (one, omega (arith, le)) }
-    by false e = record { from_one = has.from_one; within = λ s one le unsaid some. has.within s one le unsaid (less p.view s e some) }
+    by true e = pending-whole said now v
+    by false e = record { from_one = has.from_one; apart = has.apart; within = λ s one unsaid some. has.within s one unsaid (less p.view s e some) }
 
-pub noted-not : (v s : ℕ) (p : Pending) → (v ≡ p.view → 1 ≤ s → s ≤ last_number → ⊥) → IsNoted v s p p
-noted-not v s p never = record { view = refl; from_one = λ le. le; low = omega arith; high = omega arith; within = λ here one le. absurd (never here one le) }
-
-pub pending-whole : (said there : ℕ → ℕ → Bool) (v : ℕ) → HasPending said there (whole_view v)
-pending-whole said there v = record { from_one = omega arith; within = λ s one le unsaid some. (one, omega (arith, le)) }
+pub noted-not : (v s : ℕ) (p : Pending) → (v ≡ p.view → 1 ≤ s → s < p.beyond → ⊥) → IsNoted v s p p
+noted-not v s p never = record {
+  view = refl;
+  from_one = λ le. le;
+  beyond = refl;
+  apart = λ le. le;
+  low = omega arith;
+  high = omega arith;
+  within = λ here one. by here one (cases_lt s p.beyond);
+}
+  where
+    by : v ≡ p.view → 1 ≤ s → (s < p.beyond) ⊎ (p.beyond ≤ s) → IsAmong p s
+    by here one (inl less) = absurd (never here one less)
+    by here one (inr more) = inr more
 
 -- a slot takes a digest
 pub pending-takes : (said : ℕ → ℕ → Bool) (v s : ℕ) (d : List ℕ) (old new : Map (ℕ × ℕ) Slot) (p q : Pending) → TakesDigest (same_pair (v, s)) d old new → IsNoted v s p q →
@@ -148,40 +165,69 @@ pending-plan said facts v plan plans p q held is has = subst (HasPending said (o
 
 -- what is due in a range is all that is due
 
-pub narrow-pending : (f : ℕ → List Body) (said there : ℕ → ℕ → Bool) (p : Pending) (count high : ℕ) → ((k : ℕ) → said p.view k ≡ true → f k ≡ []) → ((k : ℕ) → there p.view k ≡ false → f k ≡ []) →
-    HasPending said there p → count ≤ last_number → high ≡ min (count + 1) p.high → flat_map f (numbers_from p.low (high - p.low)) ≡ flat_map f (numbers_from 1 count)
-narrow-pending f said there p count high when_said when_none has within is =
-    sym (narrow f count p.low high has.from_one (omega arith)
-    (λ k one le less. outside k one le (λ inside. let low : p.low ≤ k = inside.0 in omega arith)) (λ k one le more. outside k one le (λ inside. let below : k < p.high = inside.1 in omega arith)))
-  where
-    outside : (k : ℕ) → 1 ≤ k → k ≤ count → ((p.low ≤ k) × (k < p.high) → ⊥) → f k ≡ []
-    outside k one le never = by (said p.view k) refl (there p.view k) refl
-      where
-        by : (a : Bool) → said p.view k ≡ a → (b : Bool) → there p.view k ≡ b → f k ≡ []
-        by true is b at = when_said k is
-        by false is false at = when_none k at
-        by false is true at = absurd (never (has.within k one (omega arith) is at))
+numbers-split : (start n m : ℕ) → numbers_from start (n + m) ≡ numbers_from start n ++ numbers_from (start + n) m
+unfolding numbers_from
+numbers-split start zero m =
+    let none : 0 + m ≡ m = omega arith in
+    let here : start ≡ start + 0 = omega arith in
+    ap (numbers_from start) none ∙ ap (λ s. numbers_from s m) here
+numbers-split start (suc n) m =
+    let more : suc n + m ≡ suc (n + m) = omega arith in
+    let here : suc start + n ≡ start + suc n = omega arith in
+    ap (numbers_from start) more ∙ ap (λ xs. start ∷ xs) (numbers-split (suc start) n m ∙ ap (λ s. numbers_from (suc start) n ++ numbers_from s m) here)
 
-pub narrow-prepares : (facts : List OrderFact) (words : List Body) (places : Places) (p : Pending) (v count high : ℕ) → HasSaidPrepares words places → p.view ≡ v → HasPending (said_in places) (offers_rows facts) p → count ≤ last_number → high ≡ min (count + 1) p.high →
-    flat_map (prepare_due facts words v) (numbers_from p.low (high - p.low)) ≡ flat_map (prepare_due facts words v) (numbers_from 1 count)
-narrow-prepares facts words places p v count high held view has within is =
-    narrow-pending (prepare_due facts words v) (said_in places) (offers_rows facts) p count high
-    (λ k unsaid. ap (λ b. cond {A = List Body} b [] (elim (offered facts v k) [ Some rows ↦ body.Prepare record { v = v; s = k; digest = digest_of_rows rows } ∷ [] | None ↦ [] ])) (sym (held v k) ∙ ap (λ w. said_in places w k) (sym view) ∙ unsaid))
-    (λ k none. by k (list_any (prepares_said v k) words) (offered facts v k) (ap (λ w. offers_rows facts w k) (sym view) ∙ none)) has within is
+pub narrow-pending : (f : ℕ → List Body) (said there : ℕ → ℕ → Bool) (p : Pending) (end high middle : ℕ) → ((k : ℕ) → said p.view k ≡ true → f k ≡ []) → ((k : ℕ) → there p.view k ≡ false → f k ≡ []) →
+    HasPending said there p → high ≡ min p.high end → middle ≡ min p.beyond end → flat_map f (numbers_from p.low (high - p.low)) ++ flat_map f (numbers_from middle (end - middle)) ≡ flat_map f (numbers_from 1 (end - 1))
+narrow-pending f said there p zero high middle when_said when_none has high_is middle_is =
+    let none : high - p.low ≡ 0 = omega arith in
+    let empty : 0 - middle ≡ 0 = omega arith in
+    let last : 0 - 1 ≡ 0 = omega arith in
+    (λ i. flat_map f (numbers_from p.low (none i)) ++ flat_map f (numbers_from middle (empty i))) ∙ (λ i. flat_map-none f p.low i ++ flat_map-none f middle i) ∙ sym (ap (λ n. flat_map f (numbers_from 1 n)) last ∙ flat_map-none f 1)
+narrow-pending f said there p (suc end) high middle when_said when_none has high_is middle_is =
+    let one : 1 ≤ middle = omega (arith, middle_is, has.from_one.1) in
+    let fits : high ≤ middle - 1 + 1 = omega (arith, high_is, middle_is, has.apart, one) in
+    let all : suc end - 1 ≡ (middle - 1) + (suc end - middle) = omega (arith, middle_is, one) in
+    let start : 1 + (middle - 1) ≡ middle = omega (arith, one) in
+    sym (ap (λ n. flat_map f (numbers_from 1 n)) all ∙ ap (flat_map f) (numbers-split 1 (middle - 1) (suc end - middle) ∙ ap (λ s. numbers_from 1 (middle - 1) ++ numbers_from s (suc end - middle)) start)
+    ∙ flat_map-append f (numbers_from 1 (middle - 1)) (numbers_from middle (suc end - middle))
+    ∙ ap (λ xs. xs ++ flat_map f (numbers_from middle (suc end - middle)))
+    (narrow f (middle - 1) p.low high has.from_one.0 fits
+    (λ k low le less. outside k low (λ among. by k among (λ within. let above : p.low ≤ k = within.0 in omega arith) (omega (arith, middle_is, one))))
+    (λ k low le more. outside k low (λ among. by k among (λ within. let below : k < p.high = within.1 in omega (arith, high_is, middle_is, one)) (omega (arith, middle_is, one))))))
   where
-    by : (k : ℕ) (b : Bool) (o : Option (List (List ℕ))) → is_some o ≡ false → cond {A = List Body} b [] (elim o [ Some rows ↦ body.Prepare record { v = v; s = k; digest = digest_of_rows rows } ∷ [] | None ↦ [] ]) ≡ []
+    outside : (k : ℕ) → 1 ≤ k → (IsAmong p k → ⊥) → f k ≡ []
+    outside k one never = on (said p.view k) refl (there p.view k) refl
+      where
+        on : (a : Bool) → said p.view k ≡ a → (b : Bool) → there p.view k ≡ b → f k ≡ []
+        on true is b at = when_said k is
+        on false is false at = when_none k at
+        on false is true at = absurd (never (has.within k one is at))
+
+    by : (k : ℕ) → IsAmong p k → ((p.low ≤ k) × (k < p.high) → ⊥) → k < p.beyond → ⊥
+    by k (inl within) never below = never within
+    by k (inr beyond) never below = omega arith
+
+pub narrow-prepares : (facts : List OrderFact) (words : List Body) (places : Places) (p : Pending) (end high middle : ℕ) → HasSaidPrepares words places → HasPending (said_in places) (offers_rows facts) p → high ≡ min p.high end → middle ≡ min p.beyond end →
+    flat_map (prepare_due facts words p.view) (numbers_from p.low (high - p.low)) ++ flat_map (prepare_due facts words p.view) (numbers_from middle (end - middle)) ≡ flat_map (prepare_due facts words p.view) (numbers_from 1 (end - 1))
+narrow-prepares facts words places p end high middle held has high_is middle_is =
+    narrow-pending (prepare_due facts words p.view) (said_in places) (offers_rows facts) p end high middle
+    (λ k said. ap (λ b. cond {A = List Body} b [] (elim (offered facts p.view k) [ Some rows ↦ body.Prepare record { v = p.view; s = k; digest = digest_of_rows rows } ∷ [] | None ↦ [] ])) (sym (held p.view k) ∙ said))
+    (λ k none. by k (list_any (prepares_said p.view k) words) (offered facts p.view k) none) has high_is middle_is
+  where
+    by : (k : ℕ) (b : Bool) (o : Option (List (List ℕ))) → is_some o ≡ false → cond {A = List Body} b [] (elim o [ Some rows ↦ body.Prepare record { v = p.view; s = k; digest = digest_of_rows rows } ∷ [] | None ↦ [] ]) ≡ []
     by k true o none = refl
     by k false None none = refl
     by k false (Some rows) none = absurd (true≢false none)
 
-pub narrow-commits : (g : Group) (facts : List OrderFact) (words : List Body) (places : Places) (slots : Map (ℕ × ℕ) Slot) (p : Pending) (v count high : ℕ) → HasSaidCommits words places → ((k : ℕ × ℕ) → first_in (get same_pair slots k) ≡ prepared_in g facts k) → p.view ≡ v →
-    HasPending (said_in places) (holds_prepared slots) p → count ≤ last_number → high ≡ min (count + 1) p.high → flat_map (commit_due g facts words v) (numbers_from p.low (high - p.low)) ≡ flat_map (commit_due g facts words v) (numbers_from 1 count)
-narrow-commits g facts words places slots p v count high held choice view has within is =
-    narrow-pending (commit_due g facts words v) (said_in places) (holds_prepared slots) p count high
-    (λ k unsaid. ap (λ b. cond {A = List Body} b [] (elim (prepared g facts v k) [ Some rows ↦ body.Commit record { v = v; s = k; digest = digest_of_rows rows } ∷ [] | None ↦ [] ])) (sym (held v k) ∙ ap (λ w. said_in places w k) (sym view) ∙ unsaid))
-    (λ k none. by k (list_any (commits_said v k) words) (prepared g facts v k) (sym (ap is_some (choice (v, k))) ∙ ap (λ w. holds_prepared slots w k) (sym view) ∙ none)) has within is
+pub narrow-commits : (g : Group) (facts : List OrderFact) (words : List Body) (places : Places) (slots : Map (ℕ × ℕ) Slot) (p : Pending) (end high middle : ℕ) → HasSaidCommits words places → ((k : ℕ × ℕ) → first_in (get same_pair slots k) ≡ prepared_in g facts k) →
+    HasPending (said_in places) (holds_prepared slots) p → high ≡ min p.high end → middle ≡ min p.beyond end →
+    flat_map (commit_due g facts words p.view) (numbers_from p.low (high - p.low)) ++ flat_map (commit_due g facts words p.view) (numbers_from middle (end - middle)) ≡ flat_map (commit_due g facts words p.view) (numbers_from 1 (end - 1))
+narrow-commits g facts words places slots p end high middle held choice has high_is middle_is =
+    narrow-pending (commit_due g facts words p.view) (said_in places) (holds_prepared slots) p end high middle
+    (λ k said. ap (λ b. cond {A = List Body} b [] (elim (prepared g facts p.view k) [ Some rows ↦ body.Commit record { v = p.view; s = k; digest = digest_of_rows rows } ∷ [] | None ↦ [] ])) (sym (held p.view k) ∙ said))
+    (λ k none. by k (list_any (commits_said p.view k) words) (prepared g facts p.view k) (sym (ap is_some (choice (p.view, k))) ∙ none)) has high_is middle_is
   where
-    by : (k : ℕ) (b : Bool) (o : Option (List (List ℕ))) → is_some (option_map digest_of_rows o) ≡ false → cond {A = List Body} b [] (elim o [ Some rows ↦ body.Commit record { v = v; s = k; digest = digest_of_rows rows } ∷ [] | None ↦ [] ]) ≡ []
+    by : (k : ℕ) (b : Bool) (o : Option (List (List ℕ))) → is_some (option_map digest_of_rows o) ≡ false → cond {A = List Body} b [] (elim o [ Some rows ↦ body.Commit record { v = p.view; s = k; digest = digest_of_rows rows } ∷ [] | None ↦ [] ]) ≡ []
     by k true o none = refl
     by k false None none = refl
     by k false (Some rows) none = absurd (true≢false none)
@@ -189,23 +235,23 @@ narrow-commits g facts words places slots p v count high held choice view has wi
 -- what is pending once all below `end` that is due is said
 
 pub pending-said : (kind : ℕ → ℕ → Body → Bool) (there : ℕ → ℕ → Bool) (bodies noted : List Body) (old mid new : Places) (p q : Pending) (end : ℕ) → mid.keys ≡ old.keys → noted ≡ bodies →
-    ((v s : ℕ) → contains same_pair new (v, s) ≡ (contains same_pair mid (v, s) || list_any (kind v s) noted)) → q ≡ record { view = p.view; low = max p.low end; high = p.high } →
+    ((v s : ℕ) → contains same_pair new (v, s) ≡ (contains same_pair mid (v, s) || list_any (kind v s) noted)) → LooksFrom end p q →
     ((s : ℕ) → 1 ≤ s → s < end → said_in old p.view s ≡ false → there p.view s ≡ true → list_any (kind p.view s) bodies ≡ true) → HasPending (said_in old) there p → HasPending (said_in new) there q
-pending-said kind there bodies noted old mid new p q end keys are more is among has =
-    subst (HasPending (said_in new) there) (sym is) (record {
-      from_one = omega (arith, has.from_one);
-      within = λ s one le unsaid some.
-          let parts = or_parts (said_in old p.view s) (list_any (kind p.view s) bodies) (sym (said_now s) ∙ unsaid) in
-          let within : (p.low ≤ s) × (s < p.high) = has.within s one le parts.0 some in
-          (by s one some parts (cases_lt s end) within.0, within.1);
-    })
+pending-said kind there bodies noted old mid new p q end keys are more from among has = record {
+  from_one = from.from_one has.from_one;
+  apart = from.apart has.apart;
+  within = λ s one unsaid some. at s one (ap (λ w. said_in new w s) (sym from.view) ∙ unsaid) (ap (λ w. there w s) (sym from.view) ∙ some);
+}
   where
     said_now : (s : ℕ) → said_in new p.view s ≡ (said_in old p.view s || list_any (kind p.view s) bodies)
     said_now s = more p.view s ∙ ap (λ ks. list_any (same_pair (p.view, s)) ks || list_any (kind p.view s) noted) keys ∙ ap (λ xs. said_in old p.view s || list_any (kind p.view s) xs) are
 
-    by : (s : ℕ) → 1 ≤ s → there p.view s ≡ true → (said_in old p.view s ≡ false) × (list_any (kind p.view s) bodies ≡ false) → (s < end) ⊎ (end ≤ s) → p.low ≤ s → max p.low end ≤ s
-    by s one some parts (inl less) low = absurd (true≢false (sym (among s one less parts.0 some) ∙ parts.1))
-    by s one some parts (inr more) low = omega arith
+    by : (s : ℕ) → 1 ≤ s → there p.view s ≡ true → (said_in old p.view s ≡ false) × (list_any (kind p.view s) bodies ≡ false) → (s < end) ⊎ (end ≤ s) → IsAmong q s
+    by s one some parts (inl less) = absurd (true≢false (sym (among s one less parts.0 some) ∙ parts.1))
+    by s one some parts (inr beyond) = from.within s beyond (has.within s one parts.0 some)
+
+    at : (s : ℕ) → 1 ≤ s → said_in new p.view s ≡ false → there p.view s ≡ true → IsAmong q s
+    at s one unsaid some = by s one some (or_parts (said_in old p.view s) (list_any (kind p.view s) bodies) (sym (said_now s) ∙ unsaid)) (cases_lt s end)
 
 pub prepare-among : (g : Group) (facts : List OrderFact) (words : List Body) (places : Places) (rest more : List Body) (v w end s : ℕ) (is_open : Bool) → w ≡ v → HasSaidPrepares words places → end - 1 ≡ cond is_open (stable g facts + 16) 0 →
     1 ≤ s → s < end → said_in places w s ≡ false → offers_rows facts w s ≡ true → list_any (prepares_said w s) ((prepares_due g facts words v is_open ++ rest) ++ more) ≡ true
@@ -241,21 +287,3 @@ commit-among g facts words places slots rest more v w end s view held choice cou
     by true o not_said there = absurd (true≢false not_said)
     by false None not_said there = absurd (true≢false (sym there))
     by false (Some rows) not_said there = (λ i. (eq-eqb v v refl i && eq-eqb s s refl i) || false)
-
--- so what is looked at is all that is due
-
-pub due-prepares : (g : Group) (facts : List OrderFact) (words : List Body) (places : Places) (p : Pending) (v end high : ℕ) (is_open : Bool) → HasSaidPrepares words places → p.view ≡ v → HasPending (said_in places) (offers_rows facts) p →
-    stable g facts ≤ most_number → end - 1 ≡ cond is_open (stable g facts + 16) 0 → 1 ≤ end → high ≡ min end p.high → flat_map (prepare_due facts words v) (numbers_from p.low (high - p.low)) ≡ prepares_due g facts words v is_open
-unfolding window
-due-prepares g facts words places p v end high is_open held view has limit count some is =
-    narrow-prepares facts words places p v (end - 1) high held view has (within is_open count) (let one : end ≡ end - 1 + 1 = omega arith in is ∙ ap (λ e. min e p.high) one) ∙ prepares-are g facts words v (end - 1) is_open count
-  where
-    within : (b : Bool) → end - 1 ≡ cond b (stable g facts + 16) 0 → end - 1 ≤ most_number + 16
-    within true e = omega arith
-    within false e = omega arith
-
-pub due-commits : (g : Group) (facts : List OrderFact) (words : List Body) (places : Places) (slots : Map (ℕ × ℕ) Slot) (p : Pending) (v end high : ℕ) → HasSaidCommits words places → ((k : ℕ × ℕ) → first_in (get same_pair slots k) ≡ prepared_in g facts k) → p.view ≡ v →
-    HasPending (said_in places) (holds_prepared slots) p → stable g facts ≤ most_number → end ≡ stable g facts + 16 + 1 → high ≡ min end p.high → flat_map (commit_due g facts words v) (numbers_from p.low (high - p.low)) ≡ commits_due g facts words v
-unfolding window
-due-commits g facts words places slots p v end high held choice view has limit end_is is =
-    narrow-commits g facts words places slots p v (stable g facts + 16) high held choice view has (let within : stable g facts + 16 ≤ most_number + 16 = omega arith in within) (is ∙ ap (λ e. min e p.high) end_is) ∙ commits-are g facts words v (stable g facts + 16) refl

@@ -1,9 +1,8 @@
 -- Where the numbers of a view stand for which a word may be due.
-use Rattle.std.specs.Prelude.{◌≡◌, ℕ, ◌+◌, ◌≤◌, ◌<◌, Bool, true, false, List, is_some, nat_eq, if◌then◌else◌}
+use Rattle.std.specs.Prelude.{◌≡◌, ◌⊎◌, ℕ, ◌≤◌, ◌<◌, Bool, true, false, List, is_some, nat_eq, if◌then◌else◌}
 use Rattle.indexmap.specs.IndexMap.{get}
 use Rattle.indexmap.specs.IndexSet.{contains}
 use Rattle.protocol_rules.specs.declared.facts.OrderFact.{OrderFact}
-use Rattle.protocol_rules.specs.Group.{most_number, window}
 use Rattle.protocol_rules.specs.Order.{offered}
 use Rattle.global_order.specs.declared.pending.Pending.{Pending}
 use Rattle.global_order.specs.declared.slots.Slot.{Slot}
@@ -11,27 +10,37 @@ use Rattle.global_order.specs.declared.choices.Choices.{Choices}
 use Rattle.global_order.specs.Index.{Map, first_in, same_pair}
 use Rattle.global_order.specs.Saying.{Places}
 
--- no number above this ever comes into the window
-abbrev pub last_number : ℕ
-last_number = most_number + window
+-- the number is among those that may be due
+abbrev pub IsAmong : Pending → ℕ → Type 0
+IsAmong pending s = ((pending.low ≤ s) × (s < pending.high)) ⊎ (pending.beyond ≤ s)
 
 -- `there` says of which numbers of a view there are rows to say a word for, and `said` for which numbers the word was said: each
--- number of the view for which the word is still due lies from `low` to below `high`
+-- number of the view for which the word is still due lies from `low` to below `high`, or from `beyond` on
 pub record HasPending (said there : ℕ → ℕ → Bool) (pending : Pending) : Type 0 where
-  pub from_one : 1 ≤ pending.low
-  pub within : (s : ℕ) → 1 ≤ s → s ≤ last_number → said pending.view s ≡ false → there pending.view s ≡ true → (pending.low ≤ s) × (s < pending.high)
+  pub from_one : (1 ≤ pending.low) × (1 ≤ pending.beyond)
+  pub apart : pending.high ≤ pending.beyond
+  pub within : (s : ℕ) → 1 ≤ s → said pending.view s ≡ false → there pending.view s ≡ true → IsAmong pending s
 
--- the range is no narrower, and the number is in it, where it is one of the view
+-- all numbers from `end` on that may have been due may be due still
+pub record LooksFrom (end : ℕ) (old new : Pending) : Type 0 where
+  pub view : new.view ≡ old.view
+  pub from_one : (1 ≤ old.low) × (1 ≤ old.beyond) → (1 ≤ new.low) × (1 ≤ new.beyond)
+  pub apart : old.high ≤ old.beyond → new.high ≤ new.beyond
+  pub within : (s : ℕ) → end ≤ s → IsAmong old s → IsAmong new s
+
+-- the ranges are no narrower, and the number is in them, where it is one of the view
 pub record IsNoted (v s : ℕ) (old new : Pending) : Type 0 where
   pub view : new.view ≡ old.view
   pub from_one : 1 ≤ old.low → 1 ≤ new.low
+  pub beyond : new.beyond ≡ old.beyond
+  pub apart : old.high ≤ old.beyond → new.high ≤ new.beyond
   pub low : new.low ≤ old.low
   pub high : old.high ≤ new.high
-  pub within : v ≡ old.view → 1 ≤ s → s ≤ last_number → (new.low ≤ s) × (s < new.high)
+  pub within : v ≡ old.view → 1 ≤ s → IsAmong new s
 
 -- all numbers of a view
 abbrev pub whole_view : ℕ → Pending
-whole_view view = record { view = view; low = 1; high = last_number + 1 }
+whole_view view = record { view = view; low = 1; high = 0; beyond = 1 }
 
 -- all numbers, where the view is the pending one
 abbrev pub with_view : ℕ → Pending → Pending

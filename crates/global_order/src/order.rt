@@ -10,11 +10,11 @@ ghost use Rattle.global_order.specs.Taken.{IsOrderOf, bodies_due};
 
 use crate::certificates::{last_certificate_of, marks_of, push_certificate};
 use crate::choices::{Choices, learn, learn_all, note_if_committed, note_if_prepared};
-use crate::due::{push_commits, push_marks, push_prepares};
+use crate::due::{push_marks, push_pending_commits, push_pending_prepares};
 use crate::gifts::{Views, commits_of, note_view, view_of};
 use crate::offers::{Offers, note_plan, note_proposal, offered_in, plan_of_view};
 use crate::orders::{make_order, order_of, run_end};
-use crate::pending::{WINDOW, all_pending, pending_from, pending_in};
+use crate::pending::{all_pending, pending_from, pending_in};
 use crate::said::{Said, note_said};
 use crate::slots::make_slot;
 use crate::votes::{Marks, Votes, count_marks, count_votes, note_mark, note_vote};
@@ -26,6 +26,9 @@ use protocol_rules::OrderFact;
 use quorum_sets::Sizes;
 use std::alloc::Global;
 use std::marker::Model;
+
+/// How far above the stable number a view's numbers may be.
+const WINDOW: u64 = 16;
 
 /// One master's global order. Contracts see the facts that it was handed, in order, and what it said.
 #[derive(Drop)]
@@ -227,22 +230,20 @@ impl Order {
         let end = self.stable + WINDOW + 1;
         let prepares_end = if is_open { end } else { 1 };
         let prepares = pending_in(&self.offers.pending, view);
-        push_prepares(
+        push_pending_prepares(
             &mut bodies,
             &self.offers,
             &self.told.prepares,
-            view,
-            prepares.low,
-            prepares_end.min(prepares.high),
+            &prepares,
+            prepares_end,
         )?;
         let commits = pending_in(&self.choices.pending, view);
-        push_commits(
+        push_pending_commits(
             &mut bodies,
             &self.choices.prepared,
             &self.told.commits,
-            view,
-            commits.low,
-            end.min(commits.high),
+            &commits,
+            end,
         )?;
         push_marks(&mut bodies, self.told.marked, self.gapless)?;
         let mut again = copy_all(self.alloc, &bodies)?;

@@ -1,21 +1,14 @@
-ghost use Rattle.std.specs.Prelude.{◌≡◌, ◌+◌, ℕ, Bool, max};
-ghost use Rattle.global_order.specs.Unsaid.{HasPending, IsNoted, last_number, whole_view, with_view};
+ghost use Rattle.std.specs.Prelude.{◌≡◌, ℕ, Bool};
+ghost use Rattle.global_order.specs.Unsaid.{HasPending, IsNoted, LooksFrom, whole_view, with_view};
 
-use crate::orders::MOST_NUMBER;
-
-/// How far above the stable number a view's numbers may be.
-pub const WINDOW: u64 = 16;
-
-/// No number above this ever comes into the window.
-const LAST_NUMBER: u64 = MOST_NUMBER + WINDOW;
-
-/// Where the numbers of a view stand for which a word may be due: from `low` to below `high`. So what is due is looked for
-/// among the numbers that changed since it was looked for, and not among all.
+/// Where the numbers of a view stand for which a word may be due: from `low` to below `high` those that changed since it was
+/// looked for, and from `beyond` on those that weren't in the window yet. So what is due isn't looked for among all numbers.
 #[derive(Clone, Copy)]
 pub struct Pending {
     pub view: u64,
     pub low: u64,
     pub high: u64,
+    pub beyond: u64,
 }
 
 /// All numbers of a view.
@@ -25,7 +18,8 @@ pub fn all_pending(view: u64) -> Pending
     Pending {
         view,
         low: 1,
-        high: LAST_NUMBER + 1,
+        high: 0,
+        beyond: 1,
     }
 }
 
@@ -33,7 +27,7 @@ pub fn all_pending(view: u64) -> Pending
 pub fn note_pending(pending: &mut Pending, v: u64, s: u64)
     ensures { IsNoted v s pending.old pending.new }
 {
-    if v != pending.view || s == 0 || s > LAST_NUMBER {
+    if v != pending.view || s == 0 || s >= pending.beyond {
         return;
     }
     pending.low = pending.low.min(s);
@@ -63,11 +57,13 @@ pub fn pending_in(pending: &Pending, view: u64) -> Pending
 
 /// What is pending once all numbers below `end` were looked at.
 pub fn pending_from(pending: &Pending, end: u64) -> Pending
-    ensures { result ≡ record { view = pending.now.view; low = max pending.now.low end; high = pending.now.high } }
+    ensures { LooksFrom end pending.now result }
 {
+    let high = if pending.high <= end { 0 } else { pending.high };
     Pending {
         view: pending.view,
         low: pending.low.max(end),
-        high: pending.high,
+        high,
+        beyond: pending.beyond.max(end),
     }
 }

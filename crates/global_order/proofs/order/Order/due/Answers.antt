@@ -14,9 +14,9 @@ use Rattle.global_order.specs.declared.pending.Pending.{Pending}
 use Rattle.global_order.specs.Saying.{HasSaidPrepares, HasSaidCommits, HasMarked}
 use Rattle.global_order.specs.Taken.{Taken, HasSizes, bodies_due}
 use Rattle.global_order.proofs.Runs.{gapless-is}
-use Rattle.global_order.proofs.Saying.{marks-are, marked-after, said-more, joined, ends-open, ends-closed}
+use Rattle.global_order.proofs.Saying.{commits-are, marks-are, prepares-are, marked-after, said-more, joined, ends-open, ends-closed}
 use Rattle.global_order.proofs.Alike.{choices-alike, keeps-itself, keeps-orders}
-use Rattle.global_order.proofs.Touching.{commit-among, due-commits, due-prepares, pending-said, prepare-among}
+use Rattle.global_order.proofs.Touching.{commit-among, pending-said, prepare-among}
 use Rattle.global_order.proofs.order.Order.due.Goals as goal
 use Rattle.global_order.proofs.order.Order.due.Goals.{then-is_open, else-is_open}
 
@@ -32,9 +32,6 @@ pub push_marks-requires-clause-reach : goal.push_marks-requires-clause-reach
 unfolding most_number
 push_marks-requires-clause-reach c = let limit : c.self.inside.gapless ≤ 4096 = c.self.invariant.gapless.limit in omega arith
 
-positive : (end was : ℕ) → end ≡ was + 1 → 1 ≤ end
-positive end was e = omega arith
-
 pub invariant_of-self-2 : goal.invariant_of-self-2
 invariant_of-self-2 c =
     let a = c.self.inside in
@@ -43,22 +40,19 @@ invariant_of-self-2 c =
     let sizes : HasSizes g a.sizes.n a.sizes.q = record { masters = refl; quorum = refl } in
     let reach_is = gapless-is g a.facts.items (λ s. order_in (get nat_eq a.choices.ordered s)) a.gapless (held.choices g sizes).ordered.choice held.gapless in
     let stable_is : a.stable ≡ stable g a.facts.items = held.stable g sizes in
-    let limit : stable g a.facts.items ≤ most_number = subst (λ (s : ℕ). s ≤ most_number) stable_is held.stable_limit in
     let prepares : Pending = c.pending_in-prepares.result in
     let commits : Pending = c.pending_in-commits.result in
     let prepares_pending = c.pending_in-prepares.ensures.pending (said_in a.told.prepares) (offers_rows a.facts.items) held.prepares_pending in
     let commits_pending = c.pending_in-commits.ensures.pending (said_in a.told.commits) (holds_prepared a.choices.prepared) held.commits_pending in
-    let prepares_high : c.min.result ≡ min c.if-is_open.prepares_end prepares.high = grind (arith, c.min.ensures) in
-    let commits_high : c.min-2.result ≡ min (a.stable + 16 + 1) commits.high = grind (arith, c.min-2.ensures) in
-    let end_is : a.stable + 16 + 1 ≡ stable g a.facts.items + 16 + 1 = ap (λ s. s + 16 + 1) stable_is in
-    let ends : (c.if-is_open.prepares_end - 1 ≡ cond c.args.is_open (stable g a.facts.items + 16) 0) × (1 ≤ c.if-is_open.prepares_end) = elim c.if-is_open.branch [
-      | then-is_open w ↦ (ends-open c.if-is_open.prepares_end a.stable (stable g a.facts.items) c.args.is_open w.if-is_open.true w.prepares_end-is stable_is, positive c.if-is_open.prepares_end (a.stable + 16) w.prepares_end-is)
-      | else-is_open w ↦ (ends-closed c.if-is_open.prepares_end (stable g a.facts.items) c.args.is_open w.if-is_open.false w.prepares_end-is, positive c.if-is_open.prepares_end 0 w.prepares_end-is)
+    let count : a.stable + 16 + 1 - 1 ≡ stable g a.facts.items + 16 = omega arith in
+    let ends : c.if-is_open.prepares_end - 1 ≡ cond c.args.is_open (stable g a.facts.items + 16) 0 = elim c.if-is_open.branch [
+      | then-is_open w ↦ ends-open c.if-is_open.prepares_end a.stable (stable g a.facts.items) c.args.is_open w.if-is_open.true w.prepares_end-is stable_is
+      | else-is_open w ↦ ends-closed c.if-is_open.prepares_end (stable g a.facts.items) c.args.is_open w.if-is_open.false w.prepares_end-is
     ] in
-    let all : c.push_marks.new.bodies.items ≡ prepares_due g a.facts.items a.said.items c.args.view c.args.is_open ++ commits_due g a.facts.items a.said.items c.args.view ++ marks_due g a.facts.items a.said.items = joined c.new-bodies.result.items c.push_prepares.new.bodies.items c.push_commits.new.bodies.items c.push_marks.new.bodies.items _ _ _ c.new-bodies.ensures.items
-    (c.in_ok-push_prepares.ensures a.facts.items a.said.items held.offers held.prepares_said ∙ ap (λ xs. c.new-bodies.result.items ++ xs) (due-prepares g a.facts.items a.said.items a.told.prepares prepares c.args.view c.if-is_open.prepares_end c.min.result c.args.is_open held.prepares_said c.pending_in-prepares.ensures.view prepares_pending limit ends.0 ends.1 prepares_high))
-    (c.in_ok-push_commits.ensures g a.facts.items a.said.items (held.choices g sizes).prepared.choice held.commits_said ∙ ap (λ xs. c.push_prepares.new.bodies.items ++ xs) (due-commits g a.facts.items a.said.items a.told.commits a.choices.prepared commits c.args.view (a.stable + 16 + 1) c.min-2.result held.commits_said (held.choices g sizes).prepared.choice c.pending_in-commits.ensures.view commits_pending limit end_is commits_high))
-    (c.in_ok-push_marks.ensures a.said.items held.marked ∙ ap (λ xs. c.push_commits.new.bodies.items ++ xs) (marks-are g a.facts.items a.said.items a.told.marked a.gapless held.marked reach_is)) in
+    let all : c.push_marks.new.bodies.items ≡ prepares_due g a.facts.items a.said.items c.args.view c.args.is_open ++ commits_due g a.facts.items a.said.items c.args.view ++ marks_due g a.facts.items a.said.items = joined c.new-bodies.result.items c.push_pending_prepares.new.bodies.items c.push_pending_commits.new.bodies.items c.push_marks.new.bodies.items _ _ _ c.new-bodies.ensures.items
+    (c.in_ok-push_pending_prepares.ensures a.facts.items a.said.items held.offers held.prepares_said prepares_pending ∙ ap (λ xs. c.new-bodies.result.items ++ xs) (ap (λ v. flat_map (prepare_due a.facts.items a.said.items v) (numbers_from 1 (c.if-is_open.prepares_end - 1))) c.pending_in-prepares.ensures.view ∙ prepares-are g a.facts.items a.said.items c.args.view (c.if-is_open.prepares_end - 1) c.args.is_open ends))
+    (c.in_ok-push_pending_commits.ensures g a.facts.items a.said.items (held.choices g sizes).prepared.choice held.commits_said commits_pending ∙ ap (λ xs. c.push_pending_prepares.new.bodies.items ++ xs) (ap (λ v. flat_map (commit_due g a.facts.items a.said.items v) (numbers_from 1 (a.stable + 16 + 1 - 1))) c.pending_in-commits.ensures.view ∙ commits-are g a.facts.items a.said.items c.args.view (a.stable + 16 + 1 - 1) count))
+    (c.in_ok-push_marks.ensures a.said.items held.marked ∙ ap (λ xs. c.push_pending_commits.new.bodies.items ++ xs) (marks-are g a.facts.items a.said.items a.told.marked a.gapless held.marked reach_is)) in
     let bodies : List Body = c.push_marks.new.bodies.items in
     let said_is : a.said.items ++ bodies ≡ c.append.new.self.items = sym (rw c.in_ok-append.was at c.append.ensures.items ∙ ap (λ xs. a.said.items ++ xs) c.in_ok-again.ensures) in
     record {
@@ -76,9 +70,9 @@ invariant_of-self-2 c =
       stable = held.stable;
       stable_limit = held.stable_limit;
       prepares_pending = pending-said (λ v s. prepares_said v s) (offers_rows a.facts.items) bodies c.deref.result.now a.told.prepares c.reserve.new.self c.note_said.new.prepares prepares c.pending_from-self-inside.result c.if-is_open.prepares_end c.reserve.ensures.keys c.deref.ensures.value c.note_said.ensures.prepares c.pending_from-self-inside.ensures
-          (λ s one below unsaid some. ap (list_any (prepares_said prepares.view s)) all ∙ prepare-among g a.facts.items a.said.items a.told.prepares (commits_due g a.facts.items a.said.items c.args.view) (marks_due g a.facts.items a.said.items) c.args.view prepares.view c.if-is_open.prepares_end s c.args.is_open c.pending_in-prepares.ensures.view held.prepares_said ends.0 one below unsaid some) prepares_pending;
+          (λ s one below unsaid some. ap (list_any (prepares_said prepares.view s)) all ∙ prepare-among g a.facts.items a.said.items a.told.prepares (commits_due g a.facts.items a.said.items c.args.view) (marks_due g a.facts.items a.said.items) c.args.view prepares.view c.if-is_open.prepares_end s c.args.is_open c.pending_in-prepares.ensures.view held.prepares_said ends one below unsaid some) prepares_pending;
       commits_pending = pending-said (λ v s. commits_said v s) (holds_prepared a.choices.prepared) bodies c.deref.result.now a.told.commits c.reserve-2.new.self c.note_said.new.commits commits c.pending_from-self-inside-2.result (a.stable + 16 + 1) c.reserve-2.ensures.keys c.deref.ensures.value c.note_said.ensures.commits c.pending_from-self-inside-2.ensures
-          (λ s one below unsaid some. ap (list_any (commits_said commits.view s)) all ∙ commit-among g a.facts.items a.said.items a.told.commits a.choices.prepared (prepares_due g a.facts.items a.said.items c.args.view c.args.is_open) (marks_due g a.facts.items a.said.items) c.args.view commits.view (a.stable + 16 + 1) s c.pending_in-commits.ensures.view held.commits_said (held.choices g sizes).prepared.choice (let is : a.stable + 16 + 1 - 1 ≡ stable g a.facts.items + 16 = omega arith in is) one below unsaid some) commits_pending;
+          (λ s one below unsaid some. ap (list_any (commits_said commits.view s)) all ∙ commit-among g a.facts.items a.said.items a.told.commits a.choices.prepared (prepares_due g a.facts.items a.said.items c.args.view c.args.is_open) (marks_due g a.facts.items a.said.items) c.args.view commits.view (a.stable + 16 + 1) s c.pending_in-commits.ensures.view held.commits_said (held.choices g sizes).prepared.choice count one below unsaid some) commits_pending;
       highest = held.highest;
       gapless = held.gapless;
     }
@@ -90,20 +84,17 @@ returns-clause-due c = λ g is.
     let sizes : HasSizes g a.sizes.n a.sizes.q = record { masters = is.masters ∙ sym (ap (λ (t : Taken). t.masters) c.self.view_is); quorum = is.quorum ∙ sym (ap (λ (t : Taken). t.quorum) c.self.view_is) } in
     let reach_is = gapless-is g a.facts.items (λ s. order_in (get nat_eq a.choices.ordered s)) a.gapless (held.choices g sizes).ordered.choice held.gapless in
     let stable_is : a.stable ≡ stable g a.facts.items = held.stable g sizes in
-    let limit : stable g a.facts.items ≤ most_number = subst (λ (s : ℕ). s ≤ most_number) stable_is held.stable_limit in
     let prepares : Pending = c.pending_in-prepares.result in
     let commits : Pending = c.pending_in-commits.result in
     let prepares_pending = c.pending_in-prepares.ensures.pending (said_in a.told.prepares) (offers_rows a.facts.items) held.prepares_pending in
     let commits_pending = c.pending_in-commits.ensures.pending (said_in a.told.commits) (holds_prepared a.choices.prepared) held.commits_pending in
-    let prepares_high : c.min.result ≡ min c.if-is_open.prepares_end prepares.high = grind (arith, c.min.ensures) in
-    let commits_high : c.min-2.result ≡ min (a.stable + 16 + 1) commits.high = grind (arith, c.min-2.ensures) in
-    let end_is : a.stable + 16 + 1 ≡ stable g a.facts.items + 16 + 1 = ap (λ s. s + 16 + 1) stable_is in
-    let ends : (c.if-is_open.prepares_end - 1 ≡ cond c.args.is_open (stable g a.facts.items + 16) 0) × (1 ≤ c.if-is_open.prepares_end) = elim c.if-is_open.branch [
-      | then-is_open w ↦ (ends-open c.if-is_open.prepares_end a.stable (stable g a.facts.items) c.args.is_open w.if-is_open.true w.prepares_end-is stable_is, positive c.if-is_open.prepares_end (a.stable + 16) w.prepares_end-is)
-      | else-is_open w ↦ (ends-closed c.if-is_open.prepares_end (stable g a.facts.items) c.args.is_open w.if-is_open.false w.prepares_end-is, positive c.if-is_open.prepares_end 0 w.prepares_end-is)
+    let count : a.stable + 16 + 1 - 1 ≡ stable g a.facts.items + 16 = omega arith in
+    let ends : c.if-is_open.prepares_end - 1 ≡ cond c.args.is_open (stable g a.facts.items + 16) 0 = elim c.if-is_open.branch [
+      | then-is_open w ↦ ends-open c.if-is_open.prepares_end a.stable (stable g a.facts.items) c.args.is_open w.if-is_open.true w.prepares_end-is stable_is
+      | else-is_open w ↦ ends-closed c.if-is_open.prepares_end (stable g a.facts.items) c.args.is_open w.if-is_open.false w.prepares_end-is
     ] in
-    let all : c.push_marks.new.bodies.items ≡ prepares_due g a.facts.items a.said.items c.args.view c.args.is_open ++ commits_due g a.facts.items a.said.items c.args.view ++ marks_due g a.facts.items a.said.items = joined c.new-bodies.result.items c.push_prepares.new.bodies.items c.push_commits.new.bodies.items c.push_marks.new.bodies.items _ _ _ c.new-bodies.ensures.items
-    (c.in_ok-push_prepares.ensures a.facts.items a.said.items held.offers held.prepares_said ∙ ap (λ xs. c.new-bodies.result.items ++ xs) (due-prepares g a.facts.items a.said.items a.told.prepares prepares c.args.view c.if-is_open.prepares_end c.min.result c.args.is_open held.prepares_said c.pending_in-prepares.ensures.view prepares_pending limit ends.0 ends.1 prepares_high))
-    (c.in_ok-push_commits.ensures g a.facts.items a.said.items (held.choices g sizes).prepared.choice held.commits_said ∙ ap (λ xs. c.push_prepares.new.bodies.items ++ xs) (due-commits g a.facts.items a.said.items a.told.commits a.choices.prepared commits c.args.view (a.stable + 16 + 1) c.min-2.result held.commits_said (held.choices g sizes).prepared.choice c.pending_in-commits.ensures.view commits_pending limit end_is commits_high))
-    (c.in_ok-push_marks.ensures a.said.items held.marked ∙ ap (λ xs. c.push_commits.new.bodies.items ++ xs) (marks-are g a.facts.items a.said.items a.told.marked a.gapless held.marked reach_is)) in
+    let all : c.push_marks.new.bodies.items ≡ prepares_due g a.facts.items a.said.items c.args.view c.args.is_open ++ commits_due g a.facts.items a.said.items c.args.view ++ marks_due g a.facts.items a.said.items = joined c.new-bodies.result.items c.push_pending_prepares.new.bodies.items c.push_pending_commits.new.bodies.items c.push_marks.new.bodies.items _ _ _ c.new-bodies.ensures.items
+    (c.in_ok-push_pending_prepares.ensures a.facts.items a.said.items held.offers held.prepares_said prepares_pending ∙ ap (λ xs. c.new-bodies.result.items ++ xs) (ap (λ v. flat_map (prepare_due a.facts.items a.said.items v) (numbers_from 1 (c.if-is_open.prepares_end - 1))) c.pending_in-prepares.ensures.view ∙ prepares-are g a.facts.items a.said.items c.args.view (c.if-is_open.prepares_end - 1) c.args.is_open ends))
+    (c.in_ok-push_pending_commits.ensures g a.facts.items a.said.items (held.choices g sizes).prepared.choice held.commits_said commits_pending ∙ ap (λ xs. c.push_pending_prepares.new.bodies.items ++ xs) (ap (λ v. flat_map (commit_due g a.facts.items a.said.items v) (numbers_from 1 (a.stable + 16 + 1 - 1))) c.pending_in-commits.ensures.view ∙ commits-are g a.facts.items a.said.items c.args.view (a.stable + 16 + 1 - 1) count))
+    (c.in_ok-push_marks.ensures a.said.items held.marked ∙ ap (λ xs. c.push_pending_commits.new.bodies.items ++ xs) (marks-are g a.facts.items a.said.items a.told.marked a.gapless held.marked reach_is)) in
     all ∙ ap (λ (t : Taken). bodies_due g t c.args.view c.args.is_open) c.self.view_is
