@@ -10,14 +10,17 @@ use Rattle.message_types.specs.Digests.{digest_of_rows}
 use Rattle.quorum_sets.specs.Masters.{numbers_below}
 use Rattle.protocol_rules.specs.declared.facts.OrderFact.{OrderFact}
 use Rattle.protocol_rules.specs.Group.{Group, most_number}
-use Rattle.protocol_rules.specs.Words.{first_met, first_of_list, greatest_to}
+use Rattle.protocol_rules.specs.Words.{first_met, first_of_list, greatest_of, greatest_to}
 use Rattle.protocol_rules.specs.Facts.{rows_known}
 use Rattle.protocol_rules.specs.Plans.{first_plan}
 use Rattle.protocol_rules.specs.Order.{prepare_by, mark_by, is_voted, is_committed, prepared, ordered, stable}
+use Rattle.protocol_rules.specs.Reconcile.{committed_views}
 use Rattle.global_order.specs.Choosing.{has_digest, is_known, IsChosen, IsLeast}
 use Rattle.global_order.specs.Taken.{HasSizes}
-use Rattle.global_order.specs.Index.{Agrees, HasChoices, Reaches, first_in, least_in, order_in, is_backing, is_ordering, same_pair}
+use Rattle.global_order.specs.Index.{Agrees, waiting_in, HasChoices, Reaches, first_in, least_in, order_in, is_backing, is_ordering, same_pair}
 use Rattle.global_order.specs.Held.{IsHeld}
+use Rattle.global_order.specs.Unsaid.{holds_prepared, offers_rows, said_in, whole_view}
+use Rattle.global_order.proofs.Touching.{pending-whole}
 use Rattle.global_order.specs.Offered.{HasOffers, OffersFit}
 use Rattle.global_order.specs.declared.choices.Choices.{Choices}
 use Rattle.global_order.specs.declared.order.Order.TheInside.{Inside}
@@ -48,24 +51,27 @@ unfolding greatest_to
 none-greatest zero = refl
 none-greatest (suc most) = none-greatest most
 
+nothing-viewed : (g : Group) (s : ℕ) (d : List ℕ) → committed_views g [] s d ≡ []
+nothing-viewed g s d = refl
+
 nothing-stable : (g : Group) → 1 ≤ g.q → stable g [] ≡ 0
 unfolding stable
 nothing-stable g some = (λ i. greatest_to (λ s. no-quorum g (mark_by s) some i) most_number) ∙ none-greatest most_number
 
-empty-choices : (g : Group) (c : Choices) → 1 ≤ g.q → c.rows.entries ≡ [] → c.prepared.entries ≡ [] → c.backed.items ≡ [] → c.ordered.entries ≡ [] → c.committed.items ≡ [] → HasChoices g [] c
+empty-choices : (g : Group) (c : Choices) → 1 ≤ g.q → c.rows.entries ≡ [] → c.prepared.entries ≡ [] → c.backed.entries ≡ [] → c.ordered.entries ≡ [] → c.committed.entries ≡ [] → HasChoices g [] c
 empty-choices g c some rows slots backed orders committed = record {
   rows = λ d. ap (lookup (bytes_eq d)) rows ∙ sym (ap (find (has_digest d)) nothing-known);
   prepared = record {
     choice = λ k. ap (λ es. first_in (lookup (same_pair k) es)) slots ∙ sym (ap (option_map digest_of_rows) (nothing-prepared g k.0 k.1));
-    waiting = λ k d none. ap (list_any (is_backing k d)) backed ∙ sym (no-quorum g (prepare_by k.0 k.1 d) some);
-    places = λ k d waits. let no_wait : false ≡ true = sym (ap (list_any (is_backing k d)) backed) ∙ waits in absurd (cc);
+    waiting = λ k d none. ap (λ es. list_any (is_backing k d) (waiting_in (lookup (bytes_eq d) es))) backed ∙ sym (no-quorum g (prepare_by k.0 k.1 d) some);
+    places = λ k d waits. let no_wait : false ≡ true = sym (ap (λ es. list_any (is_backing k d) (waiting_in (lookup (bytes_eq d) es))) backed) ∙ waits in absurd (cc);
     closed = λ k d none. ap (λ b. b && is_known (rows_known []) d) (no-quorum g (prepare_by k.0 k.1 d) some);
   };
   least = λ k. subst (IsLeast (λ d. is_voted g (prepare_by k.0 k.1 d) [] && is_known (rows_known []) d)) (sym (ap (λ es. least_in (lookup (same_pair k) es)) slots)) (λ d. ap (λ b. b && is_known (rows_known []) d) (no-quorum g (prepare_by k.0 k.1 d) some));
   ordered = record {
     choice = λ s. ap (λ es. order_in (lookup (nat_eq s) es)) orders ∙ sym (ap (option_map digest_of_rows) (nothing-ordered g s));
-    waiting = λ s d none. ap (list_any (is_ordering s d)) committed;
-    places = λ s d waits. let no_wait : false ≡ true = sym (ap (list_any (is_ordering s d)) committed) ∙ waits in absurd (cc);
+    waiting = λ s d none. ap (λ es. list_any (is_ordering s d) (waiting_in (lookup (bytes_eq d) es))) committed;
+    places = λ s d waits. let no_wait : false ≡ true = sym (ap (λ es. list_any (is_ordering s d) (waiting_in (lookup (bytes_eq d) es))) committed) ∙ waits in absurd (cc);
     closed = λ s d none. refl;
   };
 }
@@ -74,13 +80,14 @@ not-positive : (s : ℕ) → 1 ≤ s → false ≡ nat_le s 0
 not-positive s low = sym (lt-leb s 0 low)
 
 pub held-new : (a : Inside) → 1 ≤ a.sizes.q → a.facts.items ≡ [] → a.said.items ≡ [] → a.prepares.entries ≡ [] → a.commits.entries ≡ [] → a.marks.entries ≡ [] →
-    a.choices.rows.entries ≡ [] → a.choices.prepared.entries ≡ [] → a.choices.backed.items ≡ [] → a.choices.ordered.entries ≡ [] → a.choices.committed.items ≡ [] →
-    a.offers.first_plan ≡ first_plan → a.offers.plans.entries ≡ [] → a.offers.proposals.entries ≡ [] → a.told.prepares.keys ≡ [] → a.told.commits.keys ≡ [] → a.told.marked ≡ 0 → a.stable ≡ 0 → a.gapless ≡ 0 → IsHeld a
-held-new a some facts said prepares commits marks rows slots backed orders committed first plans proposals told_prepares told_commits marked stable_is gapless_is = record {
+    a.choices.rows.entries ≡ [] → a.choices.prepared.entries ≡ [] → a.choices.backed.entries ≡ [] → a.choices.ordered.entries ≡ [] → a.choices.committed.entries ≡ [] → a.choices.highest ≡ 0 → a.views.entries ≡ [] →
+    a.offers.first_plan ≡ first_plan → a.offers.plans.entries ≡ [] → a.offers.proposals.entries ≡ [] → a.told.prepares.keys ≡ [] → a.told.commits.keys ≡ [] → a.told.marked ≡ 0 → a.stable ≡ 0 → a.gapless ≡ 0 → a.offers.pending ≡ whole_view 0 → a.choices.pending ≡ whole_view 0 → IsHeld a
+held-new a some facts said prepares commits marks rows slots backed orders committed highest_is views first plans proposals told_prepares told_commits marked stable_is gapless_is offers_pending choices_pending = record {
   prepares = λ v s d m. rw (prepares, facts) refl;
   commits = λ v s d m. rw (commits, facts) refl;
   marks = λ s m. rw (marks, facts) refl;
   choices = λ g is. rw facts (empty-choices g a.choices (enough g is) rows slots backed orders committed);
+  views = λ g is s d. rw (facts, views) (sym (ap greatest_of (nothing-viewed g s d)));
   offers = record { first = first; plans = λ v. rw (plans, facts) refl; proposals = λ v s. rw (proposals, facts) refl };
   fit = record { first = rw first refl; plans = λ v. rw plans refl; proposals = λ k. rw proposals refl };
   prepares_said = λ v s. rw (told_prepares, said) refl;
@@ -89,6 +96,9 @@ held-new a some facts said prepares commits marks rows slots backed orders commi
   marked_limit = omega arith;
   stable = λ g is. rw facts (stable_is ∙ sym (nothing-stable g (enough g is)));
   stable_limit = let z : 0 ≤ most_number = omega arith in rw stable_is z;
+  prepares_pending = rw offers_pending (pending-whole (said_in a.told.prepares) (offers_rows a.facts.items) 0);
+  commits_pending = rw choices_pending (pending-whole (said_in a.told.commits) (holds_prepared a.choices.prepared) 0);
+  highest = rw highest_is (record { limit = omega arith; there = λ low. absurd (omega arith); above = λ s high le. ap (λ es. order_in (lookup (nat_eq s) es)) orders });
   gapless = rw gapless_is (record {
     limit = omega arith;
     without_gap = λ s low high. absurd (omega arith);

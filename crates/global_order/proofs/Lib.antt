@@ -11,6 +11,10 @@ pub mod Answering
 pub mod Marking
 pub mod Alike
 pub mod Taking
+pub mod Highest
+pub mod Viewing
 pub mod Saying
+pub mod Touching
+pub mod Waits
 pub mod Beginning
 pub mod Certifying

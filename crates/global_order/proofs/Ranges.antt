@@ -36,7 +36,7 @@ flat_map-none f start = refl
 
 -- of the numbers from 1 to `count` those outside a range give nothing
 pub narrow : {X : Type 0} (f : ℕ → List X) (count low high : ℕ) → 1 ≤ low → high ≤ count + 1 →
-    ((k : ℕ) → 1 ≤ k → k ≤ count → k < low → f k ≡ []) → ((k : ℕ) → k ≤ count → high ≤ k → f k ≡ []) →
+    ((k : ℕ) → 1 ≤ k → k ≤ count → k < low → f k ≡ []) → ((k : ℕ) → 1 ≤ k → k ≤ count → high ≤ k → f k ≡ []) →
     flat_map f (numbers_from 1 count) ≡ flat_map f (numbers_from low (high - low))
 narrow {X} f count low high one high_fits before after = by (count + 1 - low) refl
   where
@@ -51,7 +51,7 @@ narrow {X} f count low high one high_fits before after = by (count + 1 - low) re
         ap (λ n. flat_map f (numbers_from 1 n)) all
         ∙ head f 1 (low - 1) (count + 1 - low) (λ k le lt. before k (omega arith) (omega arith) (omega arith))
         ∙ ap (λ s. flat_map f (numbers_from s (count + 1 - low))) start
-        ∙ tail f low (count + 1 - low) (high - low) (omega arith) (λ k le less. after k (omega arith) (omega arith))
+        ∙ tail f low (count + 1 - low) (high - low) (omega arith) (λ k le less. after k (omega arith) (omega arith) (omega arith))
 
 pub numbers_from-more : (start count : ℕ) → numbers_from start (suc count) ≡ numbers_from start count ++ (start + count) ∷ []
 unfolding numbers_from

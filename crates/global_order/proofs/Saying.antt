@@ -40,12 +40,12 @@ pub marks-are : (g : Group) (facts : List OrderFact) (said : List Body) (marked 
 marks-are g facts said marked reach has e =
     let count : reach - marked ≡ (reach + 1) - (marked + 1) = omega arith in
     ap (λ n. flat_map (mark_due said) (numbers_from (marked + 1) n)) count
-    ∙ sym (narrow (mark_due said) reach (marked + 1) (reach + 1) (omega arith) (omega arith) (λ k low high below. mark-said said marked k has low (omega arith)) (λ k high beyond. absurd (omega arith)))
+    ∙ sym (narrow (mark_due said) reach (marked + 1) (reach + 1) (omega arith) (omega arith) (λ k low high below. mark-said said marked k has low (omega arith)) (λ k low high beyond. absurd (omega arith)))
     ∙ ap (λ n. flat_map (mark_due said) (numbers_from 1 n)) e
 
 -- which marks are said then
 
-any-from : {X : Type 0} (p : X → Bool) (f : ℕ → List X) (start count k : ℕ) → start ≤ k → k < start + count → list_any p (f k) ≡ true → list_any p (flat_map f (numbers_from start count)) ≡ true
+pub any-from : {X : Type 0} (p : X → Bool) (f : ℕ → List X) (start count k : ℕ) → start ≤ k → k < start + count → list_any p (f k) ≡ true → list_any p (flat_map f (numbers_from start count)) ≡ true
 unfolding numbers_from
 any-from p f start zero k low high there = absurd (omega arith)
 any-from p f start (suc count) k low high there =

@@ -10,7 +10,10 @@ use Rattle.indexmap.specs.IndexMap.{get}
 use Rattle.message_types.specs.Digests.{digest_of_rows}
 use Rattle.protocol_rules.specs.Words.{or_else}
 use Rattle.global_order.specs.Choosing.{has_digest, is_known, IsChosen, IsLeast, lesser}
-use Rattle.global_order.specs.Index.{Map, with_all, same_pair, first_in, least_in, order_in, is_backing, is_ordering, TakesDigest, KeepsSlots, TakesOrder, KeepsOrders, HasRows, Agrees, with_rows, with_quorum, with_choice}
+use Rattle.global_order.specs.Index.{Map, Waiting, HasPlaces, slot_waits, order_waits, waiting_in, with_all, same_pair, first_in, least_in, order_in, is_backing, is_ordering, TakesDigest, KeepsSlots, TakesOrder, KeepsOrders, HasRows, Agrees, with_rows, with_quorum, with_choice}
+use Rattle.std.specs.declared.alloc.Global.{Global}
+use Rattle.std.specs.declared.vec.Vec.{Vec}
+use Rattle.global_order.specs.declared.pending.Pending.{Pending}
 use Rattle.global_order.specs.declared.slots.Slot.{Slot}
 use Rattle.global_order.specs.declared.quorum.Quorum.{Quorum}
 use Rattle.global_order.specs.declared.choices.Choices.{Choices}
@@ -178,26 +181,50 @@ agrees-again known r digest prepares first commits order c is_digest there agree
         by false e = or-false (is_known known d)
         by true e = let is : is_known known d ≡ true = ap (is_known known) (sym (bytes-same (digest_of_rows r) d e)) ∙ knows in rw is refl
 
+-- none waits for rows of the digest any more, or one more waits
+abbrev pub HasLeft : List ℕ → Waiting → Waiting → Type 0
+HasLeft digest old new = (d : List ℕ) → get bytes_eq new d ≡ cond (bytes_eq digest d) None (get bytes_eq old d)
+
+abbrev pub HasMore : Quorum → Waiting → Waiting → Type 0
+HasMore q old new = (d : List ℕ) → waiting_in (get bytes_eq new d) ≡ cond (bytes_eq q.digest d) (waiting_in (get bytes_eq old d) ++ q ∷ []) (waiting_in (get bytes_eq old d))
+
+pub fewer : (p : Quorum → Bool) (here : Bool) (old new : Option (Vec Quorum Global)) → new ≡ cond here None old → list_any p (waiting_in new) ≡ true → list_any p (waiting_in old) ≡ true
+fewer p true old new left waits = absurd (true≢false (sym waits ∙ ap (λ o. list_any p (waiting_in o)) left))
+fewer p false old new left waits = sym (ap (λ o. list_any p (waiting_in o)) left) ∙ waits
+
+waits-more : (q : Quorum) (p : Quorum → Bool) (here like : Bool) (waiting : List Quorum) → p q ≡ (here && like) → list_any p (cond like (waiting ++ q ∷ []) waiting) ≡ (list_any p waiting || (here && like))
+waits-more q p here true waiting e = list_any-push p waiting q ∙ ap (λ b. list_any p waiting || b) e
+waits-more q p here false waiting e = sym (ap (λ b. list_any p waiting || b) (false-and here) ∙ or-false (list_any p waiting))
+
+-- what waits still has its place
+pub places-settled : (digest : List ℕ) (old new : Choices) → HasLeft digest old.backed new.backed → HasLeft digest old.committed new.committed → TakesDigest (λ k. slot_waits old.backed k digest) digest old.prepared new.prepared →
+    TakesOrder (λ s. order_waits old.committed s digest) digest old.ordered new.ordered → HasPlaces old → HasPlaces new
+places-settled digest old new left orders_left takes orders_take has = record {
+  prepared = λ k d waits. takes.places k ∙ has.prepared k d (fewer (is_backing k d) (bytes_eq digest d) _ _ (left d) waits);
+  ordered = λ s d waits. orders_take.places s ∙ has.ordered s d (fewer (is_ordering s d) (bytes_eq digest d) _ _ (orders_left d) waits);
+}
+
 -- rows of a new digest
 pub agrees-new : (known : List (List (List ℕ))) (r : List (List ℕ)) (digest : List ℕ) (prepares : ℕ × ℕ → List ℕ → Bool) (first : ℕ × ℕ → Option (List ℕ)) (commits : ℕ → List ℕ → Bool) (order : ℕ → Option (List ℕ)) (c : Choices)
-    (rows : Map (List ℕ) (List (List ℕ))) (slots : Map (ℕ × ℕ) Slot) (orders : Map ℕ (Option (List ℕ))) →
+    (rows : Map (List ℕ) (List (List ℕ))) (slots : Map (ℕ × ℕ) Slot) (orders : Map ℕ (Option (List ℕ))) (backed committed : Waiting) (pending : Pending) (highest : ℕ) →
     digest ≡ digest_of_rows r → false ≡ is_some (get bytes_eq c.rows digest) → ((d : List ℕ) → get bytes_eq rows d ≡ cond (bytes_eq digest d) (Some r) (get bytes_eq c.rows d)) →
-    TakesDigest (λ k. list_any (is_backing k digest) c.backed.items) digest c.prepared slots → TakesOrder (λ s. list_any (is_ordering s digest) c.committed.items) digest c.ordered orders →
-    Agrees known prepares first commits order c →
+    TakesDigest (λ k. slot_waits c.backed k digest) digest c.prepared slots → TakesOrder (λ s. order_waits c.committed s digest) digest c.ordered orders →
+    HasLeft digest c.backed backed → HasLeft digest c.committed committed → Agrees known prepares first commits order c →
     Agrees (known ++ r ∷ []) prepares (with_rows prepares first (digest_of_rows r)) commits (with_rows commits order (digest_of_rows r))
-    record { rows = rows; prepared = slots; backed = c.backed; ordered = orders; committed = c.committed }
-agrees-new known r digest prepares first commits order c rows slots orders is_digest absent put takes orders_take agrees =
-    with (rw is_digest at absent) (rw is_digest at put) (rw is_digest at takes) (rw is_digest at orders_take)
+    record { rows = rows; prepared = slots; backed = backed; pending = pending; ordered = orders; committed = committed; highest = highest }
+agrees-new known r digest prepares first commits order c rows slots orders backed committed pending highest is_digest absent put takes orders_take left orders_left agrees =
+    with (rw is_digest at absent) (rw is_digest at put) (rw is_digest at takes) (rw is_digest at orders_take) (rw is_digest at left) (rw is_digest at orders_left)
   where
     with : false ≡ is_some (get bytes_eq c.rows (digest_of_rows r)) → ((d : List ℕ) → get bytes_eq rows d ≡ cond (bytes_eq (digest_of_rows r) d) (Some r) (get bytes_eq c.rows d)) →
-        TakesDigest (λ k. list_any (is_backing k (digest_of_rows r)) c.backed.items) (digest_of_rows r) c.prepared slots → TakesOrder (λ s. list_any (is_ordering s (digest_of_rows r)) c.committed.items) (digest_of_rows r) c.ordered orders →
+        TakesDigest (λ k. slot_waits c.backed k (digest_of_rows r)) (digest_of_rows r) c.prepared slots → TakesOrder (λ s. order_waits c.committed s (digest_of_rows r)) (digest_of_rows r) c.ordered orders →
+        HasLeft (digest_of_rows r) c.backed backed → HasLeft (digest_of_rows r) c.committed committed →
         Agrees (known ++ r ∷ []) prepares (with_rows prepares first (digest_of_rows r)) commits (with_rows commits order (digest_of_rows r))
-        record { rows = rows; prepared = slots; backed = c.backed; ordered = orders; committed = c.committed }
-    with absent put takes orders_take = record {
+        record { rows = rows; prepared = slots; backed = backed; pending = pending; ordered = orders; committed = committed; highest = highest }
+    with absent put takes orders_take left orders_left = record {
       rows = rows-new known r c.rows rows unknown put agrees.rows;
-      prepared = chosen-rows-new known r prepares first _ _ _ _ _ unknown takes.first (λ k e. takes.places k ∙ e) agrees.prepared;
+      prepared = chosen-rows-new known r prepares first _ (slot_waits c.backed) (slot_waits backed) _ _ _ unknown (λ k d apart. ap (λ o. list_any (is_backing k d) (waiting_in o)) (left d ∙ ap (λ b. cond b None (get bytes_eq c.backed d)) apart)) (λ k d. fewer (is_backing k d) (bytes_eq (digest_of_rows r) d) _ _ (left d)) takes.first (λ k e. takes.places k ∙ e) agrees.prepared;
       least = λ k. least k (prepares k (digest_of_rows r)) refl (takes.least k ∙ ap (λ b. cond b (lesser (least_in (get same_pair c.prepared k)) (digest_of_rows r)) (least_in (get same_pair c.prepared k))) (agrees.prepared.waiting k (digest_of_rows r) unknown));
-      ordered = chosen-rows-new known r commits order _ _ _ _ _ unknown orders_take.order (λ s e. orders_take.places s ∙ e) agrees.ordered;
+      ordered = chosen-rows-new known r commits order _ (order_waits c.committed) (order_waits committed) _ _ _ unknown (λ s d apart. ap (λ o. list_any (is_ordering s d) (waiting_in o)) (orders_left d ∙ ap (λ b. cond b None (get bytes_eq c.committed d)) apart)) (λ s d. fewer (is_ordering s d) (bytes_eq (digest_of_rows r) d) _ _ (orders_left d)) orders_take.order (λ s e. orders_take.places s ∙ e) agrees.ordered;
     }
       where
         unknown : is_known known (digest_of_rows r) ≡ false
@@ -223,11 +250,11 @@ agrees-new known r digest prepares first commits order c rows slots orders is_di
             (λ e. ap (λ b. prepares k e && b) (list_any-push (has_digest e) known r) ∙ apart (prepares k e) (is_known known e) (has_digest e r) (λ like. ap (prepares k) (sym (bytes-same (digest_of_rows r) e like)) ∙ back)) (agrees.least k))
 
 -- a quorum of prepares whose rows are known
-pub agrees-backed : (known : List (List (List ℕ))) (key : ℕ × ℕ) (d : List ℕ) (prepares : ℕ × ℕ → List ℕ → Bool) (first : ℕ × ℕ → Option (List ℕ)) (commits : ℕ → List ℕ → Bool) (order : ℕ → Option (List ℕ)) (c : Choices) (slots : Map (ℕ × ℕ) Slot) →
+pub agrees-backed : (known : List (List (List ℕ))) (key : ℕ × ℕ) (d : List ℕ) (prepares : ℕ × ℕ → List ℕ → Bool) (first : ℕ × ℕ → Option (List ℕ)) (commits : ℕ → List ℕ → Bool) (order : ℕ → Option (List ℕ)) (c : Choices) (slots : Map (ℕ × ℕ) Slot) (pending : Pending) →
     true ≡ is_some (get bytes_eq c.rows d) → TakesDigest (same_pair key) d c.prepared slots → Agrees known prepares first commits order c →
     Agrees known (with_quorum same_pair key d prepares) (with_choice same_pair key d known first) commits order
-    record { rows = c.rows; prepared = slots; backed = c.backed; ordered = c.ordered; committed = c.committed }
-agrees-backed known key d prepares first commits order c slots there takes agrees = record {
+    record { rows = c.rows; prepared = slots; backed = c.backed; pending = pending; ordered = c.ordered; committed = c.committed; highest = c.highest }
+agrees-backed known key d prepares first commits order c slots pending there takes agrees = record {
   rows = agrees.rows;
   prepared = chosen-backed same_pair known key d prepares _ first _ _ _ _ _ _ knows (λ k e. refl) (λ k. ap (λ b. or_else (first k) (cond (same_pair key k && b) (Some d) None)) knows ∙ ap (λ b. or_else (first k) (cond b (Some d) None)) (true-and (same_pair key k)))
       takes.first (λ k e. takes.places k ∙ e) agrees.prepared;
@@ -257,14 +284,14 @@ agrees-backed known key d prepares first commits order c slots there takes agree
 
 -- a quorum of prepares that waits for its rows
 pub agrees-waits : (known : List (List (List ℕ))) (q : Quorum) (prepares : ℕ × ℕ → List ℕ → Bool) (first : ℕ × ℕ → Option (List ℕ)) (commits : ℕ → List ℕ → Bool) (order : ℕ → Option (List ℕ)) (c after : Choices) →
-    false ≡ is_some (get bytes_eq c.rows q.digest) → is_some (get same_pair c.prepared (q.v, q.s)) ≡ true → after.backed.items ≡ c.backed.items ++ q ∷ [] → after.rows ≡ c.rows → after.prepared ≡ c.prepared → after.ordered ≡ c.ordered → after.committed ≡ c.committed →
+    false ≡ is_some (get bytes_eq c.rows q.digest) → is_some (get same_pair c.prepared (q.v, q.s)) ≡ true → HasMore q c.backed after.backed → after.rows ≡ c.rows → after.prepared ≡ c.prepared → after.ordered ≡ c.ordered → after.committed ≡ c.committed →
     Agrees known prepares first commits order c →
     Agrees known (with_quorum same_pair (q.v, q.s) q.digest prepares) (with_choice same_pair (q.v, q.s) q.digest known first) commits order after
 agrees-waits known q prepares first commits order c after absent place pushed rows_are slots_are orders_are committed_are agrees = record {
   rows = rw rows_are agrees.rows;
-  prepared = rw slots_are (chosen-waits same_pair known (q.v, q.s) q.digest prepares _ first _ _ _ (λ k d. list_any (is_backing k d) after.backed.items) _ _ _ unknown (λ k e. refl)
+  prepared = rw slots_are (chosen-waits same_pair known (q.v, q.s) q.digest prepares _ first _ _ _ (slot_waits after.backed) _ _ _ unknown (λ k e. refl)
       (λ k. ap (λ b. or_else (first k) (cond (same_pair (q.v, q.s) k && b) (Some q.digest) None)) unknown ∙ ap (λ b. or_else (first k) (cond b (Some q.digest) None)) (false-and (same_pair (q.v, q.s) k)) ∙ or_else-none (first k))
-      (λ k. refl) (λ k e. ap (list_any (is_backing k e)) pushed ∙ list_any-push (is_backing k e) c.backed.items q) (λ k e. e) (λ k e. ap (λ key. is_some (get same_pair c.prepared key)) (sym (same_pair-same (q.v, q.s) k e)) ∙ place) agrees.prepared);
+      (λ k. refl) (λ k e. ap (list_any (is_backing k e)) (pushed e) ∙ waits-more q (is_backing k e) (same_pair (q.v, q.s) k) (bytes_eq q.digest e) (waiting_in (get bytes_eq c.backed e)) refl) (λ k e. e) (λ k e. ap (λ key. is_some (get same_pair c.prepared key)) (sym (same_pair-same (q.v, q.s) k e)) ∙ place) agrees.prepared);
   least = λ k. rw slots_are (least-alike (λ e. prepares k e && is_known known e) _ (least_in (get same_pair c.prepared k)) (λ e. apart (prepares k e) (is_known known e) (same_pair (q.v, q.s) k) (bytes_eq q.digest e) (λ like. ap (is_known known) (sym (bytes-same q.digest e like)) ∙ unknown)) (agrees.least k));
   ordered = rw (orders_are, committed_are) agrees.ordered;
 }
@@ -279,11 +306,11 @@ agrees-waits known q prepares first commits order c after absent place pushed ro
     apart false n true true e = e refl
 
 -- a quorum of commits whose rows are known
-pub agrees-committed : (known : List (List (List ℕ))) (s : ℕ) (d : List ℕ) (prepares : ℕ × ℕ → List ℕ → Bool) (first : ℕ × ℕ → Option (List ℕ)) (commits : ℕ → List ℕ → Bool) (order : ℕ → Option (List ℕ)) (c : Choices) (orders : Map ℕ (Option (List ℕ))) →
+pub agrees-committed : (known : List (List (List ℕ))) (s : ℕ) (d : List ℕ) (prepares : ℕ × ℕ → List ℕ → Bool) (first : ℕ × ℕ → Option (List ℕ)) (commits : ℕ → List ℕ → Bool) (order : ℕ → Option (List ℕ)) (c : Choices) (orders : Map ℕ (Option (List ℕ))) (highest : ℕ) →
     true ≡ is_some (get bytes_eq c.rows d) → TakesOrder (nat_eq s) d c.ordered orders → Agrees known prepares first commits order c →
     Agrees known prepares first (with_quorum nat_eq s d commits) (with_choice nat_eq s d known order)
-    record { rows = c.rows; prepared = c.prepared; backed = c.backed; ordered = orders; committed = c.committed }
-agrees-committed known s d prepares first commits order c orders there takes agrees = record {
+    record { rows = c.rows; prepared = c.prepared; backed = c.backed; pending = c.pending; ordered = orders; committed = c.committed; highest = highest }
+agrees-committed known s d prepares first commits order c orders highest there takes agrees = record {
   rows = agrees.rows;
   prepared = agrees.prepared;
   least = agrees.least;
@@ -296,16 +323,16 @@ agrees-committed known s d prepares first commits order c orders there takes agr
 
 -- a quorum of commits that waits for its rows
 pub agrees-pending : (known : List (List (List ℕ))) (q : Quorum) (prepares : ℕ × ℕ → List ℕ → Bool) (first : ℕ × ℕ → Option (List ℕ)) (commits : ℕ → List ℕ → Bool) (order : ℕ → Option (List ℕ)) (c after : Choices) →
-    false ≡ is_some (get bytes_eq c.rows q.digest) → is_some (get nat_eq c.ordered q.s) ≡ true → after.committed.items ≡ c.committed.items ++ q ∷ [] → after.rows ≡ c.rows → after.prepared ≡ c.prepared → after.backed ≡ c.backed → after.ordered ≡ c.ordered →
+    false ≡ is_some (get bytes_eq c.rows q.digest) → is_some (get nat_eq c.ordered q.s) ≡ true → HasMore q c.committed after.committed → after.rows ≡ c.rows → after.prepared ≡ c.prepared → after.backed ≡ c.backed → after.ordered ≡ c.ordered →
     Agrees known prepares first commits order c →
     Agrees known prepares first (with_quorum nat_eq q.s q.digest commits) (with_choice nat_eq q.s q.digest known order) after
 agrees-pending known q prepares first commits order c after absent place pushed rows_are slots_are backed_are orders_are agrees = record {
   rows = rw rows_are agrees.rows;
   prepared = rw (slots_are, backed_are) agrees.prepared;
   least = λ k. rw slots_are (agrees.least k);
-  ordered = rw orders_are (chosen-waits nat_eq known q.s q.digest commits _ order _ _ _ (λ k d. list_any (is_ordering k d) after.committed.items) _ _ _ unknown (λ k e. refl)
+  ordered = rw orders_are (chosen-waits nat_eq known q.s q.digest commits _ order _ _ _ (order_waits after.committed) _ _ _ unknown (λ k e. refl)
       (λ k. ap (λ b. or_else (order k) (cond (nat_eq q.s k && b) (Some q.digest) None)) unknown ∙ ap (λ b. or_else (order k) (cond b (Some q.digest) None)) (false-and (nat_eq q.s k)) ∙ or_else-none (order k))
-      (λ k. refl) (λ k e. ap (list_any (is_ordering k e)) pushed ∙ list_any-push (is_ordering k e) c.committed.items q) (λ k e. e) (λ k e. ap (λ key. is_some (get nat_eq c.ordered key)) (sym (nat_eq-same q.s k e)) ∙ place) agrees.ordered);
+      (λ k. refl) (λ k e. ap (list_any (is_ordering k e)) (pushed e) ∙ waits-more q (is_ordering k e) (nat_eq q.s k) (bytes_eq q.digest e) (waiting_in (get bytes_eq c.committed e)) refl) (λ k e. e) (λ k e. ap (λ key. is_some (get nat_eq c.ordered key)) (sym (nat_eq-same q.s k e)) ∙ place) agrees.ordered);
 }
   where
     unknown : is_known known q.digest ≡ false

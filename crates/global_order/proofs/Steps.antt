@@ -3,6 +3,7 @@ use Rattle.std.proofs.Common.{◌≡◌, ℕ, Bool, true, false, cond, ◌&&◌,
 use Rattle.std.specs.List.{list_any}
 use Rattle.std.specs.Str.{bytes_eq}
 use Rattle.std.proofs.Math.Bool.{or-false}
+use Rattle.std.proofs.lemmas.Bool.{or_parts}
 use Rattle.message_types.specs.Digests.{digest_of_rows}
 use Rattle.protocol_rules.specs.Words.{or_else}
 use Rattle.global_order.specs.Choosing.{has_digest, is_known, IsChosen}
@@ -42,16 +43,16 @@ chosen-again {K} rows r backs first held waits has_place known is = record {
         there = ap (is_known rows) (sym (bytes-same (digest_of_rows r) d e)) ∙ known
 
 -- rows of a digest that was unknown are chosen where their digest waited
-pub chosen-rows-new : {K : Type 0} (rows : List (List (List ℕ))) (r : List (List ℕ)) (backs : K → List ℕ → Bool) (first held : K → Option (List ℕ)) (waits : K → List ℕ → Bool) (has_place : K → Bool)
-    (after : K → Option (List ℕ)) (has_place_after : K → Bool) → is_known rows (digest_of_rows r) ≡ false →
+pub chosen-rows-new : {K : Type 0} (rows : List (List (List ℕ))) (r : List (List ℕ)) (backs : K → List ℕ → Bool) (first held : K → Option (List ℕ)) (waits waits_after : K → List ℕ → Bool) (has_place : K → Bool)
+    (after : K → Option (List ℕ)) (has_place_after : K → Bool) → is_known rows (digest_of_rows r) ≡ false → ((k : K) (d : List ℕ) → has_digest d r ≡ false → waits_after k d ≡ waits k d) → ((k : K) (d : List ℕ) → waits_after k d ≡ true → waits k d ≡ true) →
     ((k : K) → after k ≡ cond (waits k (digest_of_rows r)) (or_else (held k) (Some (digest_of_rows r))) (held k)) → ((k : K) → has_place k ≡ true → has_place_after k ≡ true) →
     IsChosen rows backs first held waits has_place →
-    IsChosen (rows ++ r ∷ []) backs (λ k. or_else (first k) (cond (backs k (digest_of_rows r)) (Some (digest_of_rows r)) None)) after waits has_place_after
-chosen-rows-new {K} rows r backs first held waits has_place after has_place_after unknown takes keeps is = record {
+    IsChosen (rows ++ r ∷ []) backs (λ k. or_else (first k) (cond (backs k (digest_of_rows r)) (Some (digest_of_rows r)) None)) after waits_after has_place_after
+chosen-rows-new {K} rows r backs first held waits waits_after has_place after has_place_after unknown left fewer takes keeps is = record {
   choice = λ k. takes k ∙ ap (λ b. cond b (or_else (held k) (Some (digest_of_rows r))) (held k)) (is.waiting k (digest_of_rows r) unknown)
       ∙ ap (λ o. cond (backs k (digest_of_rows r)) (or_else o (Some (digest_of_rows r))) o) (is.choice k) ∙ same (backs k (digest_of_rows r)) (first k);
-  waiting = λ k d none. is.waiting k d (left-false (is_known rows d) (has_digest d r) (sym (list_any-push (has_digest d) rows r) ∙ none));
-  places = λ k d waits. keeps k (is.places k d waits);
+  waiting = λ k d none. let parts = or_parts (is_known rows d) (has_digest d r) (sym (list_any-push (has_digest d) rows r) ∙ none) in left k d parts.1 ∙ is.waiting k d parts.0;
+  places = λ k d waits. keeps k (is.places k d (fewer k d waits));
   closed = λ k d none. ap (λ b. backs k d && b) (list_any-push (has_digest d) rows r)
       ∙ by (backs k d) (is_known rows d) (has_digest d r) (is.closed k d (first-none (first k) _ none)) (λ like. ap (backs k) (sym (bytes-same (digest_of_rows r) d like)) ∙ not-backed (first k) (backs k (digest_of_rows r)) none);
 }

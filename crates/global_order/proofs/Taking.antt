@@ -30,6 +30,7 @@ use Rattle.message_types.specs.declared.views.Plan.{Plan}
 use Rattle.message_types.specs.Spelling.{rows_fit}
 use Rattle.global_order.specs.Offered.{HasOffers, OffersFit, fits, plan_fits}
 use Rattle.global_order.specs.declared.choices.Choices.{Choices}
+use Rattle.global_order.specs.declared.pending.Pending.{Pending}
 use Rattle.global_order.specs.declared.offers.Offers.{Offers}
 use Rattle.global_order.proofs.Booleans.{and-parts, bytes-same, nat_eq-same, same_pair-same, nat_eq-own, first_of_list-push, list_any-push, or_else-none, option_map-cond}
 use Rattle.global_order.proofs.Meeting.{chosen-same, chosen-newly, chosen-rows, rows_known-push, first_backed}
@@ -41,7 +42,7 @@ false-and true = refl
 false-and false = refl
 
 -- the view of a commit for a number and a digest
-abbrev view_of : ℕ → List ℕ → OrderFact → Option ℕ
+abbrev pub view_of : ℕ → List ℕ → OrderFact → Option ℕ
 view_of s digest f = elim f [ fact.Commit c ↦ cond (nat_eq c.body.s s && bytes_eq c.body.digest digest) (Some c.body.v) None | _ ↦ None ]
 
 -- the fact is no vote that the choices go by
@@ -50,7 +51,7 @@ pub record IsNoVote (x : OrderFact) : Type 0 where
   pub commit : (v s : ℕ) (d : List ℕ) (m : ℕ) → commit_by v s d m x ≡ None
   pub view : (s : ℕ) (d : List ℕ) → view_of s d x ≡ None
 
-views-push : (facts : List OrderFact) (x : OrderFact) (s : ℕ) (d : List ℕ) → commit_views (facts ++ x ∷ []) s d ≡ commit_views facts s d ++ cons_option (view_of s d x) []
+pub views-push : (facts : List OrderFact) (x : OrderFact) (s : ℕ) (d : List ℕ) → commit_views (facts ++ x ∷ []) s d ≡ commit_views facts s d ++ cons_option (view_of s d x) []
 views-push facts x s d = filter_map-append (view_of s d) facts (x ∷ [])
 
 committed-other : (g : Group) (facts : List OrderFact) (x : OrderFact) (s : ℕ) (d : List ℕ) → ((v m : ℕ) → commit_by v s d m x ≡ None) → view_of s d x ≡ None → is_committed g (facts ++ x ∷ []) s d ≡ is_committed g facts s d
@@ -431,25 +432,25 @@ stable-mark g n q facts x new count was raised sizes has count_is was_is is =
 pub taken-first : {K X : Type 0} (same : K → K → Bool) (old mid new : Map K X) (key : K) (x : X) → mid.entries ≡ old.entries → TakesFirst same mid new key x → TakesFirst same old new key x
 taken-first same old mid new key x like takes k = takes k ∙ ap (λ es. or_else (lookup (same k) es) (cond (same key k) (Some x) None)) like
 
-pub offers-proposal : (facts : List OrderFact) (v s : ℕ) (rows : List (List ℕ)) (offers : Offers) (new : Map (ℕ × ℕ) (List (List ℕ))) → TakesFirst same_pair offers.proposals new (v, s) rows → HasOffers facts offers →
-    HasOffers (facts ++ fact.Proposal v s rows ∷ []) record { first_plan = offers.first_plan; plans = offers.plans; proposals = new }
-offers-proposal facts v s rows offers new takes has = record {
+pub offers-proposal : (facts : List OrderFact) (v s : ℕ) (rows : List (List ℕ)) (offers : Offers) (new : Map (ℕ × ℕ) (List (List ℕ))) (pending : Pending) → TakesFirst same_pair offers.proposals new (v, s) rows → HasOffers facts offers →
+    HasOffers (facts ++ fact.Proposal v s rows ∷ []) record { first_plan = offers.first_plan; plans = offers.plans; proposals = new; pending = pending }
+offers-proposal facts v s rows offers new pending takes has = record {
   first = has.first;
   plans = λ w. has.plans w ∙ sym (first-other (plan_in w) facts (fact.Proposal v s rows) refl);
   proposals = λ w t. takes (w, t) ∙ ap (λ o. or_else o (cond (same_pair (v, s) (w, t)) (Some rows) None)) (has.proposals w t) ∙ sym (first_of_list-push (proposal_in w t) facts (fact.Proposal v s rows));
 }
 
-pub offers-plan : (facts : List OrderFact) (v : ℕ) (plan : Plan) (offers : Offers) (new : Map ℕ Plan) → TakesFirst nat_eq offers.plans new v plan → HasOffers facts offers →
-    HasOffers (facts ++ fact.Plan v plan ∷ []) record { first_plan = offers.first_plan; plans = new; proposals = offers.proposals }
-offers-plan facts v plan offers new takes has = record {
+pub offers-plan : (facts : List OrderFact) (v : ℕ) (plan : Plan) (offers : Offers) (new : Map ℕ Plan) (pending : Pending) → TakesFirst nat_eq offers.plans new v plan → HasOffers facts offers →
+    HasOffers (facts ++ fact.Plan v plan ∷ []) record { first_plan = offers.first_plan; plans = new; proposals = offers.proposals; pending = pending }
+offers-plan facts v plan offers new pending takes has = record {
   first = has.first;
   plans = λ w. takes w ∙ ap (λ o. or_else o (cond (nat_eq v w) (Some plan) None)) (has.plans w) ∙ sym (first_of_list-push (plan_in w) facts (fact.Plan v plan));
   proposals = λ w t. has.proposals w t ∙ sym (first-other (proposal_in w t) facts (fact.Plan v plan) refl);
 }
 
-pub fit-proposal : (key : ℕ × ℕ) (rows : List (List ℕ)) (offers : Offers) (new : Map (ℕ × ℕ) (List (List ℕ))) → rows_fit rows ≡ true → TakesFirst same_pair offers.proposals new key rows → OffersFit offers →
-    OffersFit record { first_plan = offers.first_plan; plans = offers.plans; proposals = new }
-fit-proposal key rows offers new fit takes fits_all = record {
+pub fit-proposal : (key : ℕ × ℕ) (rows : List (List ℕ)) (offers : Offers) (new : Map (ℕ × ℕ) (List (List ℕ))) (pending : Pending) → rows_fit rows ≡ true → TakesFirst same_pair offers.proposals new key rows → OffersFit offers →
+    OffersFit record { first_plan = offers.first_plan; plans = offers.plans; proposals = new; pending = pending }
+fit-proposal key rows offers new pending fit takes fits_all = record {
   first = fits_all.first;
   plans = fits_all.plans;
   proposals = λ k. ap fits (takes k) ∙ by (get same_pair offers.proposals k) (same_pair key k) (fits_all.proposals k);
@@ -460,9 +461,9 @@ fit-proposal key rows offers new fit takes fits_all = record {
     by None true e = fit
     by None false e = refl
 
-pub fit-plan : (v : ℕ) (plan : Plan) (offers : Offers) (new : Map ℕ Plan) → list_all rows_fit plan.rows ≡ true → TakesFirst nat_eq offers.plans new v plan → OffersFit offers →
-    OffersFit record { first_plan = offers.first_plan; plans = new; proposals = offers.proposals }
-fit-plan v plan offers new fit takes fits_all = record {
+pub fit-plan : (v : ℕ) (plan : Plan) (offers : Offers) (new : Map ℕ Plan) (pending : Pending) → list_all rows_fit plan.rows ≡ true → TakesFirst nat_eq offers.plans new v plan → OffersFit offers →
+    OffersFit record { first_plan = offers.first_plan; plans = new; proposals = offers.proposals; pending = pending }
+fit-plan v plan offers new pending fit takes fits_all = record {
   first = fits_all.first;
   plans = λ w. ap plan_fits (takes w) ∙ by (get nat_eq offers.plans w) (nat_eq v w) (fits_all.plans w);
   proposals = fits_all.proposals;

@@ -1,12 +1,14 @@
 -- The index beside the list of facts: each part of it agrees with a definition over the list.
-use Rattle.std.specs.Prelude.{◌≡◌, ℕ, suc, ◌≤◌, ◌<◌, IsSome, Bool, ◌&&◌, ◌||◌, List, ◌++◌, ◌∷◌, [], true, Option, Some, None, is_some, nat_eq, if◌then◌else◌}
+use Rattle.std.specs.Prelude.{◌≡◌, ◌⊎◌, ℕ, suc, ◌≤◌, ◌<◌, IsSome, Bool, ◌&&◌, ◌||◌, List, ◌++◌, ◌∷◌, [], true, false, Option, Some, None, is_some, nat_eq, nat_lt, vec_len, vec_capacity, if◌then◌else◌}
 use Rattle.std.specs.List.{filter_map, find, list_any}
 use Rattle.std.specs.Option.{option_map}
 use Rattle.std.specs.Str.{bytes_eq}
 use Rattle.std.specs.HashMap.{HashMap}
+use Rattle.std.specs.declared.alloc.Global.{Global}
+use Rattle.std.specs.declared.vec.Vec.{Vec}
 use Rattle.std.specs.declared.hash.FoldHasher.{FoldHasher}
 use Rattle.std.specs.declared.hash.BuildHasherDefault.{BuildHasherDefault}
-use Rattle.indexmap.specs.IndexMap.{get}
+use Rattle.indexmap.specs.IndexMap.{get, spare}
 use Rattle.message_types.specs.declared.signed.Signed.{Signed}
 use Rattle.message_types.specs.declared.ordering.Prepare.{Prepare}
 use Rattle.message_types.specs.declared.ordering.Commit.{Commit}
@@ -96,6 +98,33 @@ is_backing k digest q = same_pair (q.v, q.s) k && bytes_eq q.digest digest
 abbrev pub is_ordering : ℕ → List ℕ → Quorum → Bool
 is_ordering s digest q = nat_eq q.s s && bytes_eq q.digest digest
 
+-- the quorums that wait
+abbrev pub waiting_in : Option (Vec Quorum Global) → List Quorum
+waiting_in None = []
+waiting_in (Some quorums) = quorums.items
+
+abbrev pub Waiting : Type 0
+Waiting = Map (List ℕ) (Vec Quorum Global)
+
+-- of those that wait for rows of the digest one is of this view and number, or of this number
+abbrev pub slot_waits : Waiting → ℕ × ℕ → List ℕ → Bool
+slot_waits waiting k digest = list_any (is_backing k digest) (waiting_in (get bytes_eq waiting digest))
+
+abbrev pub order_waits : Waiting → ℕ → List ℕ → Bool
+order_waits waiting s digest = list_any (is_ordering s digest) (waiting_in (get bytes_eq waiting digest))
+
+abbrev pub KeepsWaiting : Waiting → Waiting → Type 0
+KeepsWaiting old new = (d : List ℕ) → waiting_in (get bytes_eq new d) ≡ waiting_in (get bytes_eq old d)
+
+-- the list is there and has room
+abbrev pub has_room : Option (Vec Quorum Global) → Bool
+has_room None = false
+has_room (Some quorums) = nat_lt (vec_len quorums) (vec_capacity quorums)
+
+pub record HasRoomFor (digest : List ℕ) (waiting : Waiting) : Type 0 where
+  pub entry : 1 ≤ spare waiting
+  pub list : has_room (get bytes_eq waiting digest) ≡ true
+
 -- the slots after are those before, but that those of the keys that pass take the digest
 pub record TakesDigest (passes : ℕ × ℕ → Bool) (digest : List ℕ) (old new : Map (ℕ × ℕ) Slot) : Type 0 where
   pub first : (k : ℕ × ℕ) → first_in (get same_pair new k) ≡ (if passes k then or_else (first_in (get same_pair old k)) (Some digest) else first_in (get same_pair old k))
@@ -120,9 +149,9 @@ pub record KeepsOrders (old new : Map ℕ (Option (List ℕ))) : Type 0 where
 -- committed as a number, and `first` and `order` which digests were chosen of them: what the choices hold agrees with all these.
 pub record Agrees (known : List (List (List ℕ))) (prepares : ℕ × ℕ → List ℕ → Bool) (first : ℕ × ℕ → Option (List ℕ)) (commits : ℕ → List ℕ → Bool) (order : ℕ → Option (List ℕ)) (choices : Choices) : Type 0 where
   pub rows : HasRows known choices.rows
-  pub prepared : IsChosen known prepares first (λ k. first_in (get same_pair choices.prepared k)) (λ k d. list_any (is_backing k d) choices.backed.items) (λ k. is_some (get same_pair choices.prepared k))
+  pub prepared : IsChosen known prepares first (λ k. first_in (get same_pair choices.prepared k)) (λ k d. slot_waits choices.backed k d) (λ k. is_some (get same_pair choices.prepared k))
   pub least : (k : ℕ × ℕ) → IsLeast (λ d. prepares k d && is_known known d) (least_in (get same_pair choices.prepared k))
-  pub ordered : IsChosen known commits order (λ s. order_in (get nat_eq choices.ordered s)) (λ s d. list_any (is_ordering s d) choices.committed.items) (λ s. is_some (get nat_eq choices.ordered s))
+  pub ordered : IsChosen known commits order (λ s. order_in (get nat_eq choices.ordered s)) (λ s d. order_waits choices.committed s d) (λ s. is_some (get nat_eq choices.ordered s))
 
 -- a choice where rows of this digest are known too
 abbrev pub with_rows : {K : Type 0} → (K → List ℕ → Bool) → (K → Option (List ℕ)) → List ℕ → K → Option (List ℕ)
@@ -151,8 +180,8 @@ HasChoices g facts choices = Agrees (rows_known facts) (prepares_in g facts) (pr
 
 -- each quorum that waits has a place for its digest
 pub record HasPlaces (choices : Choices) : Type 0 where
-  pub prepared : (k : ℕ × ℕ) (d : List ℕ) → list_any (is_backing k d) choices.backed.items ≡ true → is_some (get same_pair choices.prepared k) ≡ true
-  pub ordered : (s : ℕ) (d : List ℕ) → list_any (is_ordering s d) choices.committed.items ≡ true → is_some (get nat_eq choices.ordered s) ≡ true
+  pub prepared : (k : ℕ × ℕ) (d : List ℕ) → slot_waits choices.backed k d ≡ true → is_some (get same_pair choices.prepared k) ≡ true
+  pub ordered : (s : ℕ) (d : List ℕ) → order_waits choices.committed s d ≡ true → is_some (get nat_eq choices.ordered s) ≡ true
 
 -- the numbers from 1 to `reach`, and no further, are those that f gives something of without a gap
 pub record ReachesLess (f : ℕ → Option (List ℕ)) (reach : ℕ) : Type 0 where
@@ -163,6 +192,23 @@ pub record Reaches (f : ℕ → Option (List ℕ)) (reach : ℕ) : Type 0 where
   pub limit : reach ≤ most_number
   pub without_gap : (s : ℕ) → 1 ≤ s → s ≤ reach → IsSome (f s)
   pub stops : reach < most_number → f (suc reach) ≡ None
+
+-- the greatest of the numbers that f gives something of, 0 where there is none
+pub record HasHighest (f : ℕ → Option (List ℕ)) (highest : ℕ) : Type 0 where
+  pub limit : highest ≤ most_number
+  pub there : 1 ≤ highest → IsSome (f highest)
+  pub above : (s : ℕ) → highest < s → s ≤ most_number → f s ≡ None
+
+-- the greatest number ordered
+abbrev pub HasHighestOrder : Choices → Type 0
+HasHighestOrder choices = HasHighest (λ s. order_in (get nat_eq choices.ordered s)) choices.highest
+
+-- the number rose to the greatest of those that pass, unless it was greater
+pub record RisesTo (passes : ℕ → Bool) (old new : ℕ) : Type 0 where
+  pub from : old ≤ new
+  pub limit : old ≤ most_number → new ≤ most_number
+  pub one_of : (new ≡ old) ⊎ (passes new ≡ true)
+  pub covers : (s : ℕ) → passes s ≡ true → s ≤ most_number → s ≤ new
 
 -- what is ordered stays ordered
 abbrev pub OrdersGrow : Map ℕ (Option (List ℕ)) → Map ℕ (Option (List ℕ)) → Type 0

@@ -10,8 +10,10 @@ ghost use Rattle.protocol_rules.specs.Order.{prepare_due, commit_due, mark_due};
 ghost use Rattle.global_order.specs.Index.{same_pair, first_in, prepared_in};
 ghost use Rattle.global_order.specs.Offered.{HasOffers, OffersFit};
 ghost use Rattle.global_order.specs.Saying.{HasSaidPrepares, HasSaidCommits, HasMarked};
+ghost use Rattle.global_order.specs.Unsaid.{HasPending, holds_prepared, offers_rows, said_in};
 
 use crate::offers::{Offers, offered_in};
+use crate::pending::Pending;
 use crate::said::Places;
 use crate::slots::{Slots, first_digest};
 use message_digests::rows_digest;
@@ -21,8 +23,31 @@ use plain_lists::Want;
 /// A mark is said for each multiple of this.
 pub const MARK_STEP: u64 = 8;
 
+/// Adds the prepares due in the pending view for the numbers below `end`.
+pub fn push_pending_prepares(
+    bodies: &mut Vec<Body>,
+    offers: &Offers,
+    said: &Places,
+    pending: &Pending,
+    end: u64,
+) -> Result<(), Want>
+    requires { OffersFit offers.now }
+    ensures { OnOk result ((facts : List Fact) (words : List Word) → HasOffers facts offers.now → HasSaidPrepares words said.now → HasPending (said_in said.now) (offers_rows facts) pending.now
+        → bodies.new.items ≡ bodies.old.items ++ flat_map (prepare_due facts words pending.now.view) (numbers_from 1 (end - 1))) }
+{
+    let Pending {
+        view,
+        low,
+        high,
+        beyond,
+    } = *pending;
+    push_prepares(bodies, offers, said, view, low, high.min(end))?;
+    push_prepares(bodies, offers, said, view, beyond.min(end), end)?;
+    Ok(())
+}
+
 /// Adds the prepares due in a view for the numbers from `low` to below `high`.
-pub fn push_prepares(
+fn push_prepares(
     bodies: &mut Vec<Body>,
     offers: &Offers,
     said: &Places,
@@ -64,8 +89,31 @@ fn push_prepare(
     }
 }
 
+/// Adds the commits due in the pending view for the numbers below `end`.
+pub fn push_pending_commits(
+    bodies: &mut Vec<Body>,
+    slots: &Slots,
+    said: &Places,
+    pending: &Pending,
+    end: u64,
+) -> Result<(), Want>
+    ensures { OnOk result ((g : Group) (facts : List Fact) (words : List Word) → ((k : ℕ × ℕ) → first_in (get same_pair slots.now k) ≡ prepared_in g facts k) → HasSaidCommits words said.now
+        → HasPending (said_in said.now) (holds_prepared slots.now) pending.now
+        → bodies.new.items ≡ bodies.old.items ++ flat_map (commit_due g facts words pending.now.view) (numbers_from 1 (end - 1))) }
+{
+    let Pending {
+        view,
+        low,
+        high,
+        beyond,
+    } = *pending;
+    push_commits(bodies, slots, said, view, low, high.min(end))?;
+    push_commits(bodies, slots, said, view, beyond.min(end), end)?;
+    Ok(())
+}
+
 /// Adds the commits due in a view for the numbers from `low` to below `high`.
-pub fn push_commits(
+fn push_commits(
     bodies: &mut Vec<Body>,
     slots: &Slots,
     said: &Places,

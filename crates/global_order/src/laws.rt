@@ -1,8 +1,12 @@
-ghost use Rattle.std.specs.Prelude.{◌≡◌, ◌++◌, ◌∷◌, [], List};
+ghost use Rattle.std.specs.Prelude.{◌≡◌, ◌++◌, ◌∷◌, ◌&&◌, [], ℕ, List, not, if◌then◌else◌};
+ghost use Rattle.std.specs.List.{list_any};
 ghost use Rattle.message_types.specs.declared.signed.Signed.{Signed};
 ghost use Rattle.message_types.specs.declared.body.Body.{Body};
 ghost use Rattle.protocol_rules.specs.Group.{Group};
+ghost use Rattle.protocol_rules.specs.declared.facts.OrderFact.{OrderFact as Fact};
 ghost use Rattle.protocol_rules.specs.Facts.{tells, facts_of};
+ghost use Rattle.protocol_rules.specs.Reconcile.{asks_for_order, give_ordered_due, orders_given};
+ghost use Rattle.global_order.specs.Giving.{given_order, gift_words};
 ghost use Rattle.global_order.specs.Taken.{Taken};
 
 /// A law, which does nothing: the facts that words tell are those of each word in turn. So an order that was handed
@@ -15,4 +19,11 @@ pub fn only_facts_count()
     ensures words { (g : Group) (known more : List (Signed Body)) → facts_of g (known ++ more) ≡ facts_of g known ++ facts_of g more }
     ensures other { (g : Group) (t : Taken) (known : List (Signed Body)) (f : Signed Body) → tells g f ≡ [] → t.facts ≡ facts_of g known
         → t.facts ≡ facts_of g (known ++ f ∷ []) }
+{}
+
+/// A law, which does nothing: where another master asked for a number and it wasn't given, what is due for it is the whole
+/// order that `Order::given` answers, and else nothing is.
+pub fn a_whole_order_is_due_once()
+    ensures { (g : Group) (me : ℕ) (known : List (Signed Body)) (facts : List Fact) (said : List Body) (s : ℕ) → give_ordered_due g me known facts said s
+        ≡ (if list_any (asks_for_order me s) known && not (list_any (orders_given s) said) then gift_words (given_order g facts s) else []) }
 {}

@@ -6,13 +6,16 @@
 mod certificates;
 mod choices;
 mod due;
+mod gifts;
 pub mod laws;
 mod offers;
 pub mod order;
 mod orders;
+mod pending;
 mod quorum;
 mod said;
 mod slots;
 mod votes;
+mod waiting;
 
 pub use order::Order;

@@ -1,12 +1,15 @@
-ghost use Rattle.std.specs.Prelude.{◌≡◌, ◌≤◌, ℕ, List, IsTrue, IfSome, OnOk, OnErr, option_copied, nat_eq};
+ghost use Rattle.std.specs.Prelude.{◌≡◌, ◌≤◌, ℕ, List, IsTrue, IfSome, OnOk, OnErr, option_copied, is_some, nat_eq, if◌then◌else◌};
+ghost use Rattle.std.specs.Bool.{OnTrue, OnFalse};
 ghost use Rattle.std.specs.List.{list_all};
-ghost use Rattle.indexmap.specs.IndexMap.{IsUnchanged, spare};
+ghost use Rattle.indexmap.specs.IndexMap.{IsUnchanged, get, spare};
 ghost use Rattle.message_types.specs.Spelling.{rows_fit};
 ghost use Rattle.protocol_rules.specs.declared.facts.OrderFact.{OrderFact as Fact};
 ghost use Rattle.protocol_rules.specs.Order.{plan_known, offered as offered_rows};
 ghost use Rattle.global_order.specs.Index.{TakesFirst, same_pair};
 ghost use Rattle.global_order.specs.Offered.{HasOffers, OffersFit};
+ghost use Rattle.global_order.specs.Unsaid.{IsNoted, with_view};
 
+use crate::pending::{Pending, note_all_pending, note_pending};
 use indexmap::IndexMap;
 use message_types::{Plan, Rows};
 
@@ -23,6 +26,8 @@ pub struct Offers {
     pub first_plan: Plan,
     pub plans: Plans,
     pub proposals: Proposals,
+    /// Where prepares may be due.
+    pub pending: Pending,
 }
 
 /// The plan of a view, where one is known.
@@ -55,23 +60,28 @@ pub fn offered_in(offers: &Offers, v: u64, s: u64) -> Option<&Rows>
 }
 
 /// Keeps a view's plan, unless one is kept.
-pub fn note_plan(plans: &mut Plans, v: u64, plan: Plan)
+pub fn note_plan(plans: &mut Plans, pending: &mut Pending, v: u64, plan: Plan)
     requires { 1 ≤ spare plans.old }
-    ensures { TakesFirst nat_eq plans.old plans.new v plan }
+    ensures taken { TakesFirst nat_eq plans.old plans.new v plan }
+    ensures pending { pending.new ≡ (if is_some (get nat_eq plans.old v) then pending.old else with_view v pending.old) }
 {
     if plans.contains_key(&v) {
         return;
     }
     plans.insert(v, plan).unwrap();
+    note_all_pending(pending, v);
 }
 
 /// Keeps what a view offers as a number, unless something is kept.
-pub fn note_proposal(proposals: &mut Proposals, v: u64, s: u64, rows: Rows)
+pub fn note_proposal(proposals: &mut Proposals, pending: &mut Pending, v: u64, s: u64, rows: Rows)
     requires { 1 ≤ spare proposals.old }
-    ensures { TakesFirst same_pair proposals.old proposals.new (v, s) rows }
+    ensures taken { TakesFirst same_pair proposals.old proposals.new (v, s) rows }
+    ensures known { OnTrue (is_some (get same_pair proposals.old (v, s))) (pending.new ≡ pending.old) }
+    ensures new { OnFalse (is_some (get same_pair proposals.old (v, s))) (IsNoted v s pending.old pending.new) }
 {
     if proposals.contains_key(&(v, s)) {
         return;
     }
     proposals.insert((v, s), rows).unwrap();
+    note_pending(pending, v, s);
 }

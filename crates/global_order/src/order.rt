@@ -3,19 +3,24 @@ ghost use Rattle.std.specs.List.{list_all};
 ghost use Rattle.message_types.specs.Spelling.{rows_fit};
 ghost use Rattle.protocol_rules.specs.declared.facts.OrderFact.TheVariants as fact;
 ghost use Rattle.protocol_rules.specs.Group.{Group};
+ghost use Rattle.protocol_rules.specs.Master.{gap_of};
 ghost use Rattle.protocol_rules.specs.Order as rules;
+ghost use Rattle.global_order.specs.Giving.{given_order};
 ghost use Rattle.global_order.specs.Taken.{IsOrderOf, bodies_due};
 
 use crate::certificates::{last_certificate_of, marks_of, push_certificate};
 use crate::choices::{Choices, learn, learn_all, note_if_committed, note_if_prepared};
-use crate::due::{push_commits, push_marks, push_prepares};
+use crate::due::{push_marks, push_pending_commits, push_pending_prepares};
+use crate::gifts::{Views, commits_of, note_view, view_of};
 use crate::offers::{Offers, note_plan, note_proposal, offered_in, plan_of_view};
 use crate::orders::{make_order, order_of, run_end};
+use crate::pending::{all_pending, pending_from, pending_in};
 use crate::said::{Said, note_said};
 use crate::slots::make_slot;
 use crate::votes::{Marks, Votes, count_marks, count_votes, note_mark, note_vote};
+use crate::waiting::make_room;
 use indexmap::{IndexMap, IndexSet};
-use message_types::{Body, Certificate, Commit, Mark, Plan, Prepare, Rows, Signed};
+use message_types::{Body, Certificate, Commit, GiveOrdered, Mark, Plan, Prepare, Rows, Signed};
 use plain_lists::{Copied, Items, Want};
 use protocol_rules::OrderFact;
 use quorum_sets::Sizes;
@@ -36,6 +41,7 @@ pub struct Order {
     commits: Votes,
     marks: Marks,
     choices: Choices,
+    views: Views,
     offers: Offers,
     told: Said,
     stable: u64,
@@ -70,10 +76,13 @@ impl Order {
             choices: Choices {
                 rows: IndexMap::new(alloc),
                 prepared: IndexMap::new(alloc),
-                backed: Vec::new(alloc),
+                backed: IndexMap::new(alloc),
+                pending: all_pending(0),
                 ordered: IndexMap::new(alloc),
-                committed: Vec::new(alloc),
+                committed: IndexMap::new(alloc),
+                highest: 0,
             },
+            views: IndexMap::new(alloc),
             offers: Offers {
                 first_plan: Plan {
                     base: 0,
@@ -81,6 +90,7 @@ impl Order {
                 },
                 plans: IndexMap::new(alloc),
                 proposals: IndexMap::new(alloc),
+                pending: all_pending(0),
             },
             told: Said {
                 prepares: IndexSet::new(alloc),
@@ -106,7 +116,13 @@ impl Order {
         self.offers.proposals.reserve(1)?;
         learn(&mut self.choices, known);
         self.gapless = run_end(&self.choices.ordered, self.gapless);
-        note_proposal(&mut self.offers.proposals, v, s, offered);
+        note_proposal(
+            &mut self.offers.proposals,
+            &mut self.offers.pending,
+            v,
+            s,
+            offered,
+        );
         self.facts.push(OrderFact::Proposal { v, s, rows }).unwrap();
         Ok(())
     }
@@ -120,7 +136,7 @@ impl Order {
         let vote = (v, s, digest, frame.signer);
         let own = frame.copy()?;
         self.facts.reserve(1)?;
-        self.choices.backed.reserve(1)?;
+        make_room(self.alloc, &mut self.choices.backed, digest)?;
         make_slot(&mut self.choices.prepared, v, s)?;
         let before = count_votes(&self.prepares, self.sizes.n, v, s, digest);
         note_vote(&mut self.prepares, vote, &frame.sig)?;
@@ -140,13 +156,15 @@ impl Order {
         let vote = (v, s, digest, frame.signer);
         let own = frame.copy()?;
         self.facts.reserve(1)?;
-        self.choices.committed.reserve(1)?;
+        make_room(self.alloc, &mut self.choices.committed, digest)?;
         make_order(&mut self.choices.ordered, s)?;
+        self.views.reserve(1)?;
         let before = count_votes(&self.commits, self.sizes.n, v, s, digest);
         note_vote(&mut self.commits, vote, &frame.sig)?;
         let after = count_votes(&self.commits, self.sizes.n, v, s, digest);
         let is_new = reaches_quorum(&self.sizes, before, after);
         note_if_committed(&mut self.choices, is_new, v, s, digest);
+        note_view(&mut self.views, after >= self.sizes.q, v, s, digest);
         self.gapless = run_end(&self.choices.ordered, self.gapless);
         self.facts.push(OrderFact::Commit(own)).unwrap();
         Ok(())
@@ -197,7 +215,7 @@ impl Order {
         self.offers.plans.reserve(1)?;
         learn_all(&mut self.choices, known.into_vec());
         self.gapless = run_end(&self.choices.ordered, self.gapless);
-        note_plan(&mut self.offers.plans, v, offered);
+        note_plan(&mut self.offers.plans, &mut self.offers.pending, v, offered);
         self.facts.push(OrderFact::Plan { v, plan: own }).unwrap();
         Ok(())
     }
@@ -211,20 +229,20 @@ impl Order {
         let mut bodies = Vec::new(self.alloc);
         let end = self.stable + WINDOW + 1;
         let prepares_end = if is_open { end } else { 1 };
-        push_prepares(
+        let prepares = pending_in(&self.offers.pending, view);
+        push_pending_prepares(
             &mut bodies,
             &self.offers,
             &self.told.prepares,
-            view,
-            1,
+            &prepares,
             prepares_end,
         )?;
-        push_commits(
+        let commits = pending_in(&self.choices.pending, view);
+        push_pending_commits(
             &mut bodies,
             &self.choices.prepared,
             &self.told.commits,
-            view,
-            1,
+            &commits,
             end,
         )?;
         push_marks(&mut bodies, self.told.marked, self.gapless)?;
@@ -234,6 +252,8 @@ impl Order {
         self.said.append(&mut again)?;
         note_said(&mut self.told.prepares, &mut self.told.commits, &bodies);
         self.told.marked = self.gapless;
+        self.offers.pending = pending_from(&prepares, prepares_end);
+        self.choices.pending = pending_from(&commits, end);
         Ok(bodies)
     }
 
@@ -250,6 +270,40 @@ impl Order {
         ensures { (g : Group) → IsOrderOf g self.now → result ≡ rules.gapless g self.now.facts }
     {
         self.gapless
+    }
+
+    /// The least number that isn't ordered, where a greater one is.
+    pub fn gap(&self) -> Option<u64>
+        ensures { (g : Group) → IsOrderOf g self.now → result ≡ gap_of g self.now.facts }
+    {
+        let least = self.gapless + 1;
+        if least < self.choices.highest {
+            Some(least)
+        } else {
+            None
+        }
+    }
+
+    /// The whole order of number `s`, for a master that asks for it: its rows and the commits of the `q` lowest masters in
+    /// the greatest view in which a quorum committed them. None exactly where it isn't ordered.
+    pub fn given(&self, s: u64) -> Result<Option<GiveOrdered>, Want>
+        ensures { IfOk result (λ gift. (g : Group) → IsOrderOf g self.now → gift ≡ given_order g self.now.facts s) }
+    {
+        let Some(digest) = order_of(&self.choices.ordered, s) else {
+            return Ok(None);
+        };
+        let Some(rows) = self.choices.rows.get(&digest) else {
+            return Ok(None);
+        };
+        let rows = rows.copy()?;
+        let v = view_of(&self.views, s, digest);
+        let commits = commits_of(self.alloc, &self.commits, &self.sizes, v, s, digest)?;
+        Ok(Some(GiveOrdered {
+            s,
+            v,
+            rows,
+            commits,
+        }))
     }
 
     /// The greatest number that a quorum marked, 0 where there is none.

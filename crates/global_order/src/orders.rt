@@ -1,10 +1,13 @@
-ghost use Rattle.std.specs.Prelude.{◌≡◌, ◌≤◌, ℕ, List, None, Some, OnOk, IsTrue, is_some, nat_eq};
+ghost use Rattle.std.specs.Prelude.{◌≡◌, ◌≤◌, ℕ, List, None, Some, OnOk, IsTrue, is_some, nat_eq, if◌then◌else◌};
 ghost use Rattle.std.specs.List.{list_any};
+ghost use Rattle.std.specs.Str.{bytes_eq};
 ghost use Rattle.indexmap.specs.IndexMap.{get};
+ghost use Rattle.protocol_rules.specs.Group.{most_number};
 ghost use Rattle.protocol_rules.specs.Words.{or_else};
-ghost use Rattle.global_order.specs.Index.{order_in, is_ordering, KeepsOrders, TakesOrder, Reaches, ReachesLess};
+ghost use Rattle.global_order.specs.Index.{order_in, is_ordering, order_waits, HasHighest, KeepsOrders, TakesOrder, Reaches, ReachesLess, RisesTo};
 
 use crate::quorum::Quorum;
+use crate::waiting::Waiting;
 use indexmap::IndexMap;
 use plain_lists::Want;
 
@@ -37,15 +40,49 @@ pub fn put_order(orders: &mut Orders, s: u64, digest: [u8; 32])
     orders.insert(s, Some(digest)).unwrap();
 }
 
-/// Has the numbers whose quorums waited for rows of this digest take it.
-pub fn settle_orders(orders: &mut Orders, waiting: &[Quorum], digest: [u8; 32])
-    requires { (s : ℕ) (d : List ℕ) → IsTrue (list_any (is_ordering s d) waiting.now) → IsTrue (is_some (get nat_eq orders.old s)) }
-    ensures { TakesOrder (λ s. list_any (is_ordering s digest) waiting.now) digest orders.old orders.new }
+/// Has the numbers whose quorums waited for rows of this digest take it, so that none waits for them any more. The result
+/// is the greatest number ordered, where it was `highest`.
+pub fn settle_orders(
+    committed: &mut Waiting,
+    orders: &mut Orders,
+    highest: u64,
+    digest: [u8; 32],
+) -> u64
+    requires { (s : ℕ) → IsTrue (order_waits committed.old s digest) → IsTrue (is_some (get nat_eq orders.old s)) }
+    ensures orders { TakesOrder (λ s. order_waits committed.old s digest) digest orders.old orders.new }
+    ensures committed { (d : List ℕ) → get bytes_eq committed.new d ≡ (if bytes_eq digest d then None else get bytes_eq committed.old d) }
+    ensures highest { HasHighest (λ s. order_in (get nat_eq orders.old s)) highest → HasHighest (λ s. order_in (get nat_eq orders.new s)) result }
 {
+    match committed.swap_remove(&digest) {
+        None => highest,
+        Some(quorums) => put_orders(orders, highest, &quorums, digest),
+    }
+}
+
+/// Has the numbers of these quorums that are for rows of this digest take it.
+fn put_orders(orders: &mut Orders, highest: u64, waiting: &[Quorum], digest: [u8; 32]) -> u64
+    requires { (s : ℕ) → IsTrue (list_any (is_ordering s digest) waiting.now) → IsTrue (is_some (get nat_eq orders.old s)) }
+    ensures orders { TakesOrder (λ s. list_any (is_ordering s digest) waiting.now) digest orders.old orders.new }
+    ensures highest { HasHighest (λ s. order_in (get nat_eq orders.old s)) highest → HasHighest (λ s. order_in (get nat_eq orders.new s)) result }
+{
+    let mut raised = highest;
     for quorum in waiting {
         if quorum.digest == digest {
             put_order(orders, quorum.s, digest);
+            raised = raised_to(raised, quorum.s);
         }
+    }
+    raised
+}
+
+/// The number raised to another one that is ordered now.
+pub fn raised_to(highest: u64, s: u64) -> u64
+    ensures { RisesTo (nat_eq s) highest result }
+{
+    if s <= MOST_NUMBER {
+        highest.max(s)
+    } else {
+        highest
     }
 }
 

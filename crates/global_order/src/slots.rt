@@ -1,11 +1,15 @@
-ghost use Rattle.std.specs.Prelude.{◌≡◌, ℕ, List, None, Some, OnOk, IsTrue, is_some};
+ghost use Rattle.std.specs.Prelude.{◌≡◌, ℕ, Bool, List, None, Some, OnOk, IsTrue, is_some, if◌then◌else◌};
 ghost use Rattle.std.specs.List.{list_any};
+ghost use Rattle.std.specs.Str.{bytes_eq};
 ghost use Rattle.indexmap.specs.IndexMap.{get};
 ghost use Rattle.protocol_rules.specs.Words.{or_else};
 ghost use Rattle.global_order.specs.Choosing.{lesser};
-ghost use Rattle.global_order.specs.Index.{same_pair, first_in, least_in, is_backing, KeepsSlots, TakesDigest};
+ghost use Rattle.global_order.specs.Index.{same_pair, first_in, least_in, is_backing, slot_waits, KeepsSlots, TakesDigest};
+ghost use Rattle.global_order.specs.Unsaid.{HasPending, holds_prepared};
 
+use crate::pending::{Pending, note_pending};
 use crate::quorum::Quorum;
+use crate::waiting::Waiting;
 use indexmap::IndexMap;
 use plain_lists::Want;
 
@@ -67,14 +71,34 @@ fn with_digest(slot: Slot, digest: [u8; 32]) -> Slot
     }
 }
 
-/// Has the slots whose quorums waited for rows of this digest take it.
-pub fn settle_slots(slots: &mut Slots, waiting: &[Quorum], digest: [u8; 32])
-    requires { (k : ℕ × ℕ) (d : List ℕ) → IsTrue (list_any (is_backing k d) waiting.now) → IsTrue (is_some (get same_pair slots.old k)) }
-    ensures { TakesDigest (λ k. list_any (is_backing k digest) waiting.now) digest slots.old slots.new }
+/// Has the slots whose quorums waited for rows of this digest take it, so that none waits for them any more.
+pub fn settle_slots(
+    backed: &mut Waiting,
+    slots: &mut Slots,
+    pending: &mut Pending,
+    digest: [u8; 32],
+)
+    requires { (k : ℕ × ℕ) → IsTrue (slot_waits backed.old k digest) → IsTrue (is_some (get same_pair slots.old k)) }
+    ensures slots { TakesDigest (λ k. slot_waits backed.old k digest) digest slots.old slots.new }
+    ensures backed { (d : List ℕ) → get bytes_eq backed.new d ≡ (if bytes_eq digest d then None else get bytes_eq backed.old d) }
+    ensures pending { (said : ℕ → ℕ → Bool) → HasPending said (holds_prepared slots.old) pending.old → HasPending said (holds_prepared slots.new) pending.new }
+{
+    match backed.swap_remove(&digest) {
+        None => {}
+        Some(quorums) => put_digests(slots, pending, &quorums, digest),
+    }
+}
+
+/// Has the slots of these quorums that are for rows of this digest take it.
+fn put_digests(slots: &mut Slots, pending: &mut Pending, waiting: &[Quorum], digest: [u8; 32])
+    requires { (k : ℕ × ℕ) → IsTrue (list_any (is_backing k digest) waiting.now) → IsTrue (is_some (get same_pair slots.old k)) }
+    ensures slots { TakesDigest (λ k. list_any (is_backing k digest) waiting.now) digest slots.old slots.new }
+    ensures pending { (said : ℕ → ℕ → Bool) → HasPending said (holds_prepared slots.old) pending.old → HasPending said (holds_prepared slots.new) pending.new }
 {
     for quorum in waiting {
         if quorum.digest == digest {
             put_digest(slots, quorum.v, quorum.s, digest);
+            note_pending(pending, quorum.v, quorum.s);
         }
     }
 }

@@ -15,6 +15,8 @@ loop-rows-preserved c =
       room = omega arith;
       places = c.learn.ensures.places;
       grow = λ s there. c.learn.ensures.grow s (c.loop-rows.invariant.grow s there);
+      pending = λ said has. c.learn.ensures.pending said (c.loop-rows.invariant.pending said has);
+      highest = λ has. c.learn.ensures.highest (c.loop-rows.invariant.highest has);
       known = λ known prepares first commits order agrees.
           agrees-one_more known c.loop-rows.yielded c.in-Some.rows prepares first commits order c.learn.new.choices (c.learn.ensures.known (known ++ c.loop-rows.yielded) prepares _ commits _ (c.loop-rows.invariant.known known prepares first commits order agrees));
     }

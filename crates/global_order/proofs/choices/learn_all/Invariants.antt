@@ -1,6 +1,7 @@
 use Rattle.std.proofs.Common.{◌≡◌, ℕ, ◌+◌, ◌≤◌, ◌++◌, Bool, List, Option, length, vec_len}
 use Rattle.indexmap.specs.IndexMap.{spare}
-use Rattle.global_order.specs.Index.{Agrees, HasPlaces, OrdersGrow, with_all}
+use Rattle.global_order.specs.Unsaid.{HasPendingCommits}
+use Rattle.global_order.specs.Index.{Agrees, HasHighestOrder, HasPlaces, OrdersGrow, with_all}
 use Rattle.global_order.proofs.choices.learn_all.Given as goal
 
 -- those so far are known, and there is room for the others
@@ -10,6 +11,8 @@ invariant-loop-rows l = record {
   room : vec_len l.fn.all ≤ spare l.choices.rows + length l.yielded;
   places : HasPlaces l.choices;
   grow : OrdersGrow l.initial.choices.ordered l.choices.ordered;
+  pending : (said : ℕ → ℕ → Bool) → HasPendingCommits said l.initial.choices → HasPendingCommits said l.choices;
+  highest : HasHighestOrder l.initial.choices → HasHighestOrder l.choices;
   known : (known : List (List (List ℕ))) (prepares : ℕ × ℕ → List ℕ → Bool) (first : ℕ × ℕ → Option (List ℕ)) (commits : ℕ → List ℕ → Bool) (order : ℕ → Option (List ℕ)) →
       Agrees known prepares first commits order l.initial.choices →
       Agrees (known ++ l.yielded) prepares (with_all prepares first l.yielded) commits (with_all commits order l.yielded) l.choices;

@@ -1,14 +1,14 @@
 use Rattle.std.proofs.Common.{◌≡◌, refl, sym, ◌∙◌, ap}
 use Rattle.global_order.proofs.Settling.{agrees-committed, agrees-pending}
+use Rattle.global_order.proofs.Highest.{highest-takes}
 use Rattle.global_order.proofs.choices.note_committed.Goals as goal
 
 pub returns-then-contains_key-clause-agrees : goal.returns-then-contains_key-clause-agrees
 returns-then-contains_key-clause-agrees c = λ known prepares first commits order agrees.
-    agrees-committed known c.args.s c.args.digest prepares first commits order c.args.choices.now c.put_order.new.orders c.if-contains_key.ensures c.put_order.ensures agrees
+    agrees-committed known c.args.s c.args.digest prepares first commits order c.args.choices.now c.put_order.new.orders c.raised_to-choices.result c.if-contains_key.ensures c.put_order.ensures agrees
 
 pub returns-clause-agrees : goal.returns-clause-agrees
 returns-clause-agrees c = λ known prepares first commits order agrees.
-    let pushed = rw c.unwrap.ensures at c.push.ensures.items in
     agrees-pending known record { v = c.args.v; s = c.args.s; digest = c.args.digest } prepares first commits order c.args.choices.now
-    record { rows = c.args.choices.now.rows; prepared = c.args.choices.now.prepared; backed = c.args.choices.now.backed; ordered = c.args.choices.now.ordered; committed = c.push.new.self }
-    c.if-contains_key.ensures c.requires.place pushed refl refl refl refl agrees
+    record { rows = c.args.choices.now.rows; prepared = c.args.choices.now.prepared; backed = c.args.choices.now.backed; pending = c.args.choices.now.pending; ordered = c.args.choices.now.ordered; committed = c.put_waiting.new.waiting; highest = c.args.choices.now.highest }
+    c.if-contains_key.ensures c.requires.place c.put_waiting.ensures refl refl refl refl agrees

@@ -4,11 +4,10 @@ use Rattle.global_order.proofs.choices.note_prepared.Goals as goal
 
 pub returns-then-contains_key-clause-agrees : goal.returns-then-contains_key-clause-agrees
 returns-then-contains_key-clause-agrees c = λ known prepares first commits order agrees.
-    agrees-backed known (c.args.v, c.args.s) c.args.digest prepares first commits order c.args.choices.now c.put_digest.new.slots c.if-contains_key.ensures c.put_digest.ensures agrees
+    agrees-backed known (c.args.v, c.args.s) c.args.digest prepares first commits order c.args.choices.now c.put_digest.new.slots c.note_pending.new.pending c.if-contains_key.ensures c.put_digest.ensures agrees
 
 pub returns-clause-agrees : goal.returns-clause-agrees
 returns-clause-agrees c = λ known prepares first commits order agrees.
-    let pushed = rw c.unwrap.ensures at c.push.ensures.items in
     agrees-waits known record { v = c.args.v; s = c.args.s; digest = c.args.digest } prepares first commits order c.args.choices.now
-    record { rows = c.args.choices.now.rows; prepared = c.args.choices.now.prepared; backed = c.push.new.self; ordered = c.args.choices.now.ordered; committed = c.args.choices.now.committed }
-    c.if-contains_key.ensures c.requires.place pushed refl refl refl refl agrees
+    record { rows = c.args.choices.now.rows; prepared = c.args.choices.now.prepared; backed = c.put_waiting.new.waiting; pending = c.args.choices.now.pending; ordered = c.args.choices.now.ordered; committed = c.args.choices.now.committed; highest = c.args.choices.now.highest }
+    c.if-contains_key.ensures c.requires.place c.put_waiting.ensures refl refl refl refl agrees

@@ -8,52 +8,28 @@ use Rattle.protocol_rules.specs.declared.facts.OrderFact.TheVariants as fact
 use Rattle.protocol_rules.specs.Group.{Group, group_of}
 use Rattle.protocol_rules.specs.Order.{stable}
 use Rattle.global_order.specs.Index.{HasPrepares, HasCommits, HasMarks, HasChoices, Reaches, TakesFirst, order_in, same_pair}
+use Rattle.global_order.specs.Giving.{HasViews}
 use Rattle.global_order.specs.Offered.{HasOffers, OffersFit}
+use Rattle.global_order.specs.Unsaid.{HasPending, offers_rows, said_in}
 use Rattle.global_order.specs.Taken.{HasSizes}
 use Rattle.global_order.specs.declared.choices.Choices.{Choices}
-use Rattle.global_order.proofs.Alike.{AreAlike, held-alike, choices-alike, keeps-itself, keeps-orders}
+use Rattle.global_order.proofs.Alike.{AreAlike, Kept, alike-itself, held-alike, held-over, kept, choices-alike, keeps-itself, keeps-orders}
 use Rattle.global_order.proofs.Runs.{reaches-same, reaches-still}
 use Rattle.global_order.proofs.Taking.{choices-prepare, choices-commit, choices-none, choices-row, choices-rows, offers-other, offers-proposal, offers-plan, fit-proposal, fit-plan, taken-first, stable-no_mark, stable-mark, raised-limit}
+use Rattle.global_order.proofs.Touching.{pending-kept, pending-other, pending-plan, pending-proposal}
+use Rattle.global_order.proofs.Viewing.{views-other, views-commit}
 use Rattle.global_order.proofs.Voting.{prepares-push, prepares-other, commits-push, commits-other, marks-push, marks-other}
 use Rattle.global_order.proofs.order.Order.take_mark.Goals as goal
 
 pub invariant_of-self : goal.invariant_of-self
-invariant_of-self c = held-alike c.self.inside _ record {
-  sizes = (refl, refl);
-  facts = c.reserve.ensures.items;
-  said = refl;
-  prepares = refl;
-  commits = refl;
-  marks = refl;
-  choices = record { rows = refl; prepared = keeps-itself c.self.inside.choices; backed = refl; ordered = keeps-orders c.self.inside.choices; committed = refl };
-  first_plan = refl;
-  plans = refl;
-  proposals = refl;
-  prepares_said = refl;
-  commits_said = refl;
-  marked = refl;
-  stable = refl;
-  gapless = refl;
-} c.self.invariant
+invariant_of-self c =
+    let k : Kept = kept c.self.inside in
+    held-alike c.self.inside _ (λ i. record k { facts = c.reserve.ensures.items i }) (alike-itself c.self.inside.choices) c.self.invariant
 
 pub invariant_of-self-in_err-note_mark : goal.invariant_of-self-in_err-note_mark
-invariant_of-self-in_err-note_mark c = held-alike c.self.inside _ record {
-  sizes = (refl, refl);
-  facts = c.reserve.ensures.items;
-  said = refl;
-  prepares = refl;
-  commits = refl;
-  marks = c.in_err-note_mark.ensures.refused;
-  choices = record { rows = refl; prepared = keeps-itself c.self.inside.choices; backed = refl; ordered = keeps-orders c.self.inside.choices; committed = refl };
-  first_plan = refl;
-  plans = refl;
-  proposals = refl;
-  prepares_said = refl;
-  commits_said = refl;
-  marked = refl;
-  stable = refl;
-  gapless = refl;
-} c.self.invariant
+invariant_of-self-in_err-note_mark c =
+    let k : Kept = kept c.self.inside in
+    held-alike c.self.inside _ (λ i. record k { facts = c.reserve.ensures.items i; marks = c.in_err-note_mark.ensures.refused i }) (alike-itself c.self.inside.choices) c.self.invariant
 
 pub invariant_of-self-2 : goal.invariant_of-self-2
 invariant_of-self-2 c =
@@ -63,18 +39,22 @@ invariant_of-self-2 c =
     let pushed = rw c.unwrap.ensures at c.push.ensures.items in
     let facts_is : a.facts.items ++ x ∷ [] ≡ c.push.new.self.items = sym (pushed ∙ ap (λ xs. xs ++ fact.Mark c.in_ok-own.own ∷ []) c.reserve.ensures.items ∙ ap (λ own. a.facts.items ++ fact.Mark own ∷ []) c.in_ok-own.ensures) in
     let new_marks = marks-push a.facts.items c.args.frame.now a.marks c.note_mark.new.marks c.in_ok-note_mark.ensures.noted held.marks in
-    record {
-      prepares = subst (λ t. HasPrepares t a.prepares) facts_is (prepares-other a.facts.items x a.prepares (λ v s d m. refl) held.prepares);
-      commits = subst (λ t. HasCommits t a.commits) facts_is (commits-other a.facts.items x a.commits (λ v s d m. refl) held.commits);
-      marks = subst (λ t. HasMarks t c.note_mark.new.marks) facts_is new_marks;
-      choices = λ g is. subst (λ t. HasChoices g t a.choices) facts_is (choices-none g a.facts.items x a.choices record { prepare = λ v s d m. refl; commit = λ v s d m. refl; view = λ s d. refl } refl (held.choices g is));
-      offers = subst (λ t. HasOffers t a.offers) facts_is (offers-other a.facts.items x a.offers (λ v. refl) (λ v s. refl) held.offers);
+    held-over _ _ facts_is record {
+      prepares = prepares-other a.facts.items x a.prepares (λ v s d m. refl) held.prepares;
+      commits = commits-other a.facts.items x a.commits (λ v s d m. refl) held.commits;
+      marks = new_marks;
+      choices = λ g is. choices-none g a.facts.items x a.choices record { prepare = λ v s d m. refl; commit = λ v s d m. refl; view = λ s d. refl } refl (held.choices g is);
+      views = λ g is. views-other g a.facts.items x a.views (λ v s d m. refl) (λ s d. refl) (held.views g is);
+      offers = offers-other a.facts.items x a.offers (λ v. refl) (λ v s. refl) held.offers;
       fit = held.fit;
       prepares_said = held.prepares_said;
       commits_said = held.commits_said;
       marked = held.marked;
       marked_limit = held.marked_limit;
-      stable = λ g is. stable-mark g a.sizes.n a.sizes.q a.facts.items c.args.frame.now c.note_mark.new.marks c.count_marks-count.result a.stable c.raised-self-inside.result is new_marks c.count_marks-count.ensures (held.stable g is) c.raised-self-inside.ensures ∙ ap (stable g) facts_is;
+      stable = λ g is. stable-mark g a.sizes.n a.sizes.q a.facts.items c.args.frame.now c.note_mark.new.marks c.count_marks-count.result a.stable c.raised-self-inside.result is new_marks c.count_marks-count.ensures (held.stable g is) c.raised-self-inside.ensures;
       stable_limit = rw c.raised-self-inside.ensures (raised-limit _ a.stable c.args.frame.now.body.s held.stable_limit);
+      prepares_pending = pending-other (said_in a.told.prepares) a.facts.items x a.offers.pending (λ v. refl) (λ v s. refl) held.prepares_pending;
+      commits_pending = held.commits_pending;
+      highest = held.highest;
       gapless = held.gapless;
     }

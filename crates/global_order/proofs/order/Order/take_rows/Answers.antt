@@ -8,52 +8,28 @@ use Rattle.protocol_rules.specs.declared.facts.OrderFact.TheVariants as fact
 use Rattle.protocol_rules.specs.Group.{Group, group_of}
 use Rattle.protocol_rules.specs.Order.{stable}
 use Rattle.global_order.specs.Index.{HasPrepares, HasCommits, HasMarks, HasChoices, Reaches, TakesFirst, order_in, same_pair}
+use Rattle.global_order.specs.Giving.{HasViews}
 use Rattle.global_order.specs.Offered.{HasOffers, OffersFit}
+use Rattle.global_order.specs.Unsaid.{HasPending, offers_rows, said_in}
 use Rattle.global_order.specs.Taken.{HasSizes}
 use Rattle.global_order.specs.declared.choices.Choices.{Choices}
-use Rattle.global_order.proofs.Alike.{AreAlike, held-alike, choices-alike, keeps-itself, keeps-orders}
+use Rattle.global_order.proofs.Alike.{AreAlike, Kept, alike-itself, held-alike, held-over, kept, choices-alike, keeps-itself, keeps-orders}
 use Rattle.global_order.proofs.Runs.{reaches-same, reaches-still}
 use Rattle.global_order.proofs.Taking.{choices-prepare, choices-commit, choices-none, choices-row, choices-rows, offers-other, offers-proposal, offers-plan, fit-proposal, fit-plan, taken-first, stable-no_mark, stable-mark, raised-limit}
+use Rattle.global_order.proofs.Touching.{pending-kept, pending-other, pending-plan, pending-proposal}
+use Rattle.global_order.proofs.Viewing.{views-other, views-commit}
 use Rattle.global_order.proofs.Voting.{prepares-push, prepares-other, commits-push, commits-other, marks-push, marks-other}
 use Rattle.global_order.proofs.order.Order.take_rows.Goals as goal
 
 pub invariant_of-self : goal.invariant_of-self
-invariant_of-self c = held-alike c.self.inside _ record {
-  sizes = (refl, refl);
-  facts = c.reserve.ensures.items;
-  said = refl;
-  prepares = refl;
-  commits = refl;
-  marks = refl;
-  choices = record { rows = refl; prepared = keeps-itself c.self.inside.choices; backed = refl; ordered = keeps-orders c.self.inside.choices; committed = refl };
-  first_plan = refl;
-  plans = refl;
-  proposals = refl;
-  prepares_said = refl;
-  commits_said = refl;
-  marked = refl;
-  stable = refl;
-  gapless = refl;
-} c.self.invariant
+invariant_of-self c =
+    let k : Kept = kept c.self.inside in
+    held-alike c.self.inside _ (λ i. record k { facts = c.reserve.ensures.items i }) (alike-itself c.self.inside.choices) c.self.invariant
 
 pub invariant_of-self-in_err-reserve-2 : goal.invariant_of-self-in_err-reserve-2
-invariant_of-self-in_err-reserve-2 c = held-alike c.self.inside _ record {
-  sizes = (refl, refl);
-  facts = c.reserve.ensures.items;
-  said = refl;
-  prepares = refl;
-  commits = refl;
-  marks = refl;
-  choices = record { rows = c.reserve-2.ensures.entries; prepared = keeps-itself c.self.inside.choices; backed = refl; ordered = keeps-orders c.self.inside.choices; committed = refl };
-  first_plan = refl;
-  plans = refl;
-  proposals = refl;
-  prepares_said = refl;
-  commits_said = refl;
-  marked = refl;
-  stable = refl;
-  gapless = refl;
-} c.self.invariant
+invariant_of-self-in_err-reserve-2 c =
+    let k : Kept = kept c.self.inside in
+    held-alike c.self.inside _ (λ i. record k { facts = c.reserve.ensures.items i }) record { rows = c.reserve-2.ensures.entries; prepared = keeps-itself c.self.inside.choices; backed = λ d. refl; ordered = keeps-orders c.self.inside.choices; committed = λ d. refl } c.self.invariant
 
 pub learn-requires-clause-places : goal.learn-requires-clause-places
 learn-requires-clause-places c =
@@ -67,20 +43,24 @@ invariant_of-self-2 c =
     let x : OrderFact = fact.Rows c.args.rows.now in
     let pushed = rw c.unwrap.ensures at c.push.ensures.items in
     let facts_is : a.facts.items ++ x ∷ [] ≡ c.push.new.self.items = sym (pushed ∙ ap (λ xs. xs ++ fact.Rows c.in_ok-own.own ∷ []) c.reserve.ensures.items ∙ ap (λ own. a.facts.items ++ fact.Rows own ∷ []) c.in_ok-own.ensures) in
-    let mid : Choices = record { rows = c.reserve-2.new.self; prepared = a.choices.prepared; backed = a.choices.backed; ordered = a.choices.ordered; committed = a.choices.committed } in
-    let like : AreAlike a.choices mid = record { rows = c.reserve-2.ensures.entries; prepared = keeps-itself a.choices; backed = refl; ordered = keeps-orders a.choices; committed = refl } in
-    record {
-      prepares = subst (λ t. HasPrepares t a.prepares) facts_is (prepares-other a.facts.items x a.prepares (λ v s d m. refl) held.prepares);
-      commits = subst (λ t. HasCommits t a.commits) facts_is (commits-other a.facts.items x a.commits (λ v s d m. refl) held.commits);
-      marks = subst (λ t. HasMarks t a.marks) facts_is (marks-other a.facts.items x a.marks (λ s m. refl) held.marks);
-      choices = λ g is. subst (λ t. HasChoices g t c.learn.new.choices) facts_is (choices-row g a.facts.items x c.args.rows.now c.learn.new.choices record { prepare = λ v s d m. refl; commit = λ v s d m. refl; view = λ s d. refl } refl (rw c.in_ok-known.ensures at (c.learn.ensures.known _ _ _ _ _ (choices-alike _ _ _ _ _ a.choices mid like (held.choices g is)))));
-      offers = subst (λ t. HasOffers t a.offers) facts_is (offers-other a.facts.items x a.offers (λ v. refl) (λ v s. refl) held.offers);
+    let mid : Choices = record { rows = c.reserve-2.new.self; prepared = a.choices.prepared; backed = a.choices.backed; pending = a.choices.pending; ordered = a.choices.ordered; committed = a.choices.committed; highest = a.choices.highest } in
+    let like : AreAlike a.choices mid = record { rows = c.reserve-2.ensures.entries; prepared = keeps-itself a.choices; backed = λ d. refl; ordered = keeps-orders a.choices; committed = λ d. refl } in
+    held-over _ _ facts_is record {
+      prepares = prepares-other a.facts.items x a.prepares (λ v s d m. refl) held.prepares;
+      commits = commits-other a.facts.items x a.commits (λ v s d m. refl) held.commits;
+      marks = marks-other a.facts.items x a.marks (λ s m. refl) held.marks;
+      choices = λ g is. choices-row g a.facts.items x c.args.rows.now c.learn.new.choices record { prepare = λ v s d m. refl; commit = λ v s d m. refl; view = λ s d. refl } refl (rw c.in_ok-known.ensures at (c.learn.ensures.known _ _ _ _ _ (choices-alike _ _ _ _ _ a.choices mid like (held.choices g is))));
+      views = λ g is. views-other g a.facts.items x a.views (λ v s d m. refl) (λ s d. refl) (held.views g is);
+      offers = offers-other a.facts.items x a.offers (λ v. refl) (λ v s. refl) held.offers;
       fit = held.fit;
       prepares_said = held.prepares_said;
       commits_said = held.commits_said;
       marked = held.marked;
       marked_limit = omega (arith, held.marked_limit, c.run_end-self-inside.ensures.grows);
-      stable = λ g is. held.stable g is ∙ sym (stable-no_mark g a.facts.items x (λ s m. refl)) ∙ ap (stable g) facts_is;
+      stable = λ g is. held.stable g is ∙ sym (stable-no_mark g a.facts.items x (λ s m. refl));
       stable_limit = held.stable_limit;
+      prepares_pending = pending-other (said_in a.told.prepares) a.facts.items x a.offers.pending (λ v. refl) (λ v s. refl) held.prepares_pending;
+      commits_pending = c.learn.ensures.pending (said_in a.told.commits) held.commits_pending;
+      highest = c.learn.ensures.highest held.highest;
       gapless = c.run_end-self-inside.ensures.reaches (reaches-still (λ s. order_in (get nat_eq a.choices.ordered s)) (λ s. order_in (get nat_eq c.learn.new.choices.ordered s)) a.gapless c.learn.ensures.grow held.gapless);
     }
