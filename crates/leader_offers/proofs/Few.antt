@@ -1,10 +1,10 @@
 -- Where all rows known are few, those that are ordered or offered are.
-use Rattle.std.proofs.Common.{◌≡◌, ℕ, zero, suc, ◌+◌, ◌-◌, ◌≤◌, Bool, true, false, cond, ◌&&◌, List, [], ◌∷◌, ◌++◌, Option, Some, None, length, nat_eq, nat_le, refl, sym, ◌∙◌, ap, append_assoc}
+use Rattle.std.proofs.Common.{◌≡◌, ℕ, zero, suc, ◌+◌, ◌-◌, ◌≤◌, Bool, true, false, cond, ◌&&◌, List, [], ◌∷◌, ◌++◌, Option, Some, None, is_some, length, nat_eq, nat_le, refl, sym, ◌∙◌, ap, append_assoc}
 use denote.Bor.{Bor}
 use Rattle.std.specs.Prelude.{slice_get}
 use Rattle.std.specs.List.{list_all, find, filter_map, flat_map, cons_option}
 use Rattle.std.specs.Option.{IfSome, option_copied}
-use Rattle.std.proofs.lemmas.Bool.{and_parts, and_from, leb-true}
+use Rattle.std.proofs.lemmas.Bool.{and_parts, and_from, leb-true, false≢true}
 use Rattle.std.proofs.lemmas.Option.{none-some, same_Some}
 use Rattle.std.proofs.lemmas.Grind.{flat_map-append}
 use Rattle.std.proofs.lemmas.List.Folds.{list_all-append}
@@ -148,3 +148,8 @@ unfolding rows_known all_few
 few-join xs ys first second =
     ap (list_all are_few) (flat_map-append rows_in xs ys) ∙ list_all-append are_few (flat_map rows_in xs) (flat_map rows_in ys)
     ∙ and_from (list_all are_few (flat_map rows_in xs)) (list_all are_few (flat_map rows_in ys)) first second
+
+-- no rows are read where there are none
+pub none-copied : (r : Option (Bor (List (List ℕ)))) → is_some r ≡ false → option_copied r ≡ None
+none-copied None none = refl
+none-copied (Some rows) none = absurd (false≢true (sym none))

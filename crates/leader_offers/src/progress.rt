@@ -1,11 +1,11 @@
-ghost use Rattle.std.specs.Prelude.{◌≡◌, ◌≤◌, ◌<◌, ◌++◌, ◌∷◌, [], ℕ, List, Some, max};
+ghost use Rattle.std.specs.Prelude.{◌+◌, None, ◌≡◌, ◌≤◌, ◌<◌, ◌++◌, ◌∷◌, [], ℕ, List, Some, max};
 ghost use Rattle.message_types.specs.declared.body.Body.{Body as Word};
 ghost use Rattle.protocol_rules.specs.declared.facts.OrderFact.{OrderFact as Fact};
 ghost use Rattle.protocol_rules.specs.Group.{Group};
 ghost use Rattle.protocol_rules.specs.Order.{plan_known};
 ghost use Rattle.summary_matrix.specs.Held.{TellsEach};
 ghost use Rattle.global_order.specs.Taken.{IsOrderOf, HasSizes};
-ghost use Rattle.leader_offers.specs.Counting.{HasFewRows, IsSettled, number_within, plan_end, reach_to as known_reach};
+ghost use Rattle.leader_offers.specs.Counting.{HasFewRows, IsSettled, counted_in, number_within, plan_end, reach_to as known_reach};
 ghost use Rattle.leader_offers.specs.Offering.{IsProgressOf};
 
 use crate::counted::{counted, raise_by};
@@ -70,7 +70,7 @@ impl Progress {
         Some(number)
     }
 
-    /// Goes on over the numbers up to `last` whose rows are known without a gap.
+    /// Goes on over the numbers up to `last` whose rows are known without a gap, as far as they go.
     pub(crate) fn settle(&self, order: &Order, plan: &Plan, sizes: &Sizes, last: u64) -> Progress
         requires { HasFewRows order.now.facts }
         ensures view { result.view ≡ self.now.view }
@@ -79,6 +79,8 @@ impl Progress {
         ensures settled { (g : Group) → IsOrderOf g order.now → HasSizes g sizes.now.n sizes.now.q → plan_known order.now.facts self.now.view ≡ Some plan.now
             → IsSettled g order.now.facts self.now.view self.now.settled self.now.reach.numbers
             → IsSettled g order.now.facts result.view result.settled result.reach.numbers }
+        ensures far { (g : Group) → IsOrderOf g order.now → plan_known order.now.facts self.now.view ≡ Some plan.now → result.settled < last
+            → counted_in g order.now.facts self.now.view (result.settled + 1) ≡ None }
     {
         let mut reach = self.reach;
         let end = self.settled.max(last);

@@ -1,5 +1,8 @@
-use Rattle.std.proofs.Common.{◌≡◌, ℕ, subst, arith, rules}
-use Rattle.leader_offers.specs.Counting.{IsSettled}
+use Rattle.std.proofs.Common.{◌≡◌, ◌+◌, ℕ, false, None, is_some, sym, ◌∙◌, ap, subst, arith, rules}
+use Rattle.leader_offers.specs.Counting.{IsSettled, counted_in}
+use Rattle.leader_offers.specs.declared.progress.Progress.{Progress}
+use Rattle.leader_offers.proofs.Few.{none-copied}
+use Rattle.leader_offers.proofs.Growing.{counted_in-is}
 use Rattle.leader_offers.proofs.Offering.{settled-record}
 use Rattle.leader_offers.proofs.Reaching.{settled-more}
 use Rattle.leader_offers.proofs.progress.Progress.settle.Goals as goal
@@ -18,3 +21,16 @@ returns-clause-settled c = λ g is sizes known before.
     let last : c.loop-settled.settled ≡ c.max-end.result = omega arith in
     settled-record g c.args.order.now.facts c.args.self.now c.settled_at-2.result c.max-end.result c.loop-settled.reach c.settled_at-2.ensures
     (subst (λ (n : ℕ). IsSettled g c.args.order.now.facts c.args.self.now.view n c.loop-settled.reach.numbers) last (c.loop-settled.invariant g is sizes known before))
+
+-- it stops only where rows aren't known
+pub returns-then-is_none-clause-far : goal.returns-then-is_none-clause-far
+returns-then-is_none-clause-far c = λ g is known lt.
+    let at : c.settled_at.result.settled ≡ c.loop-settled.settled = ap (λ (p : Progress). p.settled) c.settled_at.ensures in
+    let none : is_some c.counted-rows.result ≡ false = search rules in
+    subst (λ (n : ℕ). counted_in g c.args.order.now.facts c.args.self.now.view (n + 1) ≡ None) (sym at)
+    (counted_in-is g c.args.order.now.facts c.args.self.now.view (c.loop-settled.settled + 1) c.args.plan.now known ∙ sym (c.counted-rows.ensures.rows g is) ∙ none-copied c.counted-rows.result none)
+
+pub returns-clause-far : goal.returns-clause-far
+returns-clause-far c = λ g is known lt.
+    let at : c.settled_at-2.result.settled ≡ c.max-end.result = ap (λ (p : Progress). p.settled) c.settled_at-2.ensures in
+    absurd (omega arith)
