@@ -1,14 +1,13 @@
 -- What holds of an order holds of one that holds the same, in other room.
-use Rattle.std.proofs.Common.{◌≡◌, ℕ, Bool, true, List, Option, refl, sym, ◌∙◌, ap, subst, nat_eq, is_some}
+use Rattle.std.proofs.Common.{◌≡◌, ℕ, Bool, List, Option, refl, sym, ◌∙◌, ap, subst, nat_eq}
 use Rattle.std.specs.List.{list_any}
 use Rattle.std.specs.Map.{lookup}
 use Rattle.std.specs.Str.{bytes_eq}
 use Rattle.indexmap.specs.IndexMap.{get}
 use Rattle.protocol_rules.specs.Group.{Group}
-use Rattle.global_order.specs.Choosing.{IsChosen, IsLeast}
-use Rattle.global_order.specs.Index.{Agrees, Vote, KeepsSlots, KeepsOrders, KeepsWaiting, Reaches, same_pair, first_in, least_in, order_in, is_backing, is_ordering}
+use Rattle.global_order.specs.Choosing.{IsLeast}
+use Rattle.global_order.specs.Index.{Agrees, Vote, KeepsSlots, KeepsOrders, KeepsWaiting, order_in, is_backing, is_ordering}
 use Rattle.global_order.specs.Held.{HoldsOver, IsHeld}
-use Rattle.global_order.specs.Offered.{fits, plan_fits}
 use Rattle.global_order.specs.Unsaid.{said_in}
 use Rattle.global_order.specs.Taken.{HasSizes}
 use Rattle.global_order.specs.declared.choices.Choices.{Choices}

@@ -1,5 +1,5 @@
 -- What the held choices and offers answer.
-use Rattle.std.proofs.Common.{◌≡◌, ℕ, zero, suc, ◌+◌, ◌-◌, ◌≤◌, ◌<◌, Bool, true, false, cond, ◌&&◌, List, [], ◌∷◌, Option, Some, None, is_some, length, nat_eq, nat_le, refl, sym, ◌∙◌, ap, arith, true≢false}
+use Rattle.std.proofs.Common.{◌≡◌, ℕ, zero, suc, ◌+◌, ◌-◌, ◌≤◌, ◌<◌, true, cond, List, [], ◌∷◌, Option, Some, None, is_some, length, nat_le, refl, sym, ◌∙◌, ap, arith, true≢false}
 use Rattle.std.specs.Prelude.{IfSome, IsTrue, slice_get}
 use Rattle.std.specs.List.{find, filter_map, list_all}
 use Rattle.std.specs.Option.{option_map}
@@ -13,12 +13,12 @@ use Rattle.protocol_rules.specs.declared.facts.OrderFact.{OrderFact}
 use Rattle.protocol_rules.specs.Words.{first_of_list}
 use Rattle.protocol_rules.specs.Group.{Group}
 use Rattle.protocol_rules.specs.Facts.{rows_known}
-use Rattle.protocol_rules.specs.Order.{prepared, ordered, offered, plan_known, proposal_in, is_voted, is_committed, prepare_by}
+use Rattle.protocol_rules.specs.Order.{ordered, offered, plan_known, proposal_in, is_committed}
 use denote.Bor.{Bor}
 use Rattle.std.specs.Option.{option_copied}
 use Rattle.global_order.specs.Choosing.{has_digest}
 use Rattle.global_order.specs.Offered.{fits}
-use Rattle.global_order.specs.Index.{Map, HasRows, ordered_in, prepared_in}
+use Rattle.global_order.specs.Index.{Map, HasRows, ordered_in}
 use Rattle.global_order.proofs.Booleans.{and-parts, option_map-none}
 use Rattle.global_order.proofs.Meeting.{chosen-known}
 

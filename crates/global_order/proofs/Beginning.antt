@@ -1,11 +1,10 @@
 -- What an order begins with.
-use Rattle.std.proofs.Common.{◌≡◌, ◌≢◌, ℕ, zero, suc, ◌≤◌, ◌<◌, Bool, true, false, cond, ◌&&◌, List, [], ◌∷◌, Option, Some, None, is_some, length, nat_eq, nat_le, refl, sym, ◌∙◌, ap, subst, arith, true≢false}
-use Rattle.std.specs.List.{list_any, list_all, filter_map, cons_option, find}
+use Rattle.std.proofs.Common.{◌≡◌, ℕ, zero, suc, ◌≤◌, true, false, ◌&&◌, List, [], ◌∷◌, Option, None, length, nat_eq, nat_le, refl, sym, ◌∙◌, ap, subst, arith}
+use Rattle.std.specs.List.{list_any, filter_map, cons_option, find}
 use Rattle.std.specs.Option.{option_map}
 use Rattle.std.specs.Str.{bytes_eq}
 use Rattle.std.specs.Map.{lookup}
 use Rattle.std.proofs.lemmas.Bool.{lt-leb}
-use Rattle.indexmap.specs.IndexMap.{get}
 use Rattle.message_types.specs.Digests.{digest_of_rows}
 use Rattle.quorum_sets.specs.Masters.{numbers_below}
 use Rattle.protocol_rules.specs.declared.facts.OrderFact.{OrderFact}
@@ -13,15 +12,14 @@ use Rattle.protocol_rules.specs.Group.{Group, most_number}
 use Rattle.protocol_rules.specs.Words.{first_met, first_of_list, greatest_of, greatest_to}
 use Rattle.protocol_rules.specs.Facts.{rows_known}
 use Rattle.protocol_rules.specs.Plans.{first_plan}
-use Rattle.protocol_rules.specs.Order.{prepare_by, mark_by, is_voted, is_committed, prepared, ordered, stable}
+use Rattle.protocol_rules.specs.Order.{prepare_by, mark_by, is_voted, prepared, ordered, stable}
 use Rattle.protocol_rules.specs.Reconcile.{committed_views}
-use Rattle.global_order.specs.Choosing.{has_digest, is_known, IsChosen, IsLeast}
+use Rattle.global_order.specs.Choosing.{has_digest, is_known, IsLeast}
 use Rattle.global_order.specs.Taken.{HasSizes}
-use Rattle.global_order.specs.Index.{Agrees, waiting_in, HasChoices, Reaches, first_in, least_in, order_in, is_backing, is_ordering, same_pair}
+use Rattle.global_order.specs.Index.{waiting_in, HasChoices, first_in, least_in, order_in, is_backing, is_ordering, same_pair}
 use Rattle.global_order.specs.Held.{IsHeld}
 use Rattle.global_order.specs.Unsaid.{holds_prepared, offers_rows, said_in, whole_view}
 use Rattle.global_order.proofs.Touching.{pending-whole}
-use Rattle.global_order.specs.Offered.{HasOffers, OffersFit}
 use Rattle.global_order.specs.declared.choices.Choices.{Choices}
 use Rattle.global_order.specs.declared.order.Order.TheInside.{Inside}
 

@@ -1,5 +1,5 @@
 -- Certificates: the least digest with a quorum, in the highest view that has one.
-use Rattle.std.proofs.Common.{◌≡◌, ℕ, zero, suc, ◌+◌, ◌-◌, ◌≤◌, ◌<◌, Bool, true, false, cond, ◌&&◌, List, [], ◌∷◌, ◌++◌, Option, Some, None, is_some, refl, sym, ◌∙◌, ap, subst, arith, true≢false}
+use Rattle.std.proofs.Common.{◌≡◌, ℕ, suc, ◌+◌, ◌-◌, ◌≤◌, ◌<◌, true, false, cond, ◌&&◌, List, [], ◌∷◌, ◌++◌, Option, Some, None, is_some, refl, sym, ◌∙◌, ap, arith, true≢false}
 use Rattle.std.specs.Prelude.{Result, Ok, Err, IfOk}
 use Rattle.std.specs.List.{find, filter_map, cons_option}
 use Rattle.std.specs.Option.{option_map, option_and_then, option_to_list}
@@ -15,7 +15,7 @@ use Rattle.protocol_rules.specs.declared.facts.OrderFact.{OrderFact}
 use Rattle.protocol_rules.specs.Words.{or_else, last_below, numbers_from}
 use Rattle.protocol_rules.specs.Group.{Group}
 use Rattle.protocol_rules.specs.Facts.{rows_known}
-use Rattle.protocol_rules.specs.Order.{is_voted, prepare_by, mark_by, marks_for, quorum_of, least_prepared, certificate_of, last_certificate}
+use Rattle.protocol_rules.specs.Order.{prepare_by, mark_by, marks_for, quorum_of, least_prepared, certificate_of, last_certificate}
 use Rattle.global_order.specs.Choosing.{has_digest, is_known, IsLeast}
 use Rattle.global_order.specs.Index.{Map, HasRows, prepares_in}
 use Rattle.global_order.proofs.Booleans.{bytes-same, find-passes}

@@ -1,11 +1,8 @@
 -- The greatest number ordered, and whether there is a gap below it.
-use Rattle.std.proofs.Common.{◌≡◌, ℕ, zero, suc, ◌+◌, ◌≤◌, ◌<◌, ◌⊎◌, inl, inr, max, Bool, true, false, cond, ◌&&◌, ◌||◌, List, [], ◌∷◌, Option, Some, None, is_some, length, take, get_or, nat_eq, nat_lt, refl, sym, ◌∙◌, ap, subst, arith, true≢false}
-use Rattle.std.specs.Prelude.{IsSome}
+use Rattle.std.proofs.Common.{◌≡◌, ℕ, zero, suc, ◌+◌, ◌≤◌, ◌<◌, ◌⊎◌, inl, inr, max, Bool, true, false, cond, ◌&&◌, ◌||◌, List, Option, Some, None, is_some, nat_eq, nat_lt, refl, sym, ◌∙◌, ap, arith, true≢false}
 use Rattle.std.specs.List.{list_any}
 use Rattle.std.specs.Option.{option_map}
-use Rattle.std.specs.Str.{bytes_eq}
 use Rattle.std.proofs.lemmas.Bool.{cases_lt, lt-ltb, le-ltb, eq-eqb}
-use Rattle.std.proofs.lemmas.List.Folds.{list_any_more}
 use Rattle.indexmap.specs.IndexMap.{get}
 use Rattle.message_types.specs.Digests.{digest_of_rows}
 use Rattle.protocol_rules.specs.declared.facts.OrderFact.{OrderFact}
@@ -13,8 +10,7 @@ use Rattle.protocol_rules.specs.Group.{Group, most_number}
 use Rattle.protocol_rules.specs.Words.{or_else, numbers_from}
 use Rattle.protocol_rules.specs.Order.{ordered, gapless}
 use Rattle.protocol_rules.specs.Master.{gap_of}
-use Rattle.global_order.specs.declared.quorum.Quorum.{Quorum}
-use Rattle.global_order.specs.Index.{Map, HasHighest, KeepsOrders, RisesTo, TakesOrder, is_ordering, order_in, ordered_in}
+use Rattle.global_order.specs.Index.{Map, HasHighest, KeepsOrders, RisesTo, TakesOrder, order_in, ordered_in}
 use Rattle.global_order.proofs.Booleans.{nat_eq-same}
 
 pub rises-max : (s h : ℕ) → s ≤ most_number → RisesTo (nat_eq s) h (max h s)

@@ -1,8 +1,8 @@
 -- The least digest of those that pass, and the rows that have it.
-use Rattle.std.proofs.Common.{◌≡◌, ℕ, Bool, true, false, cond, ◌&&◌, ◌||◌, List, [], ◌∷◌, ◌++◌, Option, Some, None, Ordering, is_some, filter, refl, sym, ◌∙◌, ap, subst, true≢false}
+use Rattle.std.proofs.Common.{◌≡◌, ℕ, Bool, true, false, cond, ◌&&◌, ◌||◌, List, [], ◌∷◌, Option, Some, None, Ordering, is_some, filter, refl, sym, ◌∙◌, ap, subst, true≢false}
 use Rattle.std.specs.declared.cmp.Ordering.TheVariants as order
-use Rattle.std.specs.List.{find, list_any}
-use Rattle.std.specs.Option.{option_map, option_and_then}
+use Rattle.std.specs.List.{find}
+use Rattle.std.specs.Option.{option_and_then}
 use Rattle.std.specs.Ordering.{is_some_and, is_lt, is_gt, is_eq, nat_cmp, ordering_reverse}
 use Rattle.std.specs.Cmp.Lexicographic.{slice_cmp, slice_partial_cmp, lists_agrees}
 use Rattle.std.specs.Str.{bytes_eq}
@@ -12,7 +12,7 @@ use Rattle.message_types.specs.Digests.{digest_of_rows}
 use Rattle.protocol_rules.specs.Plans.{digest_below}
 use Rattle.protocol_rules.specs.Words.{best_from, best_by}
 use Rattle.global_order.specs.Choosing.{has_digest, is_known, IsLeast, lesser}
-use Rattle.global_order.proofs.Booleans.{and-parts, bytes-same, bytes-alike, find-passes}
+use Rattle.global_order.proofs.Booleans.{and-parts, bytes-same, bytes-alike}
 
 less-is : (o : Ordering) → is_lt o ≡ true → o ≡ order.Less
 less-is order.Less e = refl

@@ -1,6 +1,6 @@
 -- The rows of whose digest there first was a quorum, for any kind of quorum: `backs` says which digests have one.
-use Rattle.std.proofs.Common.{◌≡◌, ℕ, Bool, true, false, cond, ◌&&◌, ◌||◌, List, [], ◌∷◌, ◌++◌, Option, Some, None, is_some, refl, sym, ◌∙◌, ap, append_assoc, true≢false}
-use Rattle.std.specs.List.{find, list_any, flat_map}
+use Rattle.std.proofs.Common.{◌≡◌, ℕ, Bool, true, false, cond, ◌||◌, List, [], ◌∷◌, ◌++◌, Option, Some, None, is_some, refl, sym, ◌∙◌, ap, append_assoc, true≢false}
+use Rattle.std.specs.List.{find, flat_map}
 use Rattle.std.specs.Option.{option_map}
 use Rattle.std.specs.Str.{bytes_eq}
 use Rattle.std.proofs.lemmas.List.{append-nil}
@@ -10,7 +10,7 @@ use Rattle.protocol_rules.specs.declared.facts.OrderFact.{OrderFact}
 use Rattle.protocol_rules.specs.Words.{or_else, first_met}
 use Rattle.protocol_rules.specs.Facts.{rows_in, rows_known}
 use Rattle.global_order.specs.Choosing.{has_digest, is_known}
-use Rattle.global_order.proofs.Booleans.{bytes-same, bytes-alike, bytes-swap, or_else-assoc, or_else-none, option_map-or_else, option_map-none, find-append, find-some, find-passes}
+use Rattle.global_order.proofs.Booleans.{bytes-same, bytes-alike, bytes-swap, or_else-assoc, or_else-none, option_map-or_else, find-append, find-passes}
 
 pub first_met-push : {F X : Type 0} (met : List F → Option X) (seen known : List F) (x : F) →
     first_met met seen (known ++ x ∷ []) ≡ or_else (first_met met seen known) (met (seen ++ (known ++ x ∷ [])))

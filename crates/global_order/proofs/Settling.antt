@@ -1,16 +1,15 @@
 -- What the slots and the orders' places hold after a digest is put, and what then agrees.
-use Rattle.std.proofs.Common.{◌≡◌, ℕ, zero, suc, ◌+◌, ◌<◌, Bool, true, false, cond, ◌&&◌, ◌||◌, List, [], ◌∷◌, ◌++◌, Option, Some, None, is_some, nat_eq, length, take, get_or, refl, sym, ◌∙◌, ap, subst, arith, append_assoc, true≢false}
+use Rattle.std.proofs.Common.{◌≡◌, ℕ, ◌+◌, ◌<◌, Bool, true, false, cond, ◌&&◌, ◌||◌, List, [], ◌∷◌, ◌++◌, Option, Some, None, is_some, nat_eq, length, take, get_or, refl, sym, ◌∙◌, ap, subst, arith, append_assoc, true≢false}
 use Rattle.std.specs.List.{find, list_any}
 use Rattle.std.specs.Option.{option_map}
-use Rattle.std.proofs.lemmas.List.{append-nil}
 use Rattle.std.specs.Str.{bytes_eq}
 use Rattle.std.proofs.Math.Bool.{or-false}
 use Rattle.std.proofs.lemmas.List.Folds.{list_any_more}
 use Rattle.indexmap.specs.IndexMap.{get}
 use Rattle.message_types.specs.Digests.{digest_of_rows}
 use Rattle.protocol_rules.specs.Words.{or_else}
-use Rattle.global_order.specs.Choosing.{has_digest, is_known, IsChosen, IsLeast, lesser}
-use Rattle.global_order.specs.Index.{Map, Waiting, HasPlaces, slot_waits, order_waits, waiting_in, with_all, same_pair, first_in, least_in, order_in, is_backing, is_ordering, TakesDigest, KeepsSlots, TakesOrder, KeepsOrders, HasRows, Agrees, with_rows, with_quorum, with_choice}
+use Rattle.global_order.specs.Choosing.{has_digest, is_known, IsLeast, lesser}
+use Rattle.global_order.specs.Index.{Map, Waiting, HasPlaces, slot_waits, order_waits, waiting_in, with_all, same_pair, first_in, least_in, order_in, is_backing, is_ordering, TakesDigest, KeepsSlots, TakesOrder, HasRows, Agrees, with_rows, with_quorum, with_choice}
 use Rattle.std.specs.declared.alloc.Global.{Global}
 use Rattle.std.specs.declared.vec.Vec.{Vec}
 use Rattle.global_order.specs.declared.pending.Pending.{Pending}

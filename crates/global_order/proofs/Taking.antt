@@ -1,14 +1,12 @@
 -- What one fact more changes of the choices, the offers and the stable number.
-use Rattle.std.proofs.Common.{◌≡◌, ℕ, zero, suc, ◌+◌, ◌≤◌, ◌<◌, ◌⊎◌, inl, inr, max, Bool, true, false, cond, ◌&&◌, ◌||◌, not, List, [], ◌∷◌, ◌++◌, Option, Some, None, is_some, length, nat_eq, nat_le, refl, sym, ◌∙◌, ap, subst, arith, true≢false}
+use Rattle.std.proofs.Common.{◌≡◌, ℕ, zero, suc, ◌≤◌, ◌<◌, ◌⊎◌, inl, inr, max, Bool, true, false, cond, ◌&&◌, ◌||◌, not, List, [], ◌∷◌, ◌++◌, Option, Some, None, is_some, length, nat_eq, nat_le, refl, sym, ◌∙◌, ap, subst, arith, true≢false}
 use Rattle.std.specs.Bool.{OnTrue, OnFalse}
-use Rattle.std.specs.List.{filter_map, list_any, list_all, cons_option, find}
-use Rattle.std.specs.Option.{option_map}
+use Rattle.std.specs.List.{filter_map, list_any, list_all, cons_option}
 use Rattle.std.specs.Str.{bytes_eq}
 use Rattle.std.proofs.Math.Bool.{or-false}
-use Rattle.std.proofs.lemmas.Bool.{le-leb, lt-leb, leb-true, cases_lt, cases_eq, eq-eqb, ne_eqb}
+use Rattle.std.proofs.lemmas.Bool.{le-leb, lt-leb, leb-true, cases_lt, cases_eq, ne_eqb}
 use Rattle.std.proofs.lemmas.List.{append-nil}
 use Rattle.std.proofs.lemmas.List.Elements.{filter_map-append}
-use Rattle.std.proofs.lemmas.List.Folds.{list_any-append}
 use Rattle.indexmap.specs.IndexMap.{get}
 use Rattle.message_types.specs.declared.signed.Signed.{Signed}
 use Rattle.message_types.specs.declared.ordering.Prepare.{Prepare}
@@ -33,7 +31,7 @@ use Rattle.global_order.specs.declared.choices.Choices.{Choices}
 use Rattle.global_order.specs.declared.pending.Pending.{Pending}
 use Rattle.global_order.specs.declared.offers.Offers.{Offers}
 use Rattle.global_order.proofs.Booleans.{and-parts, bytes-same, nat_eq-same, same_pair-same, nat_eq-own, first_of_list-push, list_any-push, or_else-none, option_map-cond}
-use Rattle.global_order.proofs.Meeting.{chosen-same, chosen-newly, chosen-rows, rows_known-push, first_backed}
+use Rattle.global_order.proofs.Meeting.{chosen-same, chosen-newly, chosen-rows, rows_known-push}
 use Rattle.global_order.proofs.Settling.{agrees-alike}
 use Rattle.global_order.proofs.Voting.{first-other, voted-other, voted-stays, prepares-apart, prepares-quorum, commits-apart, commits-quorum, marks-quorum}
 

@@ -1,6 +1,6 @@
 -- The greatest view in which a quorum committed a number with a digest.
-use Rattle.std.proofs.Common.{◌≡◌, ℕ, ◌≤◌, max, Bool, true, false, cond, ◌&&◌, ◌||◌, List, [], ◌∷◌, ◌++◌, Option, Some, None, is_some, length, filter, nat_eq, nat_le, refl, sym, ◌∙◌, ap, subst, arith, true≢false}
-use Rattle.std.specs.List.{filter_map, cons_option}
+use Rattle.std.proofs.Common.{◌≡◌, ℕ, max, Bool, true, false, cond, ◌&&◌, ◌||◌, List, [], ◌∷◌, ◌++◌, Some, None, length, filter, nat_eq, nat_le, refl, sym, ◌∙◌, ap, subst, arith, true≢false}
+use Rattle.std.specs.List.{cons_option}
 use Rattle.std.specs.Option.{option_map}
 use Rattle.std.specs.Str.{bytes_eq}
 use Rattle.std.proofs.Math.Bool.{or-false}
@@ -10,14 +10,12 @@ use Rattle.std.proofs.lemmas.List.Elements.{filter-append}
 use Rattle.indexmap.specs.IndexMap.{get}
 use Rattle.message_types.specs.declared.signed.Signed.{Signed}
 use Rattle.message_types.specs.declared.ordering.Commit.{Commit}
-use Rattle.message_types.specs.declared.reconciling.GiveOrdered.{GiveOrdered}
 use Rattle.message_types.specs.Digests.{digest_of_rows}
 use Rattle.protocol_rules.specs.declared.facts.OrderFact.{OrderFact}
 use Rattle.protocol_rules.specs.declared.facts.OrderFact.TheVariants as fact
 use Rattle.protocol_rules.specs.Words.{greatest_of}
 use Rattle.protocol_rules.specs.Group.{Group}
 use Rattle.protocol_rules.specs.Order.{commit_by, commit_views, is_voted, ordered, quorum_of}
-use Rattle.protocol_rules.specs.Reconcile.{committed_views}
 use Rattle.global_order.specs.Giving.{HasViews, given_order, last_view, same_order, view_in, whole_order}
 use Rattle.global_order.specs.Taken.{HasSizes}
 use Rattle.global_order.specs.Index.{HasCommits, Map, Vote, given, ordered_in, vote_at}

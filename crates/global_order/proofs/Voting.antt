@@ -1,10 +1,9 @@
 -- Votes: what one fact more adds to them, and when there is a quorum.
-use Rattle.std.proofs.Common.{◌≡◌, ℕ, ◌≤◌, Bool, true, false, cond, ◌&&◌, List, [], ◌∷◌, ◌++◌, Option, Some, None, is_some, length, nat_eq, nat_le, refl, sym, ◌∙◌, ap, subst, arith}
+use Rattle.std.proofs.Common.{◌≡◌, ℕ, ◌≤◌, Bool, true, false, cond, ◌&&◌, List, [], ◌∷◌, ◌++◌, Option, Some, None, is_some, length, nat_eq, nat_le, refl, sym, ◌∙◌, ap, arith}
 use Rattle.std.specs.List.{filter_map}
 use Rattle.std.specs.Option.{option_map}
 use Rattle.std.specs.Str.{bytes_eq}
 use Rattle.std.proofs.lemmas.Bool.{le-leb, leb-true}
-use Rattle.indexmap.specs.IndexMap.{get}
 use Rattle.message_types.specs.declared.signed.Signed.{Signed}
 use Rattle.message_types.specs.declared.ordering.Prepare.{Prepare}
 use Rattle.message_types.specs.declared.ordering.Commit.{Commit}
@@ -16,7 +15,7 @@ use Rattle.protocol_rules.specs.Words.{or_else, first_of_list}
 use Rattle.protocol_rules.specs.Group.{Group}
 use Rattle.protocol_rules.specs.Order.{prepare_by, commit_by, mark_by, is_voted}
 use Rattle.global_order.specs.Index.{Map, Vote, TakesFirst, same_vote, same_pair, given, vote_at, mark_at, prepare_of, commit_of, mark_of, HasPrepares, HasCommits, HasMarks}
-use Rattle.global_order.proofs.Booleans.{same_vote-same, same_pair-same, first_of_list-push, or_else-none, option_map-or_else, option_map-cond}
+use Rattle.global_order.proofs.Booleans.{same_vote-same, same_pair-same, first_of_list-push, or_else-none, option_map-or_else}
 use Rattle.global_order.proofs.Given.{length-map, length-grows}
 
 -- a fact that is no such vote changes nothing

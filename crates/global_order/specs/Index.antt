@@ -1,5 +1,5 @@
 -- The index beside the list of facts: each part of it agrees with a definition over the list.
-use Rattle.std.specs.Prelude.{◌≡◌, ◌⊎◌, ℕ, suc, ◌≤◌, ◌<◌, IsSome, Bool, ◌&&◌, ◌||◌, List, ◌++◌, ◌∷◌, [], true, false, Option, Some, None, is_some, nat_eq, nat_lt, vec_len, vec_capacity, if◌then◌else◌}
+use Rattle.std.specs.Prelude.{◌≡◌, ◌⊎◌, ℕ, suc, ◌≤◌, ◌<◌, IsSome, Bool, ◌&&◌, ◌||◌, List, [], true, false, Option, Some, None, is_some, nat_eq, nat_lt, vec_len, vec_capacity, if◌then◌else◌}
 use Rattle.std.specs.List.{filter_map, find, list_any}
 use Rattle.std.specs.Option.{option_map}
 use Rattle.std.specs.Str.{bytes_eq}

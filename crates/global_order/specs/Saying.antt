@@ -1,5 +1,5 @@
 -- What is held of what was said.
-use Rattle.std.specs.Prelude.{◌≡◌, ℕ, ◌≤◌, ◌%◌, Bool, List, nat_le}
+use Rattle.std.specs.Prelude.{◌≡◌, ℕ, ◌≤◌, ◌%◌, List, nat_le}
 use Rattle.std.specs.List.{list_any}
 use Rattle.std.specs.HashSet.{HashSet}
 use Rattle.std.specs.declared.hash.FoldHasher.{FoldHasher}

@@ -1,7 +1,6 @@
 -- What a master's global order goes by: all facts that it was handed, in order, and all that it said.
 use Rattle.std.specs.Prelude.{◌≡◌, ℕ, Bool, List, ◌++◌}
 use Rattle.message_types.specs.declared.body.Body.{Body}
-use Rattle.quorum_sets.specs.declared.sizes.Sizes.{Sizes}
 use Rattle.protocol_rules.specs.declared.facts.OrderFact.{OrderFact}
 use Rattle.protocol_rules.specs.Group.{Group}
 use Rattle.protocol_rules.specs.Order.{prepares_due, commits_due, marks_due}

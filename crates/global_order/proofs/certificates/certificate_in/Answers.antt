@@ -1,4 +1,4 @@
-use Rattle.std.proofs.Common.{◌≡◌, ◌∙◌, Some, sym, ap}
+use Rattle.std.proofs.Common.{◌∙◌, Some, ap}
 use Rattle.indexmap.specs.IndexMap.{get}
 use Rattle.global_order.specs.Index.{same_pair, least_in}
 use Rattle.global_order.proofs.Certifying.{certificate-none, certificate-lost, certificate-found}

@@ -1,10 +1,10 @@
-use Rattle.std.proofs.Common.{◌≡◌, ◌≤◌, ◌++◌, ℕ, List, sym, ◌∙◌, ap, arith, take}
+use Rattle.std.proofs.Common.{◌≡◌, ◌++◌, sym, ◌∙◌, ap, arith, take}
 use Rattle.std.specs.Option.{option_map, option_to_list}
 use Rattle.protocol_rules.specs.Words.{first_of_list}
-use Rattle.protocol_rules.specs.Order.{prepare_by, mark_by}
+use Rattle.protocol_rules.specs.Order.{mark_by}
 use Rattle.quorum_sets.specs.Masters.{numbers_below}
 use Rattle.std.specs.List.{filter_map}
-use Rattle.global_order.specs.Index.{given, vote_at, mark_at, prepare_of, mark_of}
+use Rattle.global_order.specs.Index.{given, mark_at, mark_of}
 use Rattle.global_order.proofs.Given.{given-none, given-more, option-list}
 use Rattle.global_order.proofs.certificates.marks_of.Goals as goal
 

@@ -1,6 +1,6 @@
 use Rattle.std.proofs.Common.{◌≡◌}
 use Rattle.std.specs.Option.{option_map}
-use Rattle.global_order.specs.Index.{given, vote_at, mark_at, prepare_of, mark_of}
+use Rattle.global_order.specs.Index.{given, vote_at, prepare_of}
 use Rattle.global_order.proofs.certificates.prepares_of.Given as goal
 
 -- those of the masters so far are there

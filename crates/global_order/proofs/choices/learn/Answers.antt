@@ -1,6 +1,4 @@
-use Rattle.std.proofs.Common.{◌≡◌, sym, ◌∙◌, ap, subst}
 use Rattle.global_order.proofs.Settling.{agrees-again, agrees-new}
-use Rattle.global_order.proofs.Highest.{highest-takes}
 use Rattle.global_order.proofs.choices.learn.Goals as goal
 
 pub returns-then-contains_key-clause-known : goal.returns-then-contains_key-clause-known

@@ -1,6 +1,5 @@
-use Rattle.std.proofs.Common.{◌≡◌, refl, sym, ◌∙◌, ap}
+use Rattle.std.proofs.Common.{refl}
 use Rattle.global_order.proofs.Settling.{agrees-committed, agrees-pending}
-use Rattle.global_order.proofs.Highest.{highest-takes}
 use Rattle.global_order.proofs.choices.note_committed.Goals as goal
 
 pub returns-then-contains_key-clause-agrees : goal.returns-then-contains_key-clause-agrees

@@ -1,4 +1,4 @@
-use Rattle.std.proofs.Common.{◌≡◌, refl, sym, ◌∙◌, ap}
+use Rattle.std.proofs.Common.{refl}
 use Rattle.global_order.proofs.Settling.{agrees-backed, agrees-waits}
 use Rattle.global_order.proofs.choices.note_prepared.Goals as goal
 

@@ -1,15 +1,8 @@
-use Rattle.std.proofs.Common.{◌≡◌, ℕ, ◌+◌, ◌-◌, ◌≤◌, ◌++◌, List, ◌∙◌, ap, sym, arith, append_assoc}
+use Rattle.std.proofs.Common.{◌≡◌, ◌-◌, ◌++◌, ◌∙◌, ap, sym, arith, append_assoc}
 use Rattle.std.proofs.lemmas.List.{append-nil}
 use Rattle.std.specs.List.{flat_map}
-use Rattle.message_types.specs.declared.body.Body.{Body}
-use Rattle.protocol_rules.specs.declared.facts.OrderFact.{OrderFact}
-use Rattle.protocol_rules.specs.Group.{Group}
 use Rattle.protocol_rules.specs.Words.{numbers_from}
-use Rattle.protocol_rules.specs.Order.{prepare_due, commit_due, mark_due}
-use Rattle.indexmap.specs.IndexMap.{get}
-use Rattle.global_order.specs.Index.{same_pair, first_in, prepared_in}
-use Rattle.global_order.specs.Offered.{HasOffers}
-use Rattle.global_order.specs.Saying.{HasSaidPrepares, HasSaidCommits, HasMarked}
+use Rattle.protocol_rules.specs.Order.{commit_due}
 use Rattle.global_order.proofs.Ranges.{flat_map-more, flat_map-none}
 use Rattle.global_order.proofs.due.push_commits.Goals as goal
 

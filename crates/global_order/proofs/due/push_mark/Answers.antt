@@ -1,4 +1,4 @@
-use Rattle.std.proofs.Common.{◌≡◌, ◌≤◌, ◌<◌, ◌%◌, ℕ, Bool, true, false, sym, ◌∙◌, arith}
+use Rattle.std.proofs.Common.{◌∙◌}
 use Rattle.global_order.proofs.Marking.{mark-none, mark-one}
 use Rattle.global_order.proofs.due.push_mark.Goals as goal
 

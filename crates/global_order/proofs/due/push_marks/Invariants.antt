@@ -1,14 +1,9 @@
-use Rattle.std.proofs.Common.{◌≡◌, ◌++◌, ◌+◌, ◌-◌, ◌≤◌, ℕ, List}
+use Rattle.std.proofs.Common.{◌≡◌, ◌++◌, ◌+◌, ◌-◌, ◌≤◌, List}
 use Rattle.std.specs.List.{flat_map}
 use Rattle.message_types.specs.declared.body.Body.{Body}
-use Rattle.protocol_rules.specs.declared.facts.OrderFact.{OrderFact}
-use Rattle.protocol_rules.specs.Group.{Group}
 use Rattle.protocol_rules.specs.Words.{numbers_from}
-use Rattle.protocol_rules.specs.Order.{prepare_due, commit_due, mark_due}
-use Rattle.indexmap.specs.IndexMap.{get}
-use Rattle.global_order.specs.Index.{same_pair, first_in, prepared_in}
-use Rattle.global_order.specs.Offered.{HasOffers}
-use Rattle.global_order.specs.Saying.{HasSaidPrepares, HasSaidCommits, HasMarked}
+use Rattle.protocol_rules.specs.Order.{mark_due}
+use Rattle.global_order.specs.Saying.{HasMarked}
 use Rattle.global_order.proofs.due.push_marks.Given as goal
 
 -- those of the numbers so far are there

@@ -1,16 +1,14 @@
 use Rattle.std.proofs.Common.{◌≡◌, ℕ, Bool, true, false, cond, ◌&&◌, not, List, [], ◌∷◌, Option, Some, None, refl}
 use Rattle.std.specs.List.{list_any}
 use Rattle.std.specs.Option.{option_map}
-use Rattle.message_types.specs.declared.signed.Signed.{Signed}
-use Rattle.message_types.specs.declared.body.Body.{Body}
 use Rattle.message_types.specs.declared.body.Body.TheVariants as body
 use Rattle.message_types.specs.Digests.{digest_of_rows}
 use Rattle.protocol_rules.specs.declared.facts.OrderFact.{OrderFact}
 use Rattle.protocol_rules.specs.Group.{Group}
 use Rattle.protocol_rules.specs.Words.{greatest_of}
 use Rattle.protocol_rules.specs.Order.{ordered, commit_by, quorum_of}
-use Rattle.protocol_rules.specs.Reconcile.{asks_for_order, committed_views, give_ordered_due, orders_given}
-use Rattle.global_order.specs.Giving.{given_order, gift_words, whole_order}
+use Rattle.protocol_rules.specs.Reconcile.{asks_for_order, committed_views, orders_given}
+use Rattle.global_order.specs.Giving.{gift_words, whole_order}
 use Rattle.global_order.proofs.laws.a_whole_order_is_due_once.Goals as goal
 
 -- by whether it is due, and by whether the number is ordered

@@ -1,4 +1,4 @@
-use Rattle.std.proofs.Common.{◌≡◌, ◌≤◌, ◌<◌, ◌-◌, ℕ, Some, None, length, sym, ◌∙◌, ap, arith}
+use Rattle.std.proofs.Common.{◌-◌, ◌∙◌, ap, arith}
 use Rattle.std.specs.Option.{option_copied}
 use Rattle.global_order.specs.Offered.{fits}
 use Rattle.global_order.proofs.Answering.{offered-none, offered-below, offered-planned, offered-proposed, if-get-fits, copied-fits}

@@ -1,11 +1,9 @@
-use Rattle.std.proofs.Common.{◌≡◌, ◌<◌, ◌≤◌, ◌+◌, ℕ, Bool, true, false, ◌&&◌, ◌||◌, [], get_or, length, take, is_some, refl, sym, ◌∙◌, ap, subst, arith, nat_eq}
+use Rattle.std.proofs.Common.{◌≡◌, ◌≤◌, ◌&&◌, [], get_or, length, take, refl, sym, ◌∙◌, ap, arith, nat_eq}
 use Rattle.std.specs.List.{list_any}
 use Rattle.std.specs.Str.{bytes_eq}
 use Rattle.std.proofs.lemmas.List.{take_all}
-use Rattle.std.proofs.lemmas.List.Folds.{list_any_at, list_any_more}
-use Rattle.std.proofs.Math.Bool.{or-false}
-use Rattle.indexmap.specs.IndexMap.{get}
-use Rattle.global_order.specs.Index.{is_ordering, TakesOrder}
+use Rattle.std.proofs.lemmas.List.Folds.{list_any_at}
+use Rattle.global_order.specs.Index.{is_ordering}
 use Rattle.global_order.specs.declared.quorum.Quorum.{Quorum}
 use Rattle.global_order.proofs.Booleans.{bytes-same, nat_eq-own}
 use Rattle.global_order.proofs.Settling.{order-same, order-none, orders-step, orders-skip}

@@ -1,4 +1,4 @@
-use Rattle.std.proofs.Common.{◌≡◌, ◌≤◌, ◌<◌, max, sym, subst, arith, nat_eq}
+use Rattle.std.proofs.Common.{◌≡◌, max, sym, subst, arith, nat_eq}
 use Rattle.protocol_rules.specs.Group.{most_number}
 use Rattle.global_order.specs.Index.{RisesTo}
 use Rattle.global_order.proofs.Highest.{rises-max, rises-beyond}

@@ -1,4 +1,4 @@
-use Rattle.std.proofs.Common.{◌≤◌, inl, inr, nat_eq, arith, sym, ◌∙◌, ap, is_some}
+use Rattle.std.proofs.Common.{inl, nat_eq, arith, sym, ◌∙◌, ap, is_some}
 use Rattle.indexmap.specs.IndexMap.{get}
 use Rattle.global_order.specs.Index.{order_in}
 use Rattle.global_order.proofs.Runs.{reaches-more, reaches-stop}

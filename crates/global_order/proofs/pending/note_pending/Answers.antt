@@ -1,4 +1,4 @@
-use Rattle.std.proofs.Common.{◌≡◌, ◌≤◌, arith}
+use Rattle.std.proofs.Common.{arith}
 use Rattle.global_order.proofs.Touching.{noted-not}
 use Rattle.global_order.proofs.pending.note_pending.Goals as goal
 use Rattle.global_order.proofs.pending.note_pending.Goals.{then-v-pending-via-then-v-pending, then-v-pending-via-else-v-pending+then-s-eq0, then-v-pending-via-else-v-pending+else-s-eq0+then-s-pending}

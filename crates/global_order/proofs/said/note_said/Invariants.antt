@@ -1,4 +1,4 @@
-use Rattle.std.proofs.Common.{◌≡◌, ℕ, ◌+◌, ◌-◌, ◌≤◌, ◌||◌, length, take}
+use Rattle.std.proofs.Common.{◌≡◌, ℕ, ◌+◌, ◌≤◌, ◌||◌, length, take}
 use Rattle.std.specs.List.{list_any}
 use Rattle.indexmap.specs.IndexSet.{contains, spare}
 use Rattle.protocol_rules.specs.Order.{prepares_said, commits_said}

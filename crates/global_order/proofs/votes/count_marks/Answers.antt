@@ -1,4 +1,4 @@
-use Rattle.std.proofs.Common.{◌≡◌, ℕ, ◌≤◌, ◌+◌, Bool, true, false, cond, is_some, length, sym, ◌∙◌, ap, arith}
+use Rattle.std.proofs.Common.{◌≡◌, ℕ, cond, length, sym, ◌∙◌, ap, arith}
 use Rattle.global_order.specs.Index.{given, mark_at}
 use Rattle.global_order.proofs.Given.{given-none, given-count, at_most_one, bool_byte-cond}
 use Rattle.global_order.proofs.votes.count_marks.Goals as goal

@@ -1,5 +1,4 @@
-use Rattle.std.proofs.Common.{◌≡◌, ◌∙◌, ap}
-use Rattle.indexmap.specs.IndexMap.{get}
+use Rattle.std.proofs.Common.{◌∙◌}
 use Rattle.global_order.proofs.Waits.{kept-again}
 use Rattle.global_order.proofs.waiting.make_room.Goals as goal
 

@@ -3,7 +3,7 @@ use Rattle.std.specs.List.{filter_map}
 use Rattle.std.specs.Option.{option_to_list}
 use Rattle.protocol_rules.specs.Words.{numbers_from}
 use Rattle.protocol_rules.specs.Group.{most_number, window}
-use Rattle.protocol_rules.specs.Order.{last_certificate, certificates_below, stable}
+use Rattle.protocol_rules.specs.Order.{last_certificate, certificates_below}
 use Rattle.global_order.specs.Taken.{Taken, HasSizes}
 use Rattle.global_order.proofs.Certifying.{filter_map-more, filter_map-none}
 use Rattle.global_order.proofs.order.Order.certificates.Goals as goal

@@ -1,14 +1,11 @@
-use Rattle.std.proofs.Common.{◌≡◌, ℕ, ◌+◌, ◌-◌, ◌≤◌, ◌<◌, min, ◌++◌, ◌||◌, Bool, true, false, cond, List, [], nat_eq, refl, sym, ◌∙◌, ap, subst, arith, rules}
+use Rattle.std.proofs.Common.{◌≡◌, ◌+◌, ◌-◌, ◌≤◌, ◌++◌, cond, List, nat_eq, refl, sym, ◌∙◌, ap, subst, arith, rules}
 use Rattle.std.specs.List.{list_any, flat_map}
-use Rattle.std.specs.Map.{lookup}
-use Rattle.std.proofs.lemmas.List.Folds.{list_any-append}
 use Rattle.indexmap.specs.IndexMap.{get}
-use Rattle.indexmap.specs.IndexSet.{contains}
 use Rattle.message_types.specs.declared.body.Body.{Body}
 use Rattle.protocol_rules.specs.Group.{Group, group_of, most_number}
 use Rattle.protocol_rules.specs.Words.{numbers_from}
-use Rattle.protocol_rules.specs.Order.{prepares_said, commits_said, prepare_due, prepares_due, commit_due, commits_due, mark_due, marks_due, stable}
-use Rattle.global_order.specs.Index.{order_in, same_pair}
+use Rattle.protocol_rules.specs.Order.{prepares_said, commits_said, prepare_due, prepares_due, commit_due, commits_due, marks_due, stable}
+use Rattle.global_order.specs.Index.{order_in}
 use Rattle.global_order.specs.Unsaid.{holds_prepared, offers_rows, said_in}
 use Rattle.global_order.specs.declared.pending.Pending.{Pending}
 use Rattle.global_order.specs.Saying.{HasSaidPrepares, HasSaidCommits, HasMarked}

@@ -1,6 +1,6 @@
-use Rattle.std.proofs.Common.{◌≡◌, ◌≤◌, nat_eq, ◌∙◌, sym, ap, arith, rules}
+use Rattle.std.proofs.Common.{◌≤◌, nat_eq, ◌∙◌, sym, ap, arith, rules}
 use Rattle.indexmap.specs.IndexMap.{get}
-use Rattle.protocol_rules.specs.Group.{Group, most_number}
+use Rattle.protocol_rules.specs.Group.{most_number}
 use Rattle.protocol_rules.specs.Master.{gap_of}
 use Rattle.global_order.specs.Index.{order_in}
 use Rattle.global_order.specs.Taken.{Taken, HasSizes}

@@ -1,6 +1,5 @@
-use Rattle.std.proofs.Common.{◌≡◌, nat_eq, ◌∙◌, sym, ap, subst}
+use Rattle.std.proofs.Common.{nat_eq, ◌∙◌, sym, ap}
 use Rattle.indexmap.specs.IndexMap.{get}
-use Rattle.protocol_rules.specs.Group.{Group}
 use Rattle.protocol_rules.specs.Order.{gapless}
 use Rattle.global_order.specs.Index.{order_in}
 use Rattle.global_order.specs.Taken.{Taken, HasSizes}

@@ -1,6 +1,4 @@
-use Rattle.std.proofs.Common.{◌≡◌, nat_eq, Some, None, ◌∙◌, sym, ap}
-use Rattle.protocol_rules.specs.Group.{Group}
-use Rattle.protocol_rules.specs.Order.{ordered}
+use Rattle.std.proofs.Common.{Some, ◌∙◌, sym, ap}
 use Rattle.global_order.specs.Giving.{given_order}
 use Rattle.global_order.specs.Taken.{Taken, HasSizes}
 use Rattle.global_order.proofs.Answering.{ordered-none, ordered-some}

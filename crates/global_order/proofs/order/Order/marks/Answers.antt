@@ -1,4 +1,4 @@
-use Rattle.std.proofs.Common.{◌≡◌, ◌∙◌, sym, ap}
+use Rattle.std.proofs.Common.{◌∙◌, sym, ap}
 use Rattle.protocol_rules.specs.Order.{marks_for, stable}
 use Rattle.global_order.specs.Taken.{Taken, HasSizes}
 use Rattle.global_order.proofs.Certifying.{marks-none, marks-some, if_ok}

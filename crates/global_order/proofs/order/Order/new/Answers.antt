@@ -1,4 +1,4 @@
-use Rattle.std.proofs.Common.{◌≤◌, refl, sym, ◌∙◌, ap, arith}
+use Rattle.std.proofs.Common.{◌≤◌, refl, arith}
 use Rattle.global_order.proofs.Beginning.{held-new}
 use Rattle.global_order.proofs.order.Order.new.Goals as goal
 

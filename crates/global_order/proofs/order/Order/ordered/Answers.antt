@@ -1,5 +1,4 @@
-use Rattle.std.proofs.Common.{◌≡◌, nat_eq, Some, None, ◌∙◌, sym, ap}
-use Rattle.protocol_rules.specs.Group.{Group}
+use Rattle.std.proofs.Common.{◌∙◌, sym, ap}
 use Rattle.protocol_rules.specs.Order.{ordered}
 use Rattle.global_order.specs.Taken.{Taken, HasSizes}
 use Rattle.global_order.proofs.Answering.{ordered-none, ordered-some}

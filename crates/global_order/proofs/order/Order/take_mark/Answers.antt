@@ -1,24 +1,12 @@
-use Rattle.std.proofs.Common.{◌≡◌, ◌≤◌, ◌<◌, ◌+◌, ◌++◌, ◌∷◌, [], ℕ, List, Option, true, refl, sym, ◌∙◌, ap, subst, arith, nat_eq}
-use Rattle.std.specs.List.{list_all}
-use Rattle.indexmap.specs.IndexMap.{get}
-use Rattle.message_types.specs.Spelling.{rows_fit}
-use Rattle.message_types.specs.declared.views.Plan.{Plan}
+use Rattle.std.proofs.Common.{◌≡◌, ◌++◌, ◌∷◌, [], refl, sym, ◌∙◌, ap}
 use Rattle.protocol_rules.specs.declared.facts.OrderFact.{OrderFact}
 use Rattle.protocol_rules.specs.declared.facts.OrderFact.TheVariants as fact
-use Rattle.protocol_rules.specs.Group.{Group, group_of}
-use Rattle.protocol_rules.specs.Order.{stable}
-use Rattle.global_order.specs.Index.{HasPrepares, HasCommits, HasMarks, HasChoices, Reaches, TakesFirst, order_in, same_pair}
-use Rattle.global_order.specs.Giving.{HasViews}
-use Rattle.global_order.specs.Offered.{HasOffers, OffersFit}
-use Rattle.global_order.specs.Unsaid.{HasPending, offers_rows, said_in}
-use Rattle.global_order.specs.Taken.{HasSizes}
-use Rattle.global_order.specs.declared.choices.Choices.{Choices}
-use Rattle.global_order.proofs.Alike.{AreAlike, Kept, alike-itself, held-alike, held-over, kept, choices-alike, keeps-itself, keeps-orders}
-use Rattle.global_order.proofs.Runs.{reaches-same, reaches-still}
-use Rattle.global_order.proofs.Taking.{choices-prepare, choices-commit, choices-none, choices-row, choices-rows, offers-other, offers-proposal, offers-plan, fit-proposal, fit-plan, taken-first, stable-no_mark, stable-mark, raised-limit}
-use Rattle.global_order.proofs.Touching.{pending-kept, pending-other, pending-plan, pending-proposal}
-use Rattle.global_order.proofs.Viewing.{views-other, views-commit}
-use Rattle.global_order.proofs.Voting.{prepares-push, prepares-other, commits-push, commits-other, marks-push, marks-other}
+use Rattle.global_order.specs.Unsaid.{said_in}
+use Rattle.global_order.proofs.Alike.{Kept, alike-itself, held-alike, held-over, kept}
+use Rattle.global_order.proofs.Taking.{choices-none, offers-other, stable-mark, raised-limit}
+use Rattle.global_order.proofs.Touching.{pending-other}
+use Rattle.global_order.proofs.Viewing.{views-other}
+use Rattle.global_order.proofs.Voting.{prepares-other, commits-other, marks-push}
 use Rattle.global_order.proofs.order.Order.take_mark.Goals as goal
 
 pub invariant_of-self : goal.invariant_of-self
