@@ -49,4 +49,5 @@ knows_caught g me kept now taken known told said k run = record {
   views = k.views;
   measure = k.measure;
   asks = k.asks;
+  gifts = k.gifts;
 }

@@ -95,6 +95,7 @@ knows_taken g me kept after taken known told said f is k = record {
   views = k.views;
   measure = k.measure;
   asks = k.asks;
+  gifts = k.gifts;
 }
 
 -- the group that a knowledge is of is kept in it

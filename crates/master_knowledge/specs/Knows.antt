@@ -19,6 +19,7 @@ use Rattle.global_order.specs.Taken.{Taken as Ordering, IsOrderOf}
 use Rattle.view_change.specs.Kept.{AreViewsOf}
 use Rattle.suspect_leader.specs.Kept.{IsMeasureOf}
 use Rattle.reconcile.specs.Kept.{AreAsksOf}
+use Rattle.gifts.specs.Kept.{AreGiftsOf}
 use Rattle.master_knowledge.specs.Whole.{is_whole}
 use Rattle.master_knowledge.specs.declared.knowledge.Knowledge.{Knowledge}
 
@@ -62,6 +63,7 @@ pub record Knows (g : Group) (me : ℕ) (kept : Knowledge) (taken known : List (
   pub views : AreViewsOf g me kept.views known said
   pub measure : IsMeasureOf g me kept.measure told known said
   pub asks : AreAsksOf g me kept.asks known said
+  pub gifts : AreGiftsOf g kept.gifts known
 
 -- What is kept is the knowledge of some master.
 pub record IsKnowledge (kept : Knowledge) : Type 0 where

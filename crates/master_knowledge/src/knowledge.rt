@@ -9,6 +9,7 @@ ghost use Rattle.master_knowledge.specs.Whole.{is_whole};
 ghost use Rattle.master_knowledge.specs.Knows.{Knows, IsKnowledge, IsCaughtUp};
 
 use crate::certificate::take_certificate_part;
+use crate::gift_words::take_gift_part;
 use crate::numbers::take_numbers;
 use crate::order_words::take_order_part;
 use crate::requests::{take_request_part, take_update};
@@ -16,6 +17,7 @@ use crate::summaries::take_summary_part;
 use crate::view_words::take_view_part;
 use execution::Run;
 use frame_parts::parts_of;
+use gifts::Gifts;
 use global_order::Order;
 use message_types::Frame;
 use plain_lists::Want;
@@ -39,6 +41,7 @@ pub struct Knowledge {
     pub views: Views,
     pub measure: Measure,
     pub asks: Asks,
+    pub gifts: Gifts,
 }
 
 impl Knowledge {
@@ -57,6 +60,7 @@ impl Knowledge {
             views: Views::new(alloc, sizes, me),
             measure: Measure::new(alloc, sizes, me),
             asks: Asks::new(alloc, sizes, me),
+            gifts: Gifts::new(alloc, sizes),
         }
     }
 
@@ -118,6 +122,7 @@ impl Knowledge {
         take_order_part(self.alloc, &self.sizes, &mut self.order, part)?;
         take_view_part(&mut self.views, part)?;
         self.measure.take(part.signer, &part.body)?;
-        self.asks.take(part.signer, &part.body)
+        self.asks.take(part.signer, &part.body)?;
+        take_gift_part(&mut self.gifts, part)
     }
 }

@@ -1,8 +1,9 @@
-//! What a master knows: each part of each frame that it heard or said, handed to the seven parts of it that go by
+//! What a master knows: each part of each frame that it heard or said, handed to the eight parts of it that go by
 //! such words. All that they answer are then the definitions over the one list of all that the master knows.
 #![tactic(auto)]
 
 mod certificate;
+mod gift_words;
 pub mod knowledge;
 mod numbers;
 mod order_words;

@@ -40,7 +40,7 @@ take_view_part-requires c =
     whole_of c.requires.known.group c.args.self.now.views.group.n c.args.part.now (sym k.views.masters) (subst (λ n. n ≤ 14) (k.masters ∙ sym k.views.masters) (sizes_few c.args.self.now.sizes)) whole
 
 pub returns : goal.returns
-returns c = on_ok_weaker c.take-2.result (λ asks g me taken known told said k.
+returns c = on_ok_weaker c.take_gift_part.result (λ gifts g me taken known told said k.
     let now = preorder_learns g me c.args.self.now.preorder c.take_request_part.new.preorder taken known said c.args.part.now c.in_ok-take_request_part.ensures k.preorder in
     let whole : is_whole g c.args.part.now ≡ true = ap (λ (h : Group). is_whole h c.args.part.now) (sym k.preorder.group) ∙ c.requires.whole in record {
       masters = k.masters;
@@ -52,5 +52,6 @@ returns c = on_ok_weaker c.take-2.result (λ asks g me taken known told said k.
           (λ j n. ap (λ (h : Group). certified h c.take_request_part.new.preorder.took j n) now.group ∙ certified_alike g c.take_request_part.new.preorder.took (known ++ c.args.part.now ∷ []) now.requests j n) is) k.run;
       views = c.in_ok-take_view_part.ensures.ok g me known said k.views;
       measure = c.in_ok-take.ensures.ok g me told known said c.args.part.now.sig k.measure;
-      asks = asks g me known said c.args.part.now.sig k.asks;
-    }) c.take-2.ensures.ok
+      asks = c.in_ok-take-2.ensures.ok g me known said c.args.part.now.sig k.asks;
+      gifts = gifts g known k.gifts;
+    }) c.take_gift_part.ensures

@@ -14,4 +14,5 @@ returns c = record {
   views = c.new-5.ensures.nothing c.args.clients;
   measure = c.new-6.ensures.nothing c.args.clients;
   asks = c.new-7.ensures (group_of c.args.sizes c.args.clients) refl;
+  gifts = c.new-8.ensures (group_of c.args.sizes c.args.clients) refl refl;
 }
