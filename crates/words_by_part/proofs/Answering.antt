@@ -236,13 +236,13 @@ answers_by_part g orders me before took at_tick =
     let facts : List OrderFact = facts_of g known in
     let told : List Told = told_at g before took at_tick in
     let v : ℕ = view g known in record {
-  requests = requests_among _ _ _ _ _ _ _ _ _ _ _ _ _ _ _ _ _ _ _ _ (requests_kind g me taken said (numbers_below g.clients)) (acks_kind g known said) (summaries_kind g known said at_tick) (preprepares_kind g me known facts said at_tick) (prepares_kind g facts said v (is_open g known)) (commits_kind g facts said v) (pings_kind (ticks_of told) at_tick) (pongs_kind g me known said) (round_trips_kind g me known said (ticks_of told)) (tat_reports_kind said v (waited v told) at_tick) (tat_bounds_kind g me known said v at_tick) (suspects_kind g known said v at_tick) (report_kind g known said (stable g facts) (marks_for g facts (stable g facts)) (certificates_below g facts v)) (new_view_kind g me known said) (ask_update_kind said at_tick (waiting_for g known)) (gives_kind g me known said) (ask_order_kind said at_tick (gap_of g facts)) (gives_ordered_kind g me known facts said) (vouchers_kind g orders known said) (marks_kind g facts said);
-  summaries = summaries_among _ _ _ _ _ _ _ _ _ _ _ _ _ _ _ _ _ _ _ _ (requests_kind g me taken said (numbers_below g.clients)) (acks_kind g known said) (summaries_kind g known said at_tick) (preprepares_kind g me known facts said at_tick) (prepares_kind g facts said v (is_open g known)) (commits_kind g facts said v) (pings_kind (ticks_of told) at_tick) (pongs_kind g me known said) (round_trips_kind g me known said (ticks_of told)) (tat_reports_kind said v (waited v told) at_tick) (tat_bounds_kind g me known said v at_tick) (suspects_kind g known said v at_tick) (report_kind g known said (stable g facts) (marks_for g facts (stable g facts)) (certificates_below g facts v)) (new_view_kind g me known said) (ask_update_kind said at_tick (waiting_for g known)) (gives_kind g me known said) (ask_order_kind said at_tick (gap_of g facts)) (gives_ordered_kind g me known facts said) (vouchers_kind g orders known said) (marks_kind g facts said);
-  offers = offers_among _ _ _ _ _ _ _ _ _ _ _ _ _ _ _ _ _ _ _ _ (requests_kind g me taken said (numbers_below g.clients)) (acks_kind g known said) (summaries_kind g known said at_tick) (preprepares_kind g me known facts said at_tick) (prepares_kind g facts said v (is_open g known)) (commits_kind g facts said v) (pings_kind (ticks_of told) at_tick) (pongs_kind g me known said) (round_trips_kind g me known said (ticks_of told)) (tat_reports_kind said v (waited v told) at_tick) (tat_bounds_kind g me known said v at_tick) (suspects_kind g known said v at_tick) (report_kind g known said (stable g facts) (marks_for g facts (stable g facts)) (certificates_below g facts v)) (new_view_kind g me known said) (ask_update_kind said at_tick (waiting_for g known)) (gives_kind g me known said) (ask_order_kind said at_tick (gap_of g facts)) (gives_ordered_kind g me known facts said) (vouchers_kind g orders known said) (marks_kind g facts said);
-  orders_said = orders_said_among _ _ _ _ _ _ _ _ _ _ _ _ _ _ _ _ _ _ _ _ (requests_kind g me taken said (numbers_below g.clients)) (acks_kind g known said) (summaries_kind g known said at_tick) (preprepares_kind g me known facts said at_tick) (prepares_kind g facts said v (is_open g known)) (commits_kind g facts said v) (pings_kind (ticks_of told) at_tick) (pongs_kind g me known said) (round_trips_kind g me known said (ticks_of told)) (tat_reports_kind said v (waited v told) at_tick) (tat_bounds_kind g me known said v at_tick) (suspects_kind g known said v at_tick) (report_kind g known said (stable g facts) (marks_for g facts (stable g facts)) (certificates_below g facts v)) (new_view_kind g me known said) (ask_update_kind said at_tick (waiting_for g known)) (gives_kind g me known said) (ask_order_kind said at_tick (gap_of g facts)) (gives_ordered_kind g me known facts said) (vouchers_kind g orders known said) (marks_kind g facts said);
-  measures = measures_among _ _ _ _ _ _ _ _ _ _ _ _ _ _ _ _ _ _ _ _ (requests_kind g me taken said (numbers_below g.clients)) (acks_kind g known said) (summaries_kind g known said at_tick) (preprepares_kind g me known facts said at_tick) (prepares_kind g facts said v (is_open g known)) (commits_kind g facts said v) (pings_kind (ticks_of told) at_tick) (pongs_kind g me known said) (round_trips_kind g me known said (ticks_of told)) (tat_reports_kind said v (waited v told) at_tick) (tat_bounds_kind g me known said v at_tick) (suspects_kind g known said v at_tick) (report_kind g known said (stable g facts) (marks_for g facts (stable g facts)) (certificates_below g facts v)) (new_view_kind g me known said) (ask_update_kind said at_tick (waiting_for g known)) (gives_kind g me known said) (ask_order_kind said at_tick (gap_of g facts)) (gives_ordered_kind g me known facts said) (vouchers_kind g orders known said) (marks_kind g facts said);
-  views = views_among _ _ _ _ _ _ _ _ _ _ _ _ _ _ _ _ _ _ _ _ (requests_kind g me taken said (numbers_below g.clients)) (acks_kind g known said) (summaries_kind g known said at_tick) (preprepares_kind g me known facts said at_tick) (prepares_kind g facts said v (is_open g known)) (commits_kind g facts said v) (pings_kind (ticks_of told) at_tick) (pongs_kind g me known said) (round_trips_kind g me known said (ticks_of told)) (tat_reports_kind said v (waited v told) at_tick) (tat_bounds_kind g me known said v at_tick) (suspects_kind g known said v at_tick) (report_kind g known said (stable g facts) (marks_for g facts (stable g facts)) (certificates_below g facts v)) (new_view_kind g me known said) (ask_update_kind said at_tick (waiting_for g known)) (gives_kind g me known said) (ask_order_kind said at_tick (gap_of g facts)) (gives_ordered_kind g me known facts said) (vouchers_kind g orders known said) (marks_kind g facts said);
-  asks = asks_among _ _ _ _ _ _ _ _ _ _ _ _ _ _ _ _ _ _ _ _ (requests_kind g me taken said (numbers_below g.clients)) (acks_kind g known said) (summaries_kind g known said at_tick) (preprepares_kind g me known facts said at_tick) (prepares_kind g facts said v (is_open g known)) (commits_kind g facts said v) (pings_kind (ticks_of told) at_tick) (pongs_kind g me known said) (round_trips_kind g me known said (ticks_of told)) (tat_reports_kind said v (waited v told) at_tick) (tat_bounds_kind g me known said v at_tick) (suspects_kind g known said v at_tick) (report_kind g known said (stable g facts) (marks_for g facts (stable g facts)) (certificates_below g facts v)) (new_view_kind g me known said) (ask_update_kind said at_tick (waiting_for g known)) (gives_kind g me known said) (ask_order_kind said at_tick (gap_of g facts)) (gives_ordered_kind g me known facts said) (vouchers_kind g orders known said) (marks_kind g facts said);
-  gifts = gifts_among _ _ _ _ _ _ _ _ _ _ _ _ _ _ _ _ _ _ _ _ (requests_kind g me taken said (numbers_below g.clients)) (acks_kind g known said) (summaries_kind g known said at_tick) (preprepares_kind g me known facts said at_tick) (prepares_kind g facts said v (is_open g known)) (commits_kind g facts said v) (pings_kind (ticks_of told) at_tick) (pongs_kind g me known said) (round_trips_kind g me known said (ticks_of told)) (tat_reports_kind said v (waited v told) at_tick) (tat_bounds_kind g me known said v at_tick) (suspects_kind g known said v at_tick) (report_kind g known said (stable g facts) (marks_for g facts (stable g facts)) (certificates_below g facts v)) (new_view_kind g me known said) (ask_update_kind said at_tick (waiting_for g known)) (gives_kind g me known said) (ask_order_kind said at_tick (gap_of g facts)) (gives_ordered_kind g me known facts said) (vouchers_kind g orders known said) (marks_kind g facts said);
-  vouchers = vouchers_among _ _ _ _ _ _ _ _ _ _ _ _ _ _ _ _ _ _ _ _ (requests_kind g me taken said (numbers_below g.clients)) (acks_kind g known said) (summaries_kind g known said at_tick) (preprepares_kind g me known facts said at_tick) (prepares_kind g facts said v (is_open g known)) (commits_kind g facts said v) (pings_kind (ticks_of told) at_tick) (pongs_kind g me known said) (round_trips_kind g me known said (ticks_of told)) (tat_reports_kind said v (waited v told) at_tick) (tat_bounds_kind g me known said v at_tick) (suspects_kind g known said v at_tick) (report_kind g known said (stable g facts) (marks_for g facts (stable g facts)) (certificates_below g facts v)) (new_view_kind g me known said) (ask_update_kind said at_tick (waiting_for g known)) (gives_kind g me known said) (ask_order_kind said at_tick (gap_of g facts)) (gives_ordered_kind g me known facts said) (vouchers_kind g orders known said) (marks_kind g facts said);
-}
+      requests = requests_among _ _ _ _ _ _ _ _ _ _ _ _ _ _ _ _ _ _ _ _ (requests_kind g me taken said (numbers_below g.clients)) (acks_kind g known said) (summaries_kind g known said at_tick) (preprepares_kind g me known facts said at_tick) (prepares_kind g facts said v (is_open g known)) (commits_kind g facts said v) (pings_kind (ticks_of told) at_tick) (pongs_kind g me known said) (round_trips_kind g me known said (ticks_of told)) (tat_reports_kind said v (waited v told) at_tick) (tat_bounds_kind g me known said v at_tick) (suspects_kind g known said v at_tick) (report_kind g known said (stable g facts) (marks_for g facts (stable g facts)) (certificates_below g facts v)) (new_view_kind g me known said) (ask_update_kind said at_tick (waiting_for g known)) (gives_kind g me known said) (ask_order_kind said at_tick (gap_of g facts)) (gives_ordered_kind g me known facts said) (vouchers_kind g orders known said) (marks_kind g facts said);
+      summaries = summaries_among _ _ _ _ _ _ _ _ _ _ _ _ _ _ _ _ _ _ _ _ (requests_kind g me taken said (numbers_below g.clients)) (acks_kind g known said) (summaries_kind g known said at_tick) (preprepares_kind g me known facts said at_tick) (prepares_kind g facts said v (is_open g known)) (commits_kind g facts said v) (pings_kind (ticks_of told) at_tick) (pongs_kind g me known said) (round_trips_kind g me known said (ticks_of told)) (tat_reports_kind said v (waited v told) at_tick) (tat_bounds_kind g me known said v at_tick) (suspects_kind g known said v at_tick) (report_kind g known said (stable g facts) (marks_for g facts (stable g facts)) (certificates_below g facts v)) (new_view_kind g me known said) (ask_update_kind said at_tick (waiting_for g known)) (gives_kind g me known said) (ask_order_kind said at_tick (gap_of g facts)) (gives_ordered_kind g me known facts said) (vouchers_kind g orders known said) (marks_kind g facts said);
+      offers = offers_among _ _ _ _ _ _ _ _ _ _ _ _ _ _ _ _ _ _ _ _ (requests_kind g me taken said (numbers_below g.clients)) (acks_kind g known said) (summaries_kind g known said at_tick) (preprepares_kind g me known facts said at_tick) (prepares_kind g facts said v (is_open g known)) (commits_kind g facts said v) (pings_kind (ticks_of told) at_tick) (pongs_kind g me known said) (round_trips_kind g me known said (ticks_of told)) (tat_reports_kind said v (waited v told) at_tick) (tat_bounds_kind g me known said v at_tick) (suspects_kind g known said v at_tick) (report_kind g known said (stable g facts) (marks_for g facts (stable g facts)) (certificates_below g facts v)) (new_view_kind g me known said) (ask_update_kind said at_tick (waiting_for g known)) (gives_kind g me known said) (ask_order_kind said at_tick (gap_of g facts)) (gives_ordered_kind g me known facts said) (vouchers_kind g orders known said) (marks_kind g facts said);
+      orders_said = orders_said_among _ _ _ _ _ _ _ _ _ _ _ _ _ _ _ _ _ _ _ _ (requests_kind g me taken said (numbers_below g.clients)) (acks_kind g known said) (summaries_kind g known said at_tick) (preprepares_kind g me known facts said at_tick) (prepares_kind g facts said v (is_open g known)) (commits_kind g facts said v) (pings_kind (ticks_of told) at_tick) (pongs_kind g me known said) (round_trips_kind g me known said (ticks_of told)) (tat_reports_kind said v (waited v told) at_tick) (tat_bounds_kind g me known said v at_tick) (suspects_kind g known said v at_tick) (report_kind g known said (stable g facts) (marks_for g facts (stable g facts)) (certificates_below g facts v)) (new_view_kind g me known said) (ask_update_kind said at_tick (waiting_for g known)) (gives_kind g me known said) (ask_order_kind said at_tick (gap_of g facts)) (gives_ordered_kind g me known facts said) (vouchers_kind g orders known said) (marks_kind g facts said);
+      measures = measures_among _ _ _ _ _ _ _ _ _ _ _ _ _ _ _ _ _ _ _ _ (requests_kind g me taken said (numbers_below g.clients)) (acks_kind g known said) (summaries_kind g known said at_tick) (preprepares_kind g me known facts said at_tick) (prepares_kind g facts said v (is_open g known)) (commits_kind g facts said v) (pings_kind (ticks_of told) at_tick) (pongs_kind g me known said) (round_trips_kind g me known said (ticks_of told)) (tat_reports_kind said v (waited v told) at_tick) (tat_bounds_kind g me known said v at_tick) (suspects_kind g known said v at_tick) (report_kind g known said (stable g facts) (marks_for g facts (stable g facts)) (certificates_below g facts v)) (new_view_kind g me known said) (ask_update_kind said at_tick (waiting_for g known)) (gives_kind g me known said) (ask_order_kind said at_tick (gap_of g facts)) (gives_ordered_kind g me known facts said) (vouchers_kind g orders known said) (marks_kind g facts said);
+      views = views_among _ _ _ _ _ _ _ _ _ _ _ _ _ _ _ _ _ _ _ _ (requests_kind g me taken said (numbers_below g.clients)) (acks_kind g known said) (summaries_kind g known said at_tick) (preprepares_kind g me known facts said at_tick) (prepares_kind g facts said v (is_open g known)) (commits_kind g facts said v) (pings_kind (ticks_of told) at_tick) (pongs_kind g me known said) (round_trips_kind g me known said (ticks_of told)) (tat_reports_kind said v (waited v told) at_tick) (tat_bounds_kind g me known said v at_tick) (suspects_kind g known said v at_tick) (report_kind g known said (stable g facts) (marks_for g facts (stable g facts)) (certificates_below g facts v)) (new_view_kind g me known said) (ask_update_kind said at_tick (waiting_for g known)) (gives_kind g me known said) (ask_order_kind said at_tick (gap_of g facts)) (gives_ordered_kind g me known facts said) (vouchers_kind g orders known said) (marks_kind g facts said);
+      asks = asks_among _ _ _ _ _ _ _ _ _ _ _ _ _ _ _ _ _ _ _ _ (requests_kind g me taken said (numbers_below g.clients)) (acks_kind g known said) (summaries_kind g known said at_tick) (preprepares_kind g me known facts said at_tick) (prepares_kind g facts said v (is_open g known)) (commits_kind g facts said v) (pings_kind (ticks_of told) at_tick) (pongs_kind g me known said) (round_trips_kind g me known said (ticks_of told)) (tat_reports_kind said v (waited v told) at_tick) (tat_bounds_kind g me known said v at_tick) (suspects_kind g known said v at_tick) (report_kind g known said (stable g facts) (marks_for g facts (stable g facts)) (certificates_below g facts v)) (new_view_kind g me known said) (ask_update_kind said at_tick (waiting_for g known)) (gives_kind g me known said) (ask_order_kind said at_tick (gap_of g facts)) (gives_ordered_kind g me known facts said) (vouchers_kind g orders known said) (marks_kind g facts said);
+      gifts = gifts_among _ _ _ _ _ _ _ _ _ _ _ _ _ _ _ _ _ _ _ _ (requests_kind g me taken said (numbers_below g.clients)) (acks_kind g known said) (summaries_kind g known said at_tick) (preprepares_kind g me known facts said at_tick) (prepares_kind g facts said v (is_open g known)) (commits_kind g facts said v) (pings_kind (ticks_of told) at_tick) (pongs_kind g me known said) (round_trips_kind g me known said (ticks_of told)) (tat_reports_kind said v (waited v told) at_tick) (tat_bounds_kind g me known said v at_tick) (suspects_kind g known said v at_tick) (report_kind g known said (stable g facts) (marks_for g facts (stable g facts)) (certificates_below g facts v)) (new_view_kind g me known said) (ask_update_kind said at_tick (waiting_for g known)) (gives_kind g me known said) (ask_order_kind said at_tick (gap_of g facts)) (gives_ordered_kind g me known facts said) (vouchers_kind g orders known said) (marks_kind g facts said);
+      vouchers = vouchers_among _ _ _ _ _ _ _ _ _ _ _ _ _ _ _ _ _ _ _ _ (requests_kind g me taken said (numbers_below g.clients)) (acks_kind g known said) (summaries_kind g known said at_tick) (preprepares_kind g me known facts said at_tick) (prepares_kind g facts said v (is_open g known)) (commits_kind g facts said v) (pings_kind (ticks_of told) at_tick) (pongs_kind g me known said) (round_trips_kind g me known said (ticks_of told)) (tat_reports_kind said v (waited v told) at_tick) (tat_bounds_kind g me known said v at_tick) (suspects_kind g known said v at_tick) (report_kind g known said (stable g facts) (marks_for g facts (stable g facts)) (certificates_below g facts v)) (new_view_kind g me known said) (ask_update_kind said at_tick (waiting_for g known)) (gives_kind g me known said) (ask_order_kind said at_tick (gap_of g facts)) (gives_ordered_kind g me known facts said) (vouchers_kind g orders known said) (marks_kind g facts said);
+    }
