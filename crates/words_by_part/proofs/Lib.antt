@@ -1,0 +1,4 @@
+pub mod Sorting
+pub mod Telling
+pub mod Said
+pub mod Answering

@@ -1,0 +1,12 @@
+ghost use Rattle.words_by_part.specs.Laws.{AnswersByPart, OwnWordsTell};
+
+/// Of all that a master says at an event, the words of each part's kinds are those that are due by its rules, in
+/// their order.
+pub fn answers_by_part()
+    ensures { AnswersByPart }
+{}
+
+/// What each part asks of the words said, its own kinds alone answer.
+pub fn own_words_tell()
+    ensures { OwnWordsTell }
+{}
