@@ -12,7 +12,8 @@ use message_types::Body;
 use plain_lists::Want;
 use std::alloc::Global;
 
-/// The vouchers due for all clients in turn, which count as said from then on.
+/// The vouchers due for all clients in turn, which count as said from then on. Without memory for them nothing changes:
+/// they are counted on a copy.
 pub fn say_vouchers(
     alloc: Global,
     vouchers: &mut Vouchers,
