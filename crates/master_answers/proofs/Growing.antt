@@ -44,3 +44,15 @@ knowledge_may_grow g me kept knowledge taken then_taken known more told then_tol
   view = view_grows g known more kept.offers.progress.view speaks.view;
   vouchers = speaks.vouchers;
 }
+
+pub events_may_grow : (g : Group) (me : ℕ) (kept : Speaker) (knowledge : Knowledge) (taken known : List (Signed Body)) (told then_told : List Told) (said : List Body)
+    → Knows g me knowledge taken known then_told said → Speaks g me kept taken known told said
+    → Speaks g me (record kept { knowledge = knowledge }) taken known then_told said
+events_may_grow g me kept knowledge taken known told then_told said knows speaks = record {
+  own = speaks.own;
+  knows = knows;
+  summary = speaks.summary;
+  offers = speaks.offers;
+  view = speaks.view;
+  vouchers = speaks.vouchers;
+}

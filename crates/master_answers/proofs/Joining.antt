@@ -2,20 +2,20 @@
 use Rattle.std.proofs.Common.{◌≡◌, List, ◌++◌, refl, sym, ◌∙◌, ap, append_assoc}
 use Rattle.message_types.specs.declared.body.Body.{Body}
 
-pub pair : (xs ys as bs : List Body) → xs ≡ as → ys ≡ bs → xs ++ ys ≡ as ++ bs
-pair xs ys as bs e h = ap (λ zs. zs ++ ys) e ∙ ap (λ zs. as ++ zs) h
+pub pair : (xs ys ps bs : List Body) → xs ≡ ps → ys ≡ bs → xs ++ ys ≡ ps ++ bs
+pair xs ys ps bs e h = ap (λ zs. zs ++ ys) e ∙ ap (λ zs. ps ++ zs) h
 
-and_two : (xs ys as b c : List Body) → xs ≡ as → ys ≡ b ++ c → xs ++ ys ≡ as ++ b ++ c
-and_two xs ys as b c e h = pair xs ys as (b ++ c) e h ∙ sym (append_assoc as b c)
+and_two : (xs ys ps b c : List Body) → xs ≡ ps → ys ≡ b ++ c → xs ++ ys ≡ ps ++ b ++ c
+and_two xs ys ps b c e h = pair xs ys ps (b ++ c) e h ∙ sym (append_assoc ps b c)
 
-and_six : (xs ys as b c d e f h : List Body) → xs ≡ as → ys ≡ b ++ c ++ d ++ e ++ f ++ h → xs ++ ys ≡ as ++ b ++ c ++ d ++ e ++ f ++ h
-and_six xs ys as b c d e f h same is =
-    pair xs ys as (b ++ c ++ d ++ e ++ f ++ h) same is
-    ∙ sym (append_assoc as (b ++ c ++ d ++ e ++ f) h)
-    ∙ ap (λ zs. zs ++ h) (sym (append_assoc as (b ++ c ++ d ++ e) f))
-    ∙ ap (λ zs. zs ++ f ++ h) (sym (append_assoc as (b ++ c ++ d) e))
-    ∙ ap (λ zs. zs ++ e ++ f ++ h) (sym (append_assoc as (b ++ c) d))
-    ∙ ap (λ zs. zs ++ d ++ e ++ f ++ h) (sym (append_assoc as b c))
+and_six : (xs ys ps b c d e f h : List Body) → xs ≡ ps → ys ≡ b ++ c ++ d ++ e ++ f ++ h → xs ++ ys ≡ ps ++ b ++ c ++ d ++ e ++ f ++ h
+and_six xs ys ps b c d e f h same is =
+    pair xs ys ps (b ++ c ++ d ++ e ++ f ++ h) same is
+    ∙ sym (append_assoc ps (b ++ c ++ d ++ e ++ f) h)
+    ∙ ap (λ zs. zs ++ h) (sym (append_assoc ps (b ++ c ++ d ++ e) f))
+    ∙ ap (λ zs. zs ++ f ++ h) (sym (append_assoc ps (b ++ c ++ d) e))
+    ∙ ap (λ zs. zs ++ e ++ f ++ h) (sym (append_assoc ps (b ++ c) d))
+    ∙ ap (λ zs. zs ++ d ++ e ++ f ++ h) (sym (append_assoc ps b c))
 
 pub all_joined : (a2 a3 a4 a5 a6 a7 a8 a9 a10 a11 a12 a13 a14 a15 a16 a17 a18 a19 a20 a21 requests at_a_tick orders measures views updates_asked gives orders_asked given vouchers marks : List Body)
     → requests ≡ a2 ++ a3 → at_a_tick ≡ a4 ++ a5 → orders ≡ a6 ++ a7 → measures ≡ a8 ++ a9 ++ a10 ++ a11 ++ a12 ++ a13 → views ≡ a14 ++ a15

@@ -8,10 +8,15 @@ ghost use Rattle.master_knowledge.specs.Knows.{Knows};
 ghost use Rattle.master_answers.specs.declared.speaker.Speaker.{Speaker as Speaking};
 ghost use Rattle.master_answers.specs.Speaks.{Speaks};
 
-/// A law, which does nothing: where a master comes to know more, or is told of more events, what it said counts as before.
+/// A law, which does nothing: where a master comes to know more words, or its knowledge is told of events or catches up,
+/// what it said counts as before.
 pub fn knowledge_may_grow()
-    ensures { (g : Group) (me : ℕ) (kept : Speaking) (knowledge : Kept) (taken then_taken known more : List (Signed Body)) (told then_told : List Told) (said : List Body)
+    ensures words { (g : Group) (me : ℕ) (kept : Speaking) (knowledge : Kept) (taken then_taken known more : List (Signed Body)) (told then_told : List Told) (said : List Body)
         → Knows g me knowledge then_taken (known ++ more) then_told said
         → Speaks g me kept taken known told said
         → Speaks g me (record kept { knowledge = knowledge }) then_taken (known ++ more) then_told said }
+    ensures events { (g : Group) (me : ℕ) (kept : Speaking) (knowledge : Kept) (taken known : List (Signed Body)) (told then_told : List Told) (said : List Body)
+        → Knows g me knowledge taken known then_told said
+        → Speaks g me kept taken known told said
+        → Speaks g me (record kept { knowledge = knowledge }) taken known then_told said }
 {}

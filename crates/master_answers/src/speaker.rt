@@ -1,4 +1,4 @@
-ghost use Rattle.std.specs.Prelude.{◌≡◌, ◌≤◌, [], ℕ};
+ghost use Rattle.std.specs.Prelude.{◌≡◌, ◌≤◌, [], ℕ, slice_index};
 ghost use Rattle.protocol_rules.specs.Group.{group_of};
 ghost use Rattle.master_answers.specs.Speaks.{Speaks};
 
@@ -21,7 +21,8 @@ impl Speaker {
     /// Of master `me` that heard and said nothing yet.
     pub fn new(alloc: Global, sizes: Sizes, clients: u32, me: u32) -> Speaker
         requires { clients ≤ 12 }
-        ensures { Speaks (group_of sizes clients) me result [] [] [] [] }
+        ensures speaks { Speaks (group_of sizes clients) me result [] [] [] [] }
+        ensures counts { (c : ℕ) → slice_index result.vouchers.counts c ≡ 0 }
     {
         Speaker {
             me,

@@ -4,8 +4,8 @@ use Rattle.protocol_rules.specs.Views.{view}
 use Rattle.master_answers.proofs.Growing.{starts_offers, from_zero}
 use Rattle.master_answers.proofs.speaker.Speaker.new.Goals as goal
 
-pub returns : goal.returns
-returns c = record {
+pub returns-clause-speaks : goal.returns-clause-speaks
+returns-clause-speaks c = record {
   own = refl;
   knows = c.new.ensures;
   summary = c.new-2.ensures c.args.clients;
