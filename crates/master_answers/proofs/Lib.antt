@@ -1,0 +1,11 @@
+pub mod Growing
+pub mod Few
+pub mod Alike
+pub mod Requests
+pub mod Orders
+pub mod Counting
+pub mod Joining
+pub mod Splitting
+pub mod Asking
+pub mod Reporting
+pub mod Speaking

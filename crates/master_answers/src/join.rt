@@ -1,0 +1,77 @@
+ghost use Rattle.std.specs.Prelude.{◌≡◌, ◌++◌, IfOk, OnOk};
+ghost use Rattle.std.specs.Option.{option_to_list};
+
+use message_types::Body;
+use plain_lists::Want;
+use std::alloc::Global;
+
+/// The words first, then those of the other lists in turn.
+pub(crate) fn join_first(
+    first: Vec<Body>,
+    at_a_tick: Vec<Body>,
+    orders: Vec<Body>,
+    measures: Vec<Body>,
+    views: Vec<Body>,
+) -> Result<Vec<Body>, Want>
+    ensures { IfOk result (λ all. all.items ≡ first.items ++ at_a_tick.items ++ orders.items ++ measures.items ++ views.items) }
+{
+    let mut all = first;
+    add(&mut all, at_a_tick)?;
+    add(&mut all, orders)?;
+    add(&mut all, measures)?;
+    add(&mut all, views)?;
+    Ok(all)
+}
+
+/// The words said so far, then those of the other lists in turn.
+pub(crate) fn join_last(
+    first: Vec<Body>,
+    updates_asked: Vec<Body>,
+    gives: Vec<Body>,
+    orders_asked: Vec<Body>,
+    given: Vec<Body>,
+    vouchers: Vec<Body>,
+    marks: Vec<Body>,
+) -> Result<Vec<Body>, Want>
+    ensures { IfOk result (λ all. all.items ≡ first.items ++ updates_asked.items ++ gives.items ++ orders_asked.items ++ given.items ++ vouchers.items ++ marks.items) }
+{
+    let mut all = first;
+    add(&mut all, updates_asked)?;
+    add(&mut all, gives)?;
+    add(&mut all, orders_asked)?;
+    add(&mut all, given)?;
+    add(&mut all, vouchers)?;
+    add(&mut all, marks)?;
+    Ok(all)
+}
+
+/// One word or two, where they are there.
+pub(crate) fn both(
+    alloc: Global,
+    first: Option<Body>,
+    second: Option<Body>,
+) -> Result<Vec<Body>, Want>
+    ensures { IfOk result (λ words. words.items ≡ option_to_list first ++ option_to_list second) }
+{
+    let mut words = Vec::new(alloc);
+    push_if(&mut words, first)?;
+    push_if(&mut words, second)?;
+    Ok(words)
+}
+
+fn push_if(words: &mut Vec<Body>, word: Option<Body>) -> Result<(), Want>
+    ensures { OnOk result (words.new.items ≡ words.old.items ++ option_to_list word) }
+{
+    if let Some(word) = word {
+        words.push(word)?;
+    }
+    Ok(())
+}
+
+fn add(words: &mut Vec<Body>, more: Vec<Body>) -> Result<(), Want>
+    ensures { OnOk result (words.new.items ≡ words.old.items ++ more.items) }
+{
+    let mut more = more;
+    words.append(&mut more)?;
+    Ok(())
+}
