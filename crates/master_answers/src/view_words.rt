@@ -18,7 +18,7 @@ pub(crate) fn say_views(views: &mut Views, order: &Order, view: u64) -> Result<V
     ensures words { IfOk result (λ words. (g : Group) (me : ℕ) (known : List (SignedWord Word)) (said : List Word)
         → IsOrderOf g order.now → AreViewsOf g me views.old known said
         → words.items ≡ report_due g known said (rules.stable g order.now.facts) (rules.marks_for g order.now.facts (rules.stable g order.now.facts)) (rules.certificates_below g order.now.facts view)
-            ++ new_view_due g me known said) }
+        ++ new_view_due g me known said) }
     ensures said { IfOk result (λ words. (g : Group) (me : ℕ) (known : List (SignedWord Word)) (said : List Word)
         → AreViewsOf g me views.old known said → AreViewsOf g me views.new known (said ++ words.items)) }
 {
