@@ -8,8 +8,6 @@ pub mod laws;
 mod lead;
 mod order_words;
 pub mod speaker;
-#[cfg(test)]
-mod tests;
 mod tick_words;
 mod view_words;
 
