@@ -51,7 +51,7 @@ executions_agree w history first second i j sound begins_first begins_second rig
     (λ r a b one other. certified_agree w history first second i j sound begins_first begins_second right_i right_j r.j r.k a b one other)
     (λ s a b one other. ordered_agree w history first second i j sound begins_first begins_second right_i right_j s a b one other)
 
-executed_from : (g : Group) (known : List (Signed Body)) (u : Update) → IsIn u (executed g known) → (r : Request) × (certified_requests g known r ≡ Some u)
+pub executed_from : (g : Group) (known : List (Signed Body)) (u : Update) → IsIn u (executed g known) → (r : Request) × (certified_requests g known r ≡ Some u)
 unfolding executed
 executed_from g known u h = executed_in g (certified_requests g known) (ordered_run g (facts_of g known)) u h
 

@@ -69,7 +69,7 @@ ordered_stays g known more s rows e =
     ap (λ facts. ordered g facts s) (flat_map-append (tells g) known more)
     ∙ first_met-more (λ beginning. find (λ rows. is_committed g beginning s (digest_of_rows rows)) (rows_known beginning)) [] (flat_map (tells g) known) (flat_map (tells g) more) e
 
-executed_more : (g : Group) (known more : List (Signed Body)) → Begins (executed g known) (executed g (known ++ more))
+pub executed_more : (g : Group) (known more : List (Signed Body)) → Begins (executed g known) (executed g (known ++ more))
 unfolding executed ordered_run
 executed_more g known more = executed_grow g (certified_requests g known) (certified_requests g (known ++ more)) (λ r u e. certified_stays g known more r.j r.k u e)
     (ordered_run g (facts_of g known)) (ordered_run g (facts_of g (known ++ more)))

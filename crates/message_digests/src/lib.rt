@@ -2,7 +2,5 @@
 #![tactic(auto)]
 
 mod digests;
-#[cfg(test)]
-mod tests;
 
 pub use crate::digests::{rows_digest, update_digest};

@@ -8,8 +8,6 @@ pub mod ordering;
 pub mod preordering;
 pub mod reconciling;
 pub mod signed;
-#[cfg(test)]
-mod tests;
 pub mod updates;
 pub mod views;
 pub mod vouchers;

@@ -8,8 +8,6 @@ pub mod memory_files;
 pub mod memory_sinks;
 pub mod real;
 pub mod sinks;
-#[cfg(test)]
-mod tests;
 
 pub use files::{Files, LoadAnswer};
 pub use memory_files::{MemoryFiles, SteadyFiles};

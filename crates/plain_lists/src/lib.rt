@@ -5,8 +5,6 @@
 pub mod bytes;
 pub mod copied;
 pub mod items;
-#[cfg(test)]
-mod tests;
 pub mod text;
 pub mod want;
 

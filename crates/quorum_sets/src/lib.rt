@@ -3,8 +3,6 @@
 
 pub mod laws;
 pub mod sizes;
-#[cfg(test)]
-mod tests;
 pub mod voters;
 
 pub use sizes::{BadSizes, Sizes};

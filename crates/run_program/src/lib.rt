@@ -11,6 +11,4 @@ mod refusal;
 mod report;
 mod script;
 pub mod spire;
-#[cfg(test)]
-mod tests;
 mod words;

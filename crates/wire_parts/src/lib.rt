@@ -8,6 +8,3 @@ mod reader;
 pub use crate::put::{put_bytes, put_i64, put_u8, put_u16, put_u32, put_u64};
 pub use crate::reader::{PartRefusal, Reader};
 pub use plain_lists::Want;
-
-#[cfg(test)]
-mod tests;

@@ -1,6 +1,6 @@
-use crate::laws::meet;
-use crate::{BadSizes, Sizes, VoterSet};
 use plain_lists::{Copied, Same};
+use quorum_sets::laws::meet;
+use quorum_sets::{BadSizes, Sizes, VoterSet};
 use std::test::Fail;
 
 #[test]

@@ -1,4 +1,4 @@
-use crate::{
+use outside::{
     Files, LoadAnswer, MemoryFiles, MemorySink, PutAnswer, RealErr, RealFiles, RealOut, Sink,
     SteadyFiles, SteadySink,
 };

@@ -1,4 +1,4 @@
-use crate::{rows_digest, update_digest};
+use message_digests::{rows_digest, update_digest};
 use message_types::{Op, Rows, Update};
 use plain_lists::{Items, Vector};
 use std::test::Fail;

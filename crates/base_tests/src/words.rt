@@ -1,4 +1,4 @@
-use crate::{Body, Frame, PoSummary, PrePrepare, Signed};
+use message_types::{Body, Frame, PoSummary, PrePrepare, Signed};
 use plain_lists::{Bytes, Copied, Items, Same, Want};
 use std::alloc::Global;
 use std::test::Fail;

@@ -1,5 +1,5 @@
-use crate::{PartRefusal, Reader, put_bytes, put_i64, put_u8, put_u16, put_u32, put_u64};
 use std::test::Fail;
+use wire_parts::{PartRefusal, Reader, put_bytes, put_i64, put_u8, put_u16, put_u32, put_u64};
 
 #[test]
 fn fields_stand_in_their_bytes(rt: HostRuntime) -> Result<(), Fail> {

@@ -1,4 +1,4 @@
-use crate::{Bytes, Copied, Items, Same, Text, Vector};
+use plain_lists::{Bytes, Copied, Items, Same, Text, Vector};
 use std::test::Fail;
 
 #[test]

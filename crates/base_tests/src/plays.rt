@@ -1,5 +1,5 @@
-use crate::spire::spire;
 use outside::{MemoryFiles, MemorySink, SteadySink};
+use run_program::spire::spire;
 use std::alloc::Global;
 use std::test::Fail;
 
