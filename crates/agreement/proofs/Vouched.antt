@@ -32,7 +32,7 @@ use Rattle.agreement.proofs.Executed.{executed_grow, runs_grow}
 use Rattle.agreement.proofs.Executions.{executions_agree}
 
 -- what the last event of a list knows
-known_of_last : (hs : List Heard) (h : Heard) → known_of (hs ++ h ∷ []) ≡ known_at hs h.took
+pub known_of_last : (hs : List Heard) (h : Heard) → known_of (hs ++ h ∷ []) ≡ known_at hs h.took
 unfolding known_of known_at
 known_of_last [] h = refl
 known_of_last (e ∷ []) h = ap (λ (ps : List (Signed Body)). ps ++ flat_map parts (taken_frames h.took)) (sym (append-nil (learned e)))
