@@ -1,6 +1,6 @@
 //! Tests of the crates that a first play stands on, through their public calls alone: lists, sizes and voters, fields
-//! in bytes, files and sinks, words and their digests, and whole plays. They stand here, since a crate with tests of
-//! its own is proved twice.
+//! in bytes, files and sinks, words and their digests. They stand here, since a crate with tests of its own is proved
+//! twice.
 #![tactic(auto)]
 
 #[cfg(test)]
@@ -9,8 +9,6 @@ mod digests;
 mod fields;
 #[cfg(test)]
 mod lists;
-#[cfg(test)]
-mod plays;
 #[cfg(test)]
 mod sinks;
 #[cfg(test)]
