@@ -1,0 +1,4 @@
+pub mod Events
+pub mod Plants
+pub mod Cutting
+pub mod Steps
