@@ -1,0 +1,7 @@
+pub mod Events
+pub mod Learning
+pub mod Plants
+pub mod Cutting
+pub mod Steps
+pub mod Histories
+pub mod Starting

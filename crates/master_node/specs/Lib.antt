@@ -1,0 +1,4 @@
+pub mod Charge
+pub mod Running
+pub mod Node
+pub mod Laws

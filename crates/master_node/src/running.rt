@@ -1,0 +1,138 @@
+ghost use Rattle.std.specs.Prelude.{◌≡◌, ◌++◌, ◌<◌, ◌≤◌, ◌^◌, ◌∷◌, [], OnOk, IfOk, List, ℕ, Bool, true, false, Option, Some, None};
+ghost use Rattle.std.specs.List.{list_all};
+ghost use Rattle.message_types.specs.declared.signed.Signed.{Signed as SignedWord};
+ghost use Rattle.message_types.specs.declared.body.Body.{Body as Word};
+ghost use Rattle.protocol_rules.specs.Master.{Heard, said_before, known_at, taken_at};
+ghost use Rattle.words_by_part.specs.Laws.{told_at};
+ghost use Rattle.master_knowledge.specs.Knows.{IsCaughtUp};
+ghost use Rattle.master_knowledge.specs.Whole.{is_whole};
+ghost use Rattle.master_points.specs.Orders.{IsPlant};
+ghost use Rattle.master_node.specs.Charge.{Charge, IsChargeOf, says_at};
+ghost use Rattle.master_node.specs.Running.{IsRunning, IsSomeRunning, HasLearned, IsSomeLearned, IsReady, IsSomeReady, HasSpoken, AreItsFrames, group_in, ticks_in};
+
+use crate::cut::cut;
+use crate::execute::apply_all;
+use crate::learn::{recall_all, tell};
+use master_answers::Speaker;
+use master_points::Master;
+use message_types::{Body, Frame};
+use plain_lists::{Copied, Items, Want};
+use scenario_file::Scenario;
+use std::alloc::Global;
+
+/// All that a master keeps while it runs: its parts, the plant after what it executed, the frames that it said at its last
+/// event and doesn't know yet, and how many leaves are left.
+#[derive(Drop)]
+pub struct Running {
+    pub alloc: Global,
+    pub speaker: Speaker,
+    pub points: Master,
+    pub unheard: Items<Frame>,
+    pub leaves: u64,
+    pub shared_leaves: bool,
+}
+
+impl Running {
+    /// Master `number` of a scenario, with so many leaves to sign with, before its first event.
+    pub fn start(
+        alloc: Global,
+        scenario: &Scenario,
+        number: u32,
+        leaves: u64,
+    ) -> Result<Running, Want>
+        requires plant { IsPlant scenario.now.plant scenario.now.screens }
+        requires number { number < scenario.now.sizes.n }
+        ensures { IfOk result (λ kept. (c : Charge) → IsChargeOf scenario.now number leaves c → IsRunning c kept []) }
+    {
+        let clients = scenario.plant.devices.len() as u32 + scenario.screens;
+        let points = Master::make(alloc, &scenario.plant, scenario.screens)?;
+        Ok(Running {
+            alloc,
+            speaker: Speaker::new(alloc, scenario.sizes, clients, number),
+            points,
+            unheard: Items::new(alloc),
+            leaves,
+            shared_leaves: scenario.frames == 2,
+        })
+    }
+
+    /// Takes a frame, and says what is due then. After want of memory the state is of no use.
+    pub fn hear(&mut self, frame: &Frame) -> Result<Vec<Body>, Want>
+        requires running { IsSomeRunning self.old }
+        requires whole { is_whole (group_in self.old) frame.now ≡ true }
+        ensures said { IfOk result (λ bodies. (c : Charge) (before : List Heard) → IsRunning c self.old before → bodies.items ≡ says_at c before (Some frame.now) false) }
+        ensures spoken { OnOk result ((c : Charge) (before : List Heard) → IsRunning c self.old before → HasSpoken c self.new before (Some frame.now) false) }
+    {
+        let done = self.speaker.knowledge.run.list().len();
+        recall_all(&mut self.speaker.knowledge, &self.unheard)?;
+        self.unheard = Items::new(self.alloc);
+        self.speaker.knowledge.hear(frame)?;
+        self.go_on(done, false)
+    }
+
+    /// Has a tick, and says what is due then. After want of memory the state is of no use.
+    pub fn tick(&mut self) -> Result<Vec<Body>, Want>
+        requires running { IsSomeRunning self.old }
+        requires ticks { ticks_in self.old < 2 ^ 32 }
+        ensures said { IfOk result (λ bodies. (c : Charge) (before : List Heard) → IsRunning c self.old before → bodies.items ≡ says_at c before None true) }
+        ensures spoken { OnOk result ((c : Charge) (before : List Heard) → IsRunning c self.old before → HasSpoken c self.new before None true) }
+    {
+        let done = self.speaker.knowledge.run.list().len();
+        recall_all(&mut self.speaker.knowledge, &self.unheard)?;
+        self.unheard = Items::new(self.alloc);
+        self.go_on(done, true)
+    }
+
+    /// Keeps the frames of what the master just said, until its next event.
+    pub fn signed(&mut self, frames: &[Frame]) -> Result<(), Want>
+        ensures { OnOk result ((c : Charge) (before : List Heard) (took : Option (SignedWord Word)) (at_tick : Bool)
+            → HasSpoken c self.old before took at_tick → AreItsFrames c before took at_tick frames.now
+            → IsRunning c self.new (before ++ record { took = took; is_tick = at_tick; said = frames.now } ∷ [])) }
+    {
+        self.unheard = copied(self.alloc, frames)?;
+        Ok(())
+    }
+
+    /// Executes what the words known make executed, and says what is due at the event.
+    fn go_on(&mut self, done: usize, at_tick: bool) -> Result<Vec<Body>, Want>
+        requires learned { IsSomeLearned self.old at_tick done }
+        ensures said { IfOk result (λ bodies. (c : Charge) (before : List Heard) (took : Option (SignedWord Word)) → HasLearned c self.old before took at_tick done
+            → bodies.items ≡ says_at c before took at_tick) }
+        ensures spoken { OnOk result ((c : Charge) (before : List Heard) (took : Option (SignedWord Word)) → HasLearned c self.old before took at_tick done
+            → HasSpoken c self.new before took at_tick) }
+    {
+        self.speaker.knowledge.catch_up()?;
+        let executed = self.speaker.knowledge.run.list();
+        apply_all(&mut self.points, &executed[done..])?;
+        tell(&mut self.speaker.knowledge, at_tick)?;
+        self.say(at_tick)
+    }
+
+    /// Says what is due, as far as leaves are left for it.
+    fn say(&mut self, at_tick: bool) -> Result<Vec<Body>, Want>
+        requires ready { IsSomeReady self.old at_tick }
+        ensures said { IfOk result (λ bodies. (c : Charge) (before : List Heard) (took : Option (SignedWord Word)) → IsReady c self.old before took at_tick
+            → bodies.items ≡ says_at c before took at_tick) }
+        ensures spoken { OnOk result ((c : Charge) (before : List Heard) (took : Option (SignedWord Word)) → IsReady c self.old before took at_tick
+            → HasSpoken c self.new before took at_tick) }
+    {
+        if self.leaves == 0 {
+            return Ok(Vec::new(self.alloc));
+        }
+        let mut bodies = self.speaker.answer(&self.points, at_tick)?;
+        let used = cut(&mut bodies, self.leaves, self.shared_leaves);
+        self.leaves -= used;
+        Ok(bodies)
+    }
+}
+
+/// Copies of the frames, which share their signatures.
+fn copied(alloc: Global, frames: &[Frame]) -> Result<Items<Frame>, Want>
+    ensures { IfOk result (λ copies. copies ≡ frames.now) }
+{
+    let mut copies = Items::new(alloc);
+    for frame in frames {
+        copies.push(frame.copy()?)?;
+    }
+    Ok(copies)
+}
