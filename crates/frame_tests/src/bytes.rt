@@ -50,8 +50,8 @@ fn plain_offer(alloc: Global, first: u32, second: u32, third: u32) -> Result<Vec
     framed(alloc, 0, &text, &[])
 }
 
-// The first fault of bytes that spell no frame.
-fn fault_of(alloc: Global, bytes: &[u8]) -> Option<FormRefusal> {
+/// The first fault of bytes that spell no frame.
+pub fn fault_of(alloc: Global, bytes: &[u8]) -> Option<FormRefusal> {
     read_frame(alloc, bytes).err()
 }
 

@@ -1,4 +1,4 @@
-use crate::{Body, FormRefusal, Op, Update, batch_text, read_frame, text_of, write_frame};
+use crate::{Body, Op, Update, batch_text, read_frame, text_of, write_frame};
 use std::test::Fail;
 
 // An update that acknowledges alarm 0, of client 0 and signer 4, without a signature.
@@ -27,21 +27,6 @@ fn the_plain_frame_is_read_and_written_back(rt: HostRuntime) -> Result<(), Fail>
         PLAIN.as_slice()
     );
     Ok(())
-}
-
-#[test]
-fn altered_bytes_are_refused_at_their_place(rt: HostRuntime) {
-    let plain = PLAIN.as_slice();
-    assert_eq!(rt;
-        read_frame(rt.alloc(), &plain[..30]).err(),
-        Some(FormRefusal::Short { place: 27 })
-    );
-    let mut bytes = PLAIN;
-    bytes[9] = 0xff;
-    assert_eq!(rt;
-        read_frame(rt.alloc(), &bytes).err(),
-        Some(FormRefusal::UnknownKind { place: 8 })
-    );
 }
 
 #[test]
