@@ -1,10 +1,10 @@
 //! Hands words to one of the crates that a master's part in the replication is made of, so that the time of a word can be
 //! taken at the start and at the end of many.
 //!
-//! `CRATE WORDS` hands so many words to the crate, and asks of it after each what a master asks at an event. It prints how
-//! many words it took and one figure of what the crate answers. Two more names show what may grow: `unsaid_pings` is
-//! `suspect_leader` with pongs to pings that were never said, and `never_given` is `reconcile` where nothing that others
-//! want is given.
+//! `CRATE WORDS TIMES` hands so many words to the crate, asks of it after each what a master asks at an event, and does all
+//! of it so many times anew. It prints how many words it took and one figure of what the crate answers. Two more names show
+//! what may grow: `unsaid_pings` is `suspect_leader` with pongs to pings that were never said, and `never_given` is
+//! `reconcile` where nothing that others want is given.
 #![tactic(auto)]
 
 mod asks;
@@ -59,7 +59,16 @@ fn run<R: Env + AllocGlobal + Print>(rt: &R) -> Result<()> {
         .context("a number of words")?
         .parse::<u32>()
         .context("a number of words")?;
-    let figure = feed(rt.alloc(), four_masters()?, name.as_str(), count)?;
+    let times = words
+        .next()
+        .context("how often")?
+        .parse::<u32>()
+        .context("how often")?;
+    let sizes = four_masters()?;
+    let mut figure: u64 = 0;
+    for _ in 0..times {
+        figure = feed(rt.alloc(), sizes, name.as_str(), count)?;
+    }
     println!(rt; "{count} {figure}")?;
     Ok(())
 }
