@@ -2,3 +2,4 @@ pub mod Events
 pub mod Plants
 pub mod Cutting
 pub mod Steps
+pub mod Histories

@@ -1,3 +1,4 @@
 pub mod Charge
 pub mod Running
 pub mod Node
+pub mod Laws

@@ -3,6 +3,7 @@
 
 mod cut;
 mod execute;
+pub mod laws;
 mod learn;
 pub mod node;
 pub mod running;
