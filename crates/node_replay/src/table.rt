@@ -88,7 +88,7 @@ impl Table {
         let mut frames = Vec::new(self.alloc);
         if let Event::Command(op) = event {
             *updates = updates.saturating_add(1);
-            let client = self.proxies + number;
+            let client = self.proxies.saturating_add(number);
             frames.push(update(self.alloc, self.seats.len() as u32, client, *updates, *op)?)?;
         }
         Ok(frames)
@@ -149,7 +149,7 @@ fn seat_acts(
 // A client's update as it signs it, in a group of so many masters.
 fn update(alloc: Global, masters: u32, client: u32, t: u64, op: Op) -> Result<Frame, Want> {
     Ok(Signed {
-        signer: masters + client,
+        signer: masters.saturating_add(client),
         body: Body::Update(Update { client, t, op }),
         sig: empty_signature(alloc)?,
     })

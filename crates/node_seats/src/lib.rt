@@ -2,6 +2,7 @@
 #![tactic(auto)]
 
 mod answer;
+mod events;
 mod frames;
 pub mod seat;
 

@@ -3,7 +3,8 @@ ghost use Rattle.scenario_file.specs.Reading.{contents};
 ghost use Rattle.scenario_file.specs.Valid.{IsScenario};
 
 use crate::answer::SeatAnswer;
-use crate::frames::{is_whole, sign_all};
+use crate::events::{hear_at, tick_at};
+use crate::frames::is_whole;
 use master_node::Node;
 use message_types::Frame;
 use plain_lists::Want;
@@ -72,7 +73,7 @@ impl Seat {
             return Err(SeatAnswer::Misplaced);
         }
         self.is_spent = true;
-        let frames = hear_and_sign(self.alloc, &mut self.node, self.number, frame)?;
+        let frames = hear_at(self.alloc, &mut self.node, self.number, frame)?;
         self.is_spent = false;
         Ok(frames)
     }
@@ -86,7 +87,7 @@ impl Seat {
             return Err(SeatAnswer::TooManyTicks);
         }
         self.is_spent = true;
-        let frames = tick_and_sign(self.alloc, &mut self.node, self.number)?;
+        let frames = tick_at(self.alloc, &mut self.node, self.number)?;
         self.ticks += 1;
         self.is_spent = false;
         Ok(frames)
@@ -106,23 +107,4 @@ fn leaves_of(heights: &[u32]) -> u64 {
         .iter()
         .fold(0u32, |sum, height| sum.saturating_add(*height));
     if height < 64 { 1 << height } else { u64::MAX }
-}
-
-fn hear_and_sign(
-    alloc: Global,
-    node: &mut Node,
-    number: u32,
-    frame: &Frame,
-) -> Result<Vec<Frame>, Want> {
-    let bodies = node.hear(frame)?;
-    let frames = sign_all(alloc, number, bodies)?;
-    node.signed(&frames)?;
-    Ok(frames)
-}
-
-fn tick_and_sign(alloc: Global, node: &mut Node, number: u32) -> Result<Vec<Frame>, Want> {
-    let bodies = node.tick()?;
-    let frames = sign_all(alloc, number, bodies)?;
-    node.signed(&frames)?;
-    Ok(frames)
 }
