@@ -40,6 +40,7 @@ impl Speaker {
             → HoldsOrders g orders (known_at before took) points.now
             → Speaks g me self.new (taken_at before took) (known_at before took) (told_at g before took at_tick) (said_before before ++ bodies.items)) }
         ensures counts { OnOk result ((c : ℕ) → c < clients_of points.now → slice_index self.new.vouchers.counts c ≡ length (slice_index_or points.now.lists c [])) }
+        ensures run { OnOk result (self.new.knowledge.run ≡ self.old.knowledge.run) }
     {
         let alloc = self.knowledge.alloc;
         let view = self.knowledge.views.view();

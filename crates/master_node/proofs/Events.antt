@@ -12,9 +12,15 @@ use Rattle.protocol_rules.specs.Master.{Heard, learned, taken_frames, known_at, 
 use Rattle.words_by_part.specs.Laws.{told_at}
 use Rattle.master_node.specs.Charge.{leaves_for, leaves_used, taken_by}
 
+abbrev pub told_event : Bool → ℕ → Bool → Told
+told_event is_tick view waits = record { is_tick = is_tick; view = view; waits = waits }
+
 -- an event as the measures are told of it
 abbrev pub told_now : Group → List (Signed Body) → Bool → Told
 told_now g known is_tick = record { is_tick = is_tick; view = view g known; waits = waits g known }
+
+pub same_told : (a b : Bool) (v w : ℕ) (x y : Bool) → a ≡ b → v ≡ w → x ≡ y → told_event a v x ≡ told_event b w y
+same_told a b v w x y e f h = ap (λ t. told_event t v x) e ∙ ap (λ n. told_event b n x) f ∙ ap (λ t. told_event b w t) h
 
 told_more : (g : Group) (first before : List Heard) (e : Heard) → told_of g first (before ++ e ∷ []) ≡ told_of g first before ++ told_now g (known_at (first ++ before) e.took) e.is_tick ∷ []
 told_more g first [] e = ap (λ (hs : List Heard). told_now g (known_at hs e.took) e.is_tick ∷ []) (sym (append-nil first))
@@ -33,7 +39,7 @@ pub told_with : (g : Group) (before : List Heard) (took : Option (Signed Body)) 
     → told_at g before took at_tick ≡ told_of g [] (before ++ record { took = took; is_tick = at_tick; said = frames } ∷ [])
 told_with g before took at_tick frames = told_at_end g before took at_tick ∙ sym (told_more g [] before record { took = took; is_tick = at_tick; said = frames })
 
-flat_more : {X Y : Type 0} (f : X → List Y) (xs : List X) (x : X) → flat_map f (xs ++ x ∷ []) ≡ flat_map f xs ++ f x
+pub flat_more : {X Y : Type 0} (f : X → List Y) (xs : List X) (x : X) → flat_map f (xs ++ x ∷ []) ≡ flat_map f xs ++ f x
 flat_more {X} {Y} f [] x = append-nil (f x)
 flat_more {X} {Y} f (y ∷ rest) x = ap (λ (ys : List Y). f y ++ ys) (flat_more f rest x) ∙ sym (append_assoc (f y) (flat_map f rest) (f x))
 

@@ -1,6 +1,7 @@
 -- A master by its own events and by a history.
-use Rattle.std.proofs.Common.{◌≡◌, ℕ, ◌+◌, ◌-◌, ◌*◌, ◌/◌, Bool, true, false, cond, ◌&&◌, not, List, [], ◌∷◌, ◌++◌, Option, length, map, take, filter, nat_eq, nat_lt, inl, inr, refl, sym, ◌∙◌, ap, subst, arith, length-map, eqb-true}
+use Rattle.std.proofs.Common.{◌≡◌, ℕ, ◌+◌, ◌-◌, ◌*◌, ◌/◌, Bool, true, false, cond, ◌&&◌, not, List, [], ◌∷◌, ◌++◌, Option, length, map, take, filter, nat_eq, nat_lt, inl, inr, refl, sym, ◌∙◌, ap, subst, arith, eqb-true}
 use Rattle.std.proofs.lemmas.Bool.{false≢true}
+use Rattle.std.proofs.lemmas.List.{length-map}
 use Rattle.message_types.specs.declared.signed.Signed.{Signed}
 use Rattle.message_types.specs.declared.body.Body.{Body}
 use Rattle.protocol_rules.specs.Master.{Heard, answers}
@@ -42,26 +43,23 @@ silent_says_nothing w history i legal correct e h silent =
 
 used_alike : (w : Setup) (i used : ℕ) (es : List Entry) → Each SaysNothing es → leaves_used w.shared_leaves (heard_from w i used es) ≡ setup.leaves_used w es
 used_alike w i used [] each = refl
-used_alike w i used (e ∷ rest) each = by (is_silent e.event) refl
+used_alike w i used (e ∷ rest) each = by (is_silent e.event) refl (used_alike w i (used + setup.leaves_for w e.said) rest (λ x h. each x (there e rest h)))
   where
     later : List Heard
     later = heard_from w i (used + setup.leaves_for w e.said) rest
 
-    same : leaves_used w.shared_leaves later ≡ setup.leaves_used w rest
-    same = used_alike w i (used + setup.leaves_for w e.said) rest (λ x h. each x (there e rest h))
-
     many : length (signed_from w i used e.said 0 e.said) ≡ length e.said
-    many = sym (length-map (λ (f : Signed Body). f.body) (signed_from w i used e.said 0 e.said)) ∙ ap length (signed_from_bodies w i used 0 e.said e.said)
+    many = sym (length-map (signed_from w i used e.said 0 e.said) (λ (f : Signed Body). f.body)) ∙ ap length (signed_from_bodies w i used 0 e.said e.said)
 
     none_used : (shared : Bool) → leaves_for shared 0 ≡ 0
     none_used true = refl
     none_used false = refl
 
-    by : (b : Bool) → is_silent e.event ≡ b → leaves_used w.shared_leaves (cond (is_silent e.event) later (hears w i used e ∷ later)) ≡ setup.leaves_for w e.said + setup.leaves_used w rest
-    by true silent =
-        let none : leaves_for w.shared_leaves (length e.said) ≡ 0 = ap (λ (bs : List Body). leaves_for w.shared_leaves (length bs)) (each e (here rest) silent) ∙ none_used w.shared_leaves in
-        ap (λ b. leaves_used w.shared_leaves (cond b later (hears w i used e ∷ later))) silent ∙ same ∙ ap (λ n. n + setup.leaves_used w rest) (sym none)
-    by false loud =
+    by : (b : Bool) → is_silent e.event ≡ b → leaves_used w.shared_leaves later ≡ setup.leaves_used w rest → leaves_used w.shared_leaves (cond (is_silent e.event) later (hears w i used e ∷ later)) ≡ setup.leaves_for w e.said + setup.leaves_used w rest
+    by true silent same =
+        let none : setup.leaves_for w e.said ≡ 0 = ap (λ (bs : List Body). leaves_for w.shared_leaves (length bs)) (each e (here rest) silent) ∙ none_used w.shared_leaves in
+        ap (λ b. leaves_used w.shared_leaves (cond b later (hears w i used e ∷ later))) silent ∙ same ∙ (omega arith)
+    by false loud same =
         ap (λ b. leaves_used w.shared_leaves (cond b later (hears w i used e ∷ later))) loud
         ∙ ap (λ n. leaves_for w.shared_leaves n + leaves_used w.shared_leaves later) many
         ∙ ap (λ n. leaves_for w.shared_leaves (length e.said) + n) same

@@ -1,4 +1,5 @@
 pub mod Events
+pub mod Learning
 pub mod Plants
 pub mod Cutting
 pub mod Steps

@@ -18,9 +18,9 @@ abbrev pub IsWorking : NodeState → Type 0
 IsWorking node = node.is_spent ≡ false → IsSomeRunning node.running
 
 -- The charge of a scenario's master with so many leaves: the orders are those that the scenario's plant makes.
-pub record IsChargeOf (scenario : Scenario) (number leaves : ℕ) (c : Charge) : Type 0 where
+pub record IsChargeOf (scenario : Scenario) (number given : ℕ) (c : Charge) : Type 0 where
   pub group : c.group ≡ group_of scenario.sizes (length scenario.plant.devices + scenario.screens)
   pub me : c.me ≡ number
   pub orders : (updates : List Update) (client : ℕ) → c.orders updates client ≡ orders scenario.plant scenario.screens updates client
-  pub leaves : c.leaves ≡ leaves
+  pub leaves : c.leaves ≡ given
   pub shared : c.shared_leaves ≡ nat_eq scenario.frames 2

@@ -73,7 +73,7 @@ pub record HasLearned (c : Charge) (kept : Running) (before : List Heard) (took 
   pub earlier : List (Signed Body)
   pub points : HoldsPlant c earlier kept.points
   pub grown : Begins (executed c.group earlier) (executed c.group (known_at before took))
-  pub done : length (executed c.group earlier) ≡ done
+  pub many : length (executed c.group earlier) ≡ done
   pub vouchers : FewVouchers kept
   pub unheard : kept.unheard ≡ []
   pub leaves : kept.leaves ≡ leaves_left c before

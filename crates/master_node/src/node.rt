@@ -32,9 +32,13 @@ pub struct Node {
 }
 
 impl Model for Node {
+    ghost use Rattle.std.specs.Coded.{codes};
+    ghost use Rattle.interlocks.specs.Code.{formula_code};
     ghost use Rattle.master_node.specs.Node.{NodeState};
 
     ghost Value = { NodeState };
+
+    ghost coded = { Prim.hlevel (codes, formula_code) };
 
     ghost view = { λ node. record { running = node.running; is_spent = node.is_spent } };
 }
