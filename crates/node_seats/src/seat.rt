@@ -30,11 +30,15 @@ pub struct Seat {
 
 impl Model for Seat {
     ghost use Rattle.std.specs.Prelude.{◌≡◌, false};
+    ghost use Rattle.std.specs.Coded.{codes};
+    ghost use Rattle.interlocks.specs.Code.{formula_code};
     ghost use Rattle.protocol_rules.specs.Group.{group_of};
     ghost use Rattle.master_node.specs.Node.{NodeState};
     ghost use Rattle.node_seats.specs.Seated.{IsSeated};
 
     ghost Value = { NodeState };
+
+    ghost coded = { Prim.hlevel (codes, formula_code) };
 
     ghost view = { λ seat. seat.node };
 
