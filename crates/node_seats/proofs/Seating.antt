@@ -27,16 +27,18 @@ pub works : {g : Group} {me ticks : ℕ} {node : NodeState} → IsSeated g me ti
 works seated = record { charge = seated.charge; before = seated.before; is = seated.is }
 
 -- What a master said, signed by it, is handed to it.
-pub handed : {g : Group} {me ticks : ℕ} {node : NodeState} (spoken after : NodeState) (took : Option (Signed Body)) (at_tick : Bool) (bodies : List Body) (frames : List (Signed Body))
+pub handed : {g : Group} {me ticks : ℕ} {node : NodeState} (later : ℕ) (spoken after : NodeState) (took : Option (Signed Body)) (at_tick : Bool) (bodies : List Body) (frames list : List (Signed Body))
     → (seated : IsSeated g me ticks node)
+    → ticks + cond at_tick 1 0 ≤ later
     → ((c : Charge) (before : List Heard) → IsRunning c node.running before → bodies ≡ says_at c before took at_tick)
     → ((c : Charge) (before : List Heard) → IsRunning c node.running before → HasSpoken c spoken.running before took at_tick)
     → list_all (λ f. nat_eq f.signer me) frames ≡ true
     → map (λ f. f.body) frames ≡ bodies
-    → ((c : Charge) (before : List Heard) (took : Option (Signed Body)) (at_tick : Bool) → HasSpoken c spoken.running before took at_tick → AreItsFrames c before took at_tick frames
-    → IsRunning c after.running (before ++ record { took = took; is_tick = at_tick; said = frames } ∷ []))
-    → IsSeated g me (ticks + cond at_tick 1 0) after
-handed {g} {me} {ticks} {node} spoken after took at_tick bodies frames seated said has_spoken own words signed = record {
+    → list ≡ frames
+    → ((c : Charge) (before : List Heard) (took : Option (Signed Body)) (at_tick : Bool) → HasSpoken c spoken.running before took at_tick → AreItsFrames c before took at_tick list
+    → IsRunning c after.running (before ++ record { took = took; is_tick = at_tick; said = list } ∷ []))
+    → IsSeated g me later after
+handed {g} {me} {ticks} {node} later spoken after took at_tick bodies frames list seated most said has_spoken own words same signed = record {
   charge = seated.charge;
   before = seated.before ++ event ∷ [];
   is = signed seated.charge seated.before took at_tick (has_spoken seated.charge seated.before seated.is) its;
@@ -45,14 +47,14 @@ handed {g} {me} {ticks} {node} spoken after took at_tick bodies frames seated sa
   few =
       let few : ticks_heard seated.before ≤ ticks = seated.few in
       let more : ticks_heard (seated.before ++ event ∷ []) ≡ ticks_heard seated.before + cond at_tick 1 0 = filter_more (λ (e : Heard). e.is_tick) seated.before event in
-      subst (λ n. n ≤ ticks + cond at_tick 1 0) (sym more) (omega arith);
+      subst (λ n. n ≤ later) (sym more) (omega arith);
 }
   where
     event : Heard
-    event = record { took = took; is_tick = at_tick; said = frames }
+    event = record { took = took; is_tick = at_tick; said = list }
 
-    its : AreItsFrames seated.charge seated.before took at_tick frames
+    its : AreItsFrames seated.charge seated.before took at_tick list
     its = record {
-      own = ap (λ m. list_all (λ f. nat_eq f.signer m) frames) seated.master ∙ own;
-      words = words ∙ said seated.charge seated.before seated.is;
+      own = ap (λ m. list_all (λ f. nat_eq f.signer m) list) seated.master ∙ ap (list_all (λ f. nat_eq f.signer me)) same ∙ own;
+      words = ap (map (λ (f : Signed Body). f.body)) same ∙ words ∙ said seated.charge seated.before seated.is;
     }

@@ -87,7 +87,7 @@ impl Seat {
         if self.is_spent {
             return Err(SeatAnswer::Want);
         }
-        if self.ticks == MOST_TICKS {
+        if self.ticks >= MOST_TICKS {
             return Err(SeatAnswer::TooManyTicks);
         }
         self.is_spent = true;
