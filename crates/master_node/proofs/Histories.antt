@@ -1,21 +1,20 @@
 -- A master by its own events and by a history.
-use Rattle.std.proofs.Common.{◌≡◌, ℕ, ◌+◌, ◌-◌, ◌*◌, ◌/◌, Bool, true, false, cond, ◌&&◌, not, List, [], ◌∷◌, ◌++◌, Option, length, map, take, filter, nat_eq, nat_lt, inl, inr, refl, sym, ◌∙◌, ap, subst, arith, eqb-true}
+use Rattle.std.proofs.Common.{◌≡◌, ℕ, ◌+◌, ◌-◌, Bool, true, false, cond, ◌&&◌, not, List, [], ◌∷◌, ◌++◌, length, take, nat_eq, nat_lt, inl, inr, refl, sym, ◌∙◌, ap, subst, arith, eqb-true}
 use Rattle.std.proofs.lemmas.Bool.{false≢true}
 use Rattle.std.proofs.lemmas.List.{length-map}
 use Rattle.message_types.specs.declared.signed.Signed.{Signed}
 use Rattle.message_types.specs.declared.body.Body.{Body}
 use Rattle.protocol_rules.specs.Master.{Heard, answers}
-use Rattle.history_rules.specs.Events.{Event, Entry, frame_taken, is_tick, is_silent}
+use Rattle.history_rules.specs.Events.{Entry, frame_taken, is_tick, is_silent}
 use Rattle.history_rules.specs.Setup as setup
 use Rattle.history_rules.specs.Setup.{Setup, is_correct_master, heard_from, signed_from, own, room}
 use Rattle.history_rules.specs.Legal.{Stands, IsLegal, heard, says}
 use Rattle.history_rules.specs.Audit.{IsIn, here, there}
 use Rattle.agreement.proofs.Lists.{Each, none_in, in_cons_cases, in_filter_from}
 use Rattle.agreement.proofs.Known.{hears, signed_from_bodies, correct_said}
-use Rattle.master_node.specs.declared.running.Running.{Running}
 use Rattle.master_node.specs.Charge.{leaves_for, leaves_used, room_of, says_at}
-use Rattle.master_node.specs.Running.{HasSpoken, IsRunning}
-use Rattle.master_node.specs.Laws.{charge_of, SaysAsHistoriesDo, TicksAreHeard, NothingToSign}
+use Rattle.master_node.specs.Running.{IsRunning}
+use Rattle.master_node.specs.Laws.{SaysAsHistoriesDo, TicksAreHeard, NothingToSign}
 use Rattle.own_words.proofs.Measuring.{ticks_told}
 use Rattle.master_node.proofs.Steps.{handed_so}
 

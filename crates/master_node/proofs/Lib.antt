@@ -4,3 +4,4 @@ pub mod Plants
 pub mod Cutting
 pub mod Steps
 pub mod Histories
+pub mod Starting

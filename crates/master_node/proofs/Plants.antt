@@ -135,9 +135,9 @@ orders_grow c earlier known points now n p q b less =
     let last : slice_index_or now.lists n [] ≡ c.orders (executed c.group known) n = index_is now.lists n (c.orders (executed c.group known) n) ((holds_orders c known now q).lists n here) in
     let added = only-appends p.plant p.screens (executed c.group earlier) b.rest n in
     let longer : c.orders (executed c.group known) n ≡ c.orders (executed c.group earlier) n ++ added.0 =
-        p.orders (executed c.group known) n ∙ ap (λ (us : List Update). orders p.plant p.screens us n) b.same ∙ added.1 ∙ ap (λ (os : List Order). os ++ added.0) (sym (p.orders (executed c.group earlier) n)) in
+    p.orders (executed c.group known) n ∙ ap (λ (us : List Update). orders p.plant p.screens us n) b.same ∙ added.1 ∙ ap (λ (os : List Order). os ++ added.0) (sym (p.orders (executed c.group earlier) n)) in
     let long : length (slice_index_or now.lists n []) ≡ length (c.orders (executed c.group earlier) n) + length added.0 =
-        ap length last ∙ ap length longer ∙ length-append (c.orders (executed c.group earlier) n) added.0 in
+    ap length last ∙ ap length longer ∙ length-append (c.orders (executed c.group earlier) n) added.0 in
     let short : length (slice_index_or points.lists n []) ≡ length (c.orders (executed c.group earlier) n) = ap length first in
     omega arith
 

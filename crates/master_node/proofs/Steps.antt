@@ -1,5 +1,5 @@
 -- How the state of a master goes through an event: it learns, executes, is told of the event, and says what is due.
-use Rattle.std.proofs.Common.{◌≡◌, ℕ, ◌+◌, ◌-◌, ◌^◌, ◌<◌, ◌≤◌, Bool, true, false, cond, List, [], ◌∷◌, ◌++◌, Option, Some, None, drop, length, map, take, nat_lt, refl, sym, ◌∙◌, ap, subst, arith, append_assoc}
+use Rattle.std.proofs.Common.{◌≡◌, ℕ, ◌+◌, ◌-◌, ◌^◌, ◌<◌, ◌≤◌, Bool, true, false, cond, List, [], ◌∷◌, ◌++◌, Option, Some, None, drop, length, take, nat_lt, refl, sym, ◌∙◌, ap, subst, arith, append_assoc}
 use Rattle.std.specs.Prelude.{slice_index}
 use Rattle.std.specs.List.{list_all, flat_map, slice_index_or}
 use Rattle.std.proofs.lemmas.Bool.{and_from}
@@ -21,7 +21,7 @@ use Rattle.history_rules.specs.Audit.{IsIn}
 use Rattle.agreement.specs.Laws.{Begins}
 use Rattle.agreement.proofs.Lists.{in_right, in_flat_map, all_at}
 use Rattle.agreement.proofs.Vouched.{known_of_last, executed_more}
-use Rattle.own_words.specs.Laws.{ticks_heard, MaySpeak, IsSaid}
+use Rattle.own_words.specs.Laws.{ticks_heard, IsSaid}
 use Rattle.own_words.proofs.Measuring.{ticks_told}
 use Rattle.own_words.proofs.Limits.{filter_more}
 use Rattle.own_words.proofs.Speaking.{own_parts_are_in_place}
@@ -37,7 +37,7 @@ use Rattle.master_answers.specs.Speaks.{Speaks, clients_of}
 use Rattle.master_answers.proofs.Growing.{knowledge_may_grow, events_may_grow}
 use Rattle.master_node.specs.declared.running.Running.{Running}
 use Rattle.master_node.specs.Charge.{Charge, leaves_for, room_of, leaves_left, says_at, taken_by}
-use Rattle.master_node.specs.Running.{HoldsPlant, FewVouchers, group_in, ticks_in, IsRunning, HasLearned, IsReady, HasSpoken, AreItsFrames}
+use Rattle.master_node.specs.Running.{HoldsPlant, group_in, ticks_in, IsRunning, HasLearned, IsReady, HasSpoken, AreItsFrames}
 use Rattle.master_node.proofs.Events.{told_now, told_at_end, told_with, taken_more, said_more, learned_more, used_more}
 use Rattle.master_node.proofs.Plants.{clients_are, plant_grows, orders_grow, some_done, rest_passes, executed_there}
 use Rattle.master_node.proofs.Cutting.{uncut}
@@ -73,7 +73,7 @@ ticks_are g me k before taken known said knows = knows.measure.ticks ∙ ticks_t
 -- A master that learned its own last frames and the frame taken.
 learned_so : (c : Charge) (kept : Running) (k : Knowledge) (u : List (Signed Body)) (before : List Heard) (took : Option (Signed Body)) (at_tick : Bool) (done : ℕ) → (is : IsRunning c kept before)
     → ((said : List Body) → Knows c.group c.me kept.speaker.knowledge (taken_by before) (known_of before) (told_of c.group [] before) said
-        → Knows c.group c.me k (taken_at before took) ((known_of before ++ flat_map parts kept.unheard) ++ flat_map parts (taken_frames took)) (told_of c.group [] before) said)
+    → Knows c.group c.me k (taken_at before took) ((known_of before ++ flat_map parts kept.unheard) ++ flat_map parts (taken_frames took)) (told_of c.group [] before) said)
     → list_all (in_place c.group) (flat_map parts (taken_frames took)) ≡ true
     → ticks_heard before + cond at_tick 1 0 ≤ 2 ^ 32
     → length (executed c.group (known_of before)) ≡ done
@@ -204,7 +204,7 @@ pub few_ticks : (c : Charge) (kept : Running) (k : Knowledge) (before : List Hea
     → at_tick ≡ true → k.measure.ticks < 2 ^ 32
 few_ticks c kept k before took at_tick done h knows e =
     let same : k.measure.ticks ≡ ticks_heard before = ticks_are c.group c.me k before (taken_at before took) (known_at before took) h.keeps.counted
-        (knows c.group c.me (taken_at before took) (known_at before took) (told_of c.group [] before) h.keeps.counted h.keeps.speaks.knows) in
+    (knows c.group c.me (taken_at before took) (known_at before took) (told_of c.group [] before) h.keeps.counted h.keeps.speaks.knows) in
     let few : ticks_heard before + 1 ≤ 2 ^ 32 = subst (λ b. ticks_heard before + cond b 1 0 ≤ 2 ^ 32) e h.speaks.ticks in
     omega arith
 

@@ -1,12 +1,14 @@
 -- What a master is made with, and what it says at an event: all that the rules make it say, cut to what its leaves can sign.
 -- (Leaves are one-time keys, RFC 8554 section 5; that up to 32 bodies of one event share one is this project's own.)
-use Rattle.std.specs.Prelude.{ℕ, ◌+◌, ◌-◌, ◌*◌, ◌/◌, Bool, List, [], ◌∷◌, Option, length, take, if◌then◌else◌}
+use Rattle.std.specs.Prelude.{◌≡◌, ℕ, ◌+◌, ◌-◌, ◌*◌, ◌/◌, Bool, List, [], ◌∷◌, Option, length, nat_eq, take, if◌then◌else◌}
 use Rattle.std.specs.List.{flat_map}
 use Rattle.message_types.specs.declared.signed.Signed.{Signed}
 use Rattle.message_types.specs.declared.updates.Update.{Update}
 use Rattle.message_types.specs.declared.vouchers.Order.{Order}
 use Rattle.message_types.specs.declared.body.Body.{Body}
-use Rattle.protocol_rules.specs.Group.{Group}
+use Rattle.protocol_rules.specs.Group.{Group, group_of}
+use Rattle.master_points.specs.Orders.{orders}
+use Rattle.scenario_file.specs.declared.scenario.Scenario.{Scenario}
 use Rattle.protocol_rules.specs.Master.{Heard, taken_frames, answers}
 
 -- the group and the master's number in it, the orders that the plant's rules make of executed updates, how many leaves the
@@ -41,3 +43,11 @@ says_at c before took at_tick = take (room_of c.shared_leaves (leaves_left c bef
 -- the frames taken at these events
 abbrev pub taken_by : List Heard → List (Signed Body)
 taken_by before = flat_map (λ e. taken_frames e.took) before
+
+-- The charge of a scenario's master with so many leaves: the orders are those that the scenario's plant makes.
+pub record IsChargeOf (scenario : Scenario) (number given : ℕ) (c : Charge) : Type 0 where
+  pub group : c.group ≡ group_of scenario.sizes (length scenario.plant.devices + scenario.screens)
+  pub me : c.me ≡ number
+  pub orders : (updates : List Update) (client : ℕ) → c.orders updates client ≡ orders scenario.plant scenario.screens updates client
+  pub leaves : c.leaves ≡ given
+  pub shared : c.shared_leaves ≡ nat_eq scenario.frames 2

@@ -11,15 +11,13 @@ ghost use Rattle.master_points.specs.Orders.{orders};
 ghost use Rattle.scenario_file.specs.Reading.{contents};
 ghost use Rattle.scenario_file.specs.Valid.{IsScenario};
 ghost use Rattle.master_knowledge.specs.Whole.{is_whole};
-ghost use Rattle.master_node.specs.Charge.{Charge, says_at};
+ghost use Rattle.master_node.specs.Charge.{Charge, IsChargeOf, says_at};
 ghost use Rattle.master_node.specs.Running.{IsRunning, HasSpoken, AreItsFrames, group_in, ticks_in};
-ghost use Rattle.master_node.specs.Node.{NodeState, IsWorking, IsChargeOf};
+ghost use Rattle.master_node.specs.Node.{NodeState, IsWorking};
 
 use crate::running::Running;
-use master_answers::Speaker;
-use master_points::Master;
 use message_types::{Body, Frame, Update};
-use plain_lists::{Items, Want};
+use plain_lists::Want;
 use scenario_file::Scenario;
 use std::alloc::Global;
 use std::marker::Model;
@@ -52,16 +50,8 @@ impl Node {
         ensures working { IfOk result (λ node. node.is_spent ≡ false) }
         ensures some { IfOk result (λ node. IsWorking node) }
     {
-        let clients = scenario.plant.devices.len() as u32 + scenario.screens;
         Ok(Node {
-            running: Running {
-                alloc,
-                speaker: Speaker::new(alloc, scenario.sizes, clients, number),
-                points: Master::make(alloc, &scenario.plant, scenario.screens)?,
-                unheard: Items::new(alloc),
-                leaves,
-                shared_leaves: scenario.frames == 2,
-            },
+            running: Running::start(alloc, scenario, number, leaves)?,
             is_spent: false,
         })
     }

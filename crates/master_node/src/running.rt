@@ -6,7 +6,8 @@ ghost use Rattle.protocol_rules.specs.Master.{Heard, said_before, known_at, take
 ghost use Rattle.words_by_part.specs.Laws.{told_at};
 ghost use Rattle.master_knowledge.specs.Knows.{IsCaughtUp};
 ghost use Rattle.master_knowledge.specs.Whole.{is_whole};
-ghost use Rattle.master_node.specs.Charge.{Charge, says_at};
+ghost use Rattle.master_points.specs.Orders.{IsPlant};
+ghost use Rattle.master_node.specs.Charge.{Charge, IsChargeOf, says_at};
 ghost use Rattle.master_node.specs.Running.{IsRunning, IsSomeRunning, HasLearned, IsSomeLearned, IsReady, IsSomeReady, HasSpoken, AreItsFrames, group_in, ticks_in};
 
 use crate::cut::cut;
@@ -16,6 +17,7 @@ use master_answers::Speaker;
 use master_points::Master;
 use message_types::{Body, Frame};
 use plain_lists::{Copied, Items, Want};
+use scenario_file::Scenario;
 use std::alloc::Global;
 
 /// All that a master keeps while it runs: its parts, the plant after what it executed, the frames that it said at its last
@@ -31,6 +33,29 @@ pub struct Running {
 }
 
 impl Running {
+    /// Master `number` of a scenario, with so many leaves to sign with, before its first event.
+    pub fn start(
+        alloc: Global,
+        scenario: &Scenario,
+        number: u32,
+        leaves: u64,
+    ) -> Result<Running, Want>
+        requires plant { IsPlant scenario.now.plant scenario.now.screens }
+        requires number { number < scenario.now.sizes.n }
+        ensures { IfOk result (λ kept. (c : Charge) → IsChargeOf scenario.now number leaves c → IsRunning c kept []) }
+    {
+        let clients = scenario.plant.devices.len() as u32 + scenario.screens;
+        let points = Master::make(alloc, &scenario.plant, scenario.screens)?;
+        Ok(Running {
+            alloc,
+            speaker: Speaker::new(alloc, scenario.sizes, clients, number),
+            points,
+            unheard: Items::new(alloc),
+            leaves,
+            shared_leaves: scenario.frames == 2,
+        })
+    }
+
     /// Takes a frame, and says what is due then. After want of memory the state is of no use.
     pub fn hear(&mut self, frame: &Frame) -> Result<Vec<Body>, Want>
         requires running { IsSomeRunning self.old }

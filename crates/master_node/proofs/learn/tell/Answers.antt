@@ -1,4 +1,4 @@
-use Rattle.std.proofs.Common.{◌≡◌, [], ◌∷◌, ◌++◌, true, sym, subst}
+use Rattle.std.proofs.Common.{◌≡◌, [], ◌∷◌, ◌++◌, sym, subst}
 use Rattle.protocol_rules.specs.Measures.{Told}
 use Rattle.protocol_rules.specs.Views.{view}
 use Rattle.protocol_rules.specs.Master.{waits}

@@ -1,6 +1,5 @@
 use Rattle.std.proofs.Common.{◌<◌, ◌≤◌, ◌*◌, Fits, w64, length, arith}
 use Rattle.std.proofs.lemmas.Result.{on_ok_weaker, IfOk-weaker}
-use Rattle.protocol_rules.specs.Master.{known_at, executed}
 use Rattle.master_node.proofs.Plants.{tail_applied, tail_passes}
 use Rattle.master_node.proofs.Steps.{caught_list, done_within, clients_there, few_ticks, gone_on}
 use Rattle.master_node.proofs.running.Running.go_on.Goals as goal
@@ -21,7 +20,7 @@ pub offset_bounds-executed-done : goal.offset_bounds-executed-done
 offset_bounds-executed-done c =
     let l = c.requires.learned in
     let some : c.args.done ≤ length c.list-executed.result.now = done_within l.charge c.args.self.now l.before l.took c.args.at_tick c.args.done c.list-executed.result.now l.is
-        (caught_list l.charge c.args.self.now c.catch_up.new.self l.before l.took c.args.at_tick c.args.done c.list-executed.result.now l.is c.in_ok-catch_up.ensures.caught c.list-executed.ensures) in
+    (caught_list l.charge c.args.self.now c.catch_up.new.self l.before l.took c.args.at_tick c.args.done c.list-executed.result.now l.is c.in_ok-catch_up.ensures.caught c.list-executed.ensures) in
     let all : length c.list-executed.result.now * 32 < 9223372036854775808 = c.list-executed.type_inv.1 in
     let small : Fits w64 (c.args.done * 32) = omega arith in
     small
