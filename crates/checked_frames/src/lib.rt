@@ -12,5 +12,6 @@ mod signing;
 
 pub use crate::checked::{Checked, check, parts};
 pub use crate::key_ring::KeyRing;
+pub use crate::places::is_in_place;
 pub use crate::refusal::CheckRefusal;
 pub use crate::signing::{sign_group, signs};

@@ -299,7 +299,7 @@ fn word_in_place(sizes: &Sizes, clients: u32, signer: u32, body: &Body) -> bool
 }
 
 /// Whether a frame is in its place in a group of these sizes with so many clients. It takes no memory.
-pub(crate) fn is_in_place(sizes: &Sizes, clients: u32, frame: &Frame) -> bool
+pub fn is_in_place(sizes: &Sizes, clients: u32, frame: &Frame) -> bool
     ensures { result ≡ in_place (group_of sizes.now clients) frame.now }
 {
     match &frame.body {
