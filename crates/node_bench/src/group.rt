@@ -24,6 +24,7 @@ const DOORS: usize = 2;
 #[derive(Drop)]
 pub struct Group {
     alloc: Global,
+    masters: u32,
     seats: Vec<Seat>,
     waiting: VecDeque<Frame>,
     updates: u64,
@@ -37,6 +38,7 @@ impl Group {
         let scenario = Scenario::read(alloc, SCENARIO.as_bytes()).context("the scenario")?;
         Ok(Group {
             alloc,
+            masters: scenario.sizes.n,
             seats: seat_all(alloc, &scenario)?,
             waiting: VecDeque::new(alloc),
             updates: 0,
@@ -88,7 +90,7 @@ impl Group {
 
     fn send_update(&mut self) -> Result<()> {
         self.updates = self.updates.saturating_add(1);
-        let frame = update(self.alloc, self.seats.len() as u32, self.updates)?;
+        let frame = update(self.alloc, self.masters, self.updates)?;
         for number in 0..DOORS {
             self.hear(number, &frame)?;
         }

@@ -28,7 +28,7 @@ pub fn replay(alloc: Global, scenario: &Scenario, text: &str) -> Result<String, 
         }
         is_history = is_history || line.starts_with("history ");
     }
-    match whole_text(alloc, scenario, &table, lines.as_str()) {
+    match whole_text(alloc, &table, lines.as_str()) {
         Ok(whole) => Ok(whole),
         Err(want) => Err(at_line(0, want.into())),
     }
@@ -61,14 +61,9 @@ fn replay_line(
     Ok(())
 }
 
-fn whole_text(
-    alloc: Global,
-    scenario: &Scenario,
-    table: &Table,
-    lines: &str,
-) -> Result<String, Want> {
+fn whole_text(alloc: Global, table: &Table, lines: &str) -> Result<String, Want> {
     let mut text = String::from_str(alloc, "spire 1\n")?;
-    print_masters(&mut text, table, scenario.plant.devices.len() as u32)?;
+    print_masters(&mut text, table, table.proxies())?;
     let count = table.entries();
     write!(text, "history {count}\n")?;
     text.push_str(lines)?;

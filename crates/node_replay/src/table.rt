@@ -1,3 +1,4 @@
+ghost use Rattle.std.specs.Prelude.{◌<◌};
 ghost use Rattle.scenario_file.specs.Reading.{contents};
 ghost use Rattle.scenario_file.specs.Valid.{IsScenario};
 
@@ -14,10 +15,10 @@ use std::alloc::Global;
 #[derive(Drop)]
 pub struct Table {
     alloc: Global,
+    masters: u32,
+    proxies: u32,
     /// The masters in order; an intruded one has no seat.
     seats: Vec<Option<Seat>>,
-    /// The proxies are the first clients.
-    proxies: u32,
     /// The updates of each screen so far.
     updates: Vec<u64>,
     /// What was said at each entry.
@@ -31,8 +32,9 @@ impl Table {
     {
         Ok(Table {
             alloc,
-            seats: seat_all(alloc, scenario)?,
+            masters: scenario.sizes.n,
             proxies: scenario.plant.devices.len() as u32,
+            seats: seat_all(alloc, scenario)?,
             updates: vec![in alloc; 0; scenario.screens as usize]?,
             said: Vec::new(alloc),
         })
@@ -41,6 +43,11 @@ impl Table {
     /// The entries so far.
     pub fn entries(&self) -> usize {
         self.said.len()
+    }
+
+    /// How many proxies there are: they are the first clients.
+    pub fn proxies(&self) -> u32 {
+        self.proxies
     }
 
     /// The masters in order.
@@ -89,7 +96,7 @@ impl Table {
         if let Event::Command(op) = event {
             *updates = updates.saturating_add(1);
             let client = self.proxies.saturating_add(number);
-            frames.push(update(self.alloc, self.seats.len() as u32, client, *updates, *op)?)?;
+            frames.push(update(self.alloc, self.masters, client, *updates, *op)?)?;
         }
         Ok(frames)
     }
