@@ -225,10 +225,11 @@ fn widen(pending: &mut Pending, j: u32, k: u64)
 fn update_frame(frame: &Signed<Update>) -> Result<Frame, Want>
     ensures { IfOk result (λ own. own ≡ as_frame body.Update frame.now) }
 {
+    let sig = frame.sig.copy()?;
     Ok(Signed {
         signer: frame.signer,
         body: Body::Update(frame.body),
-        sig: frame.sig.copy()?,
+        sig,
     })
 }
 
@@ -236,19 +237,21 @@ fn request_frame(frame: &Signed<PoRequest>) -> Result<Frame, Want>
     ensures { IfOk result (λ own. own ≡ as_frame body.PoRequest frame.now) }
 {
     let body = frame.body.copy()?;
+    let sig = frame.sig.copy()?;
     Ok(Signed {
         signer: frame.signer,
         body: Body::PoRequest(body),
-        sig: frame.sig.copy()?,
+        sig,
     })
 }
 
 fn ack_frame(frame: &Signed<PoAck>) -> Result<Frame, Want>
     ensures { IfOk result (λ own. own ≡ as_frame body.PoAck frame.now) }
 {
+    let sig = frame.sig.copy()?;
     Ok(Signed {
         signer: frame.signer,
         body: Body::PoAck(frame.body),
-        sig: frame.sig.copy()?,
+        sig,
     })
 }

@@ -10,6 +10,7 @@
 mod asks;
 mod changes;
 mod measures;
+mod orders;
 mod requests;
 mod runs;
 mod summaries;
@@ -21,6 +22,7 @@ use anyhow::{Context, Result, bail};
 use asks::feed_asks;
 use changes::feed_views;
 use measures::feed_measure;
+use orders::feed_order;
 use quorum_sets::Sizes;
 use requests::feed_preorder;
 use runs::feed_execution;
@@ -39,6 +41,7 @@ fn feed(alloc: Global, sizes: Sizes, name: &str, count: u32) -> Result<u64>
     let fed = match name {
         "preorder" => feed_preorder(alloc, sizes, count),
         "summary_matrix" => feed_matrix(alloc, sizes, count),
+        "global_order" => feed_order(alloc, sizes, count),
         "execution" => feed_execution(alloc, sizes, count),
         "suspect_leader" => feed_measure(alloc, sizes, count, 0),
         "unsaid_pings" => feed_measure(alloc, sizes, count, UNSAID),
