@@ -22,6 +22,9 @@ pub(crate) fn say_views(views: &mut Views, order: &Order, view: u64) -> Result<V
     ensures said { IfOk result (λ words. (g : Group) (me : ℕ) (known : List (SignedWord Word)) (said : List Word)
         → AreViewsOf g me views.old known said → AreViewsOf g me views.new known (said ++ words.items)) }
 {
+    if !views.owes_report() {
+        return views.due(0, &[], &[]);
+    }
     let marks = order.marks()?;
     let certificates = order.certificates(view)?;
     views.due(order.stable(), &marks, &certificates)

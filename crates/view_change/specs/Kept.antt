@@ -15,7 +15,7 @@ use Rattle.quorum_sets.specs.Quorum.{has_quorum}
 use Rattle.protocol_rules.specs.Words.{first_of_list}
 use Rattle.protocol_rules.specs.Group.{Group, most_view}
 use Rattle.protocol_rules.specs.Plans.{plan_of}
-use Rattle.protocol_rules.specs.Views.{view, is_suspect, report_by, new_view_in, reports_said, new_views_said}
+use Rattle.protocol_rules.specs.Views.{view, is_suspect, is_suspected, report_by, new_view_in, reports_said, new_views_said}
 
 -- the group (whose clients don't matter here) and the master, the present view, by view the masters that suspect its
 -- leader, the first reports by view and master, the first plan by view, and of which views it said a report and a new view
@@ -48,6 +48,11 @@ present_reports kept = filter_map (at_place kept.reports kept.view) (numbers_bel
 abbrev pub is_report_owed : Kept → Bool
 is_report_owed kept =
     nat_le 1 kept.view && has_quorum kept.group.n kept.group.q (has_master (suspects_of kept (kept.view - 1))) && not (slice_index_or kept.reported kept.view false)
+
+-- a report of the present view is due, by what is known and said
+abbrev pub is_report_due : Group → List (Signed Body) → List Body → Bool
+is_report_due g known said =
+    nat_le 1 (view g known) && is_suspected g known (view g known - 1) && not (list_any (reports_said (view g known)) said)
 
 -- the master leads the present view, has reports of a quorum for it, and didn't open it
 abbrev pub is_new_view_owed : Kept → Bool

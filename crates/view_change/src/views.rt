@@ -11,7 +11,7 @@ ghost use Rattle.protocol_rules.specs.Views as rules;
 ghost use Rattle.protocol_rules.specs.Facts.{facts_of};
 ghost use Rattle.protocol_rules.specs.Order.{plan_known};
 ghost use Rattle.view_change.specs.Planning.{are_spelled};
-ghost use Rattle.view_change.specs.Kept.{AreViewsOf, at_view, first_new_view, plan_in_new_view, present_reports, is_report_owed, is_new_view_owed};
+ghost use Rattle.view_change.specs.Kept.{AreViewsOf, at_view, first_new_view, plan_in_new_view, present_reports, is_report_owed, is_report_due, is_new_view_owed};
 
 use crate::plans::plan_of_new_view;
 use message_types::{Body, Certificate, Mark, NewView, Plan, Report, Signed};
@@ -156,6 +156,14 @@ impl Views {
         self.plans.get(&v)
     }
 
+    /// Whether a report of the present view is due, so that nobody need gather what it brings along where none is.
+    pub fn owes_report(&self) -> bool
+        ensures { (g : Group) (me : ℕ) (known : List (SignedWord Word)) (said : List Word)
+            → AreViewsOf g me self.now known said → result ≡ is_report_due g known said }
+    {
+        self.is_report_owed()
+    }
+
     /// The report of the present view, once a quorum suspects the leader before, with what is brought along; and
     /// of its leader the new view, once reports of a quorum are known. Each is due once and counts as said.
     pub fn due(
@@ -190,7 +198,7 @@ impl Views {
         ensures { IfOk result (λ due. (g : Group) (me : ℕ) (known : List (SignedWord Word)) (said : List Word)
             → AreViewsOf g me self.now known said → option_to_list due ≡ rules.report_due g known said base marks.now certificates.now) }
     {
-        if !self.owes_report() {
+        if !self.is_report_owed() {
             return Ok(None);
         }
         Ok(Some(Body::Report(Report {
@@ -215,8 +223,8 @@ impl Views {
         })))
     }
 
-    /// Whether it owes a report of the present view.
-    fn owes_report(&self) -> bool
+    /// Whether it owes a report of the present view, by what is kept.
+    fn is_report_owed(&self) -> bool
         ensures { result ≡ is_report_owed self.now }
     {
         if self.view == 0 || self.reported[self.view as usize] {
