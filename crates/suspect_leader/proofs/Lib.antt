@@ -10,3 +10,4 @@ pub mod Rising
 pub mod Owed
 pub mod Due
 pub mod Places
+pub mod Early

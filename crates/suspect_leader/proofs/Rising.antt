@@ -10,7 +10,7 @@ use Rattle.suspect_leader.proofs.Masters.{below_none_at, below_one_more}
 abbrev pub Each : {X : Type 0} → (X → Type 0) → List X → Type 0
 Each = AllByRecursion
 
-each_then : {X : Type 0} (P Q : X → Type 0) (xs : List X) → ((x : X) → P x → Q x) → Each P xs → Each Q xs
+pub each_then : {X : Type 0} (P Q : X → Type 0) (xs : List X) → ((x : X) → P x → Q x) → Each P xs → Each Q xs
 each_then P Q [] f all = tt
 each_then P Q (x ∷ rest) f all = (f x all.0, each_then P Q rest f all.1)
 
@@ -110,12 +110,12 @@ steps_below zero = tt
 steps_below (suc n) = steps_snoc (numbers_below n) n (steps_below n) (below_each n)
 
 -- which there are
-or_middle : (a b d : Bool) → (a || (b || d)) ≡ (b || (a || d))
+pub or_middle : (a b d : Bool) → (a || (b || d)) ≡ (b || (a || d))
 or_middle true true d = refl
 or_middle true false d = refl
 or_middle false b d = refl
 
-or_twice : (a d : Bool) → (a || d) ≡ (a || (a || d))
+pub or_twice : (a d : Bool) → (a || d) ≡ (a || (a || d))
 or_twice true d = refl
 or_twice false d = refl
 

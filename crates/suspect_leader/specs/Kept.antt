@@ -1,6 +1,8 @@
 -- What a master keeps of the measures, and when it is what these events, words and bodies make of it.
-use Rattle.std.specs.Prelude.{◌≡◌, ℕ, ◌+◌, ◌-◌, ◌*◌, ◌%◌, ◌<◌, Bool, ◌&&◌, not, length, map, reverse, slice_index, List, [], ◌∷◌, ◌++◌, Option, Some, None, nat_eq, nat_lt, nat_le, unwrap_or, option_map, if◌then◌else◌}
+use Rattle.std.specs.Prelude.{◌≡◌, ℕ, ◌+◌, ◌-◌, ◌*◌, ◌%◌, ◌<◌, Bool, true, false, ◌&&◌, ◌||◌, not, length, map, reverse, slice_index, List, [], ◌∷◌, ◌++◌, Option, Some, None, nat_eq, nat_lt, nat_le, unwrap_or, option_map, if◌then◌else◌}
 use Rattle.std.specs.List.{list_any, filter_map, slice_index_or}
+use Rattle.std.specs.List.Sorted.{IsStrictlySortedBy}
+use Rattle.std.specs.BTreeSet.{insert_key}
 use Rattle.message_types.specs.declared.signed.Signed.{Signed}
 use Rattle.message_types.specs.declared.measures.Rtt.{Rtt}
 use Rattle.message_types.specs.declared.body.Body.{Body}
@@ -12,11 +14,12 @@ use Rattle.protocol_rules.specs.Places.{in_place}
 use Rattle.protocol_rules.specs.Measures.{Told, ticks_of, waited, report_in, bound_in, round_trip_in, pings_due, pongs_due, round_trips_due, tat_reports_due, tat_bounds_due, suspects_due}
 use Rattle.suspect_leader.specs.declared.saying.Saying.{Saying}
 use Rattle.suspect_leader.specs.declared.saying.Saying.TheVariants.{Ping, Pong, RoundTrip, Report, Bound, Vote}
+use Rattle.suspect_leader.specs.contracts.saying.SayingOrd.TheImpl.{cmp-value}
 use Rattle.suspect_leader.specs.Sayings.{says, is_among, is_pending}
 
 -- the group (whose clients don't matter here) and the master; the ticks, the view of the last event and the ticks waited
 -- in it; by view and master the greatest report and the first bound; by master the latest round trip; the answers owed,
--- and what was said
+-- also those that can't be given yet, and what was said
 pub record Kept : Type 0 where
   pub group : Group
   pub me : ℕ
@@ -28,6 +31,23 @@ pub record Kept : Type 0 where
   pub trips : List (Option Rtt)
   pub pending : List Saying
   pub said : List Saying
+
+-- a list in rising order with others put in at their places
+abbrev pub with_all : List Saying → List Saying → List Saying
+with_all list [] = list
+with_all list (s ∷ rest) = insert_key cmp-value.it (with_all list rest) s
+
+-- the round trip to one of the n masters whose ping isn't among what was said: it can't be answered yet
+abbrev pub is_early : ℕ → List Saying → Saying → Bool
+is_early n said (RoundTrip to number) = nat_lt to n && not (is_among said (Ping number))
+is_early n said _ = false
+
+-- Some that were early stand among the pending ones now: all in all the same are owed, none is early that wasn't, and the
+-- pending ones keep their order.
+pub record IsMoved (pending early pending_now early_now : List Saying) : Type 0 where
+  pub owed : (s : Saying) → (is_among early_now s || is_among pending_now s) ≡ (is_among early s || is_among pending s)
+  pub fewer : (s : Saying) → is_among early_now s ≡ true → is_among early s ≡ true
+  pub rising : IsStrictlySortedBy cmp-value.it pending → IsStrictlySortedBy cmp-value.it pending_now
 
 -- what a table by view and master has
 abbrev pub told_at : List ((ℕ × ℕ) × ℕ) → ℕ → ℕ → Option ℕ

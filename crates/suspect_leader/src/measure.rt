@@ -9,7 +9,7 @@ ghost use Rattle.protocol_rules.specs.Measures.{Told, turnaround, acceptable, pi
 ghost use Rattle.suspect_leader.specs.Sayings.{is_among, ticks_of_round_trip};
 ghost use Rattle.suspect_leader.specs.Kept.{IsMeasureOf, waited_in, answer_to, measures_due, figure_at, later_of, ticks_in, turnaround_kept, acceptable_kept, bound_kept, report_due_kept, bound_due_kept, vote_due_kept, due_kept, is_word_in_place};
 
-use crate::answers::{count, owe, push_if, settle};
+use crate::answers::{count, owe, push_if, release, settle};
 use crate::heard::{Heard, heard_of};
 use crate::ranked::Ranked;
 use crate::saying::Saying;
@@ -45,21 +45,26 @@ pub struct Measure {
     reports: Table,
     bounds: Table,
     trips: [Option<Rtt>; 14],
+    /// Round trips owed whose pings weren't said yet: no event looks at them.
+    early: BTreeSet<Saying, Global>,
+    /// The other answers owed, and after want of memory perhaps a round trip whose ping isn't said yet.
     pending: BTreeSet<Saying, Global>,
     said: BTreeSet<Saying, Global>,
 }
 
 impl Model for Measure {
-    ghost use Rattle.std.specs.Prelude.{◌≤◌, ℕ, None};
+    ghost use Rattle.std.specs.Prelude.{◌≡◌, ◌≤◌, ℕ, None, true};
     ghost use Rattle.std.specs.List.{slice_index_or};
     ghost use Rattle.protocol_rules.specs.Group.{group_of};
-    ghost use Rattle.suspect_leader.specs.Kept.{Kept, ticks_in};
+    ghost use Rattle.suspect_leader.specs.declared.saying.Saying.{Saying as Say};
+    ghost use Rattle.suspect_leader.specs.Sayings.{is_among};
+    ghost use Rattle.suspect_leader.specs.Kept.{Kept, ticks_in, with_all, is_early};
 
     ghost Value = { Kept };
 
-    ghost view = { λ m. record { group = group_of m.sizes 0; me = m.me; ticks = m.ticks; view = m.view; waited = m.waited; reports = m.reports.entries; bounds = m.bounds.entries; trips = m.trips; pending = m.pending.keys; said = m.said.keys } };
+    ghost view = { λ m. record { group = group_of m.sizes 0; me = m.me; ticks = m.ticks; view = m.view; waited = m.waited; reports = m.reports.entries; bounds = m.bounds.entries; trips = m.trips; pending = with_all m.pending.keys m.early.keys; said = m.said.keys } };
 
-    ghost invariant = { λ m. (m.ticks ≤ 4294967296) × (m.waited ≤ m.ticks) × ((j : ℕ) → ticks_in (slice_index_or m.trips j None) ≤ 4294967296) };
+    ghost invariant = { λ m. (m.ticks ≤ 4294967296) × (m.waited ≤ m.ticks) × ((j : ℕ) → ticks_in (slice_index_or m.trips j None) ≤ 4294967296) × ((s : Say) → is_among m.early.keys s ≡ true → is_early m.sizes.n m.said.keys s ≡ true) };
 }
 
 impl Measure {
@@ -78,6 +83,7 @@ impl Measure {
             reports: BTreeMap::new(alloc),
             bounds: BTreeMap::new(alloc),
             trips: [None; 14],
+            early: BTreeSet::new(alloc),
             pending: BTreeSet::new(alloc),
             said: BTreeSet::new(alloc),
         }
@@ -157,7 +163,7 @@ impl Measure {
 
     /// What to say at an event, in view `view`, once the event was told and its words were taken: a ping, the pongs
     /// and the round trips owed, how long the leader has kept the master waiting, its own bound, and a vote. They
-    /// count as said. A pong that came before its ping was said stays owed, and is looked at again each time.
+    /// count as said. A pong that came before its ping was said stays owed, and is looked at only once the ping was said.
     pub fn due(&mut self, view: u64, at_tick: bool) -> Result<Vec<Body>, Want>
         ensures ticks { self.new.ticks ≡ self.old.ticks }
         ensures bodies { IfOk result (λ bodies. (g : Group) (me : ℕ) (told : List Told) (known : List (SignedWord Word)) (said : List Word)
@@ -170,6 +176,8 @@ impl Measure {
     {
         let mut bodies = Vec::with_capacity(self.alloc, self.pending.len())?;
         self.list(&mut bodies, view, at_tick)?;
+        let masters = self.sizes.n;
+        release(&mut self.pending, &mut self.early, masters, bodies.as_slice())?;
         count(&mut self.said, bodies.as_slice())?;
         settle(&mut self.pending, bodies.as_slice());
         Ok(bodies)
@@ -245,7 +253,14 @@ impl Measure {
             to: signer,
             number: word.number,
         };
-        owe(&mut self.pending, &self.said, trip)
+        let is_answerable = self.has_said(Saying::Ping {
+            number: word.number,
+        });
+        if is_answerable {
+            owe(&mut self.pending, &self.said, trip)
+        } else {
+            owe(&mut self.early, &self.said, trip)
+        }
     }
 
     fn take_round_trip(&mut self, signer: u32, word: Rtt)
