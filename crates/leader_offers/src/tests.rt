@@ -1,5 +1,6 @@
 ghost use Rattle.std.specs.Prelude.{◌≡◌, ◌≤◌, ◌<◌, true, length, nat_le, slice_index, OnOk};
 ghost use Rattle.std.specs.List.{list_all};
+ghost use Rattle.leader_offers.specs.Counting.{HasFewRows};
 
 use crate::{Offers, Summary, Vouchers};
 use global_order::Order;
@@ -9,6 +10,31 @@ use quorum_sets::Sizes;
 use std::alloc::Global;
 use std::test::Fail;
 use summary_matrix::{Matrix, Reach};
+
+/// What a leader goes by where it offers.
+#[derive(Drop)]
+struct Leading {
+    order: Order,
+    matrix: Matrix,
+    offers: Offers,
+}
+
+/// A leader that knows nothing.
+fn knowing_nothing(alloc: Global, sizes: Sizes) -> Leading
+    ensures few { HasFewRows result.order.facts }
+    ensures masters { result.matrix.group.n ≡ sizes.n }
+    ensures view { result.offers.progress.view ≡ 0 }
+{
+    Leading {
+        order: Order::new(alloc, sizes),
+        matrix: Matrix::new(alloc, sizes),
+        offers: Offers::new(sizes),
+    }
+}
+
+/// Drops what a leader goes by. The proof of a function that drops it goes through all that it holds and takes long, so the
+/// tests do it here alone.
+fn let_go(_leading: Leading) {}
 
 /// Has a matrix of four masters take a summary.
 fn take_numbers(
@@ -33,23 +59,24 @@ fn take_numbers(
     matrix.take(&frame)
 }
 
-/// Three of four masters summed up, the third up to this number.
-fn summed_up(alloc: Global, sizes: Sizes, third: u64) -> Result<Matrix, Want>
-    requires masters { sizes.n ≡ 4 }
+/// Has a matrix of four masters take summaries of three, the third up to this number.
+fn sum_up(alloc: Global, matrix: &mut Matrix, third: u64) -> Result<(), Want>
+    requires masters { matrix.old.group.n ≡ 4 }
     requires small { third ≤ 4096 }
 {
-    let mut matrix = Matrix::new(alloc, sizes);
-    take_numbers(alloc, &mut matrix, 0, [1, 0, 0, 0])?;
-    take_numbers(alloc, &mut matrix, 1, [1, 0, 0, 0])?;
-    take_numbers(alloc, &mut matrix, 2, [third, 0, 0, 0])?;
-    Ok(matrix)
+    take_numbers(alloc, matrix, 0, [1, 0, 0, 0])?;
+    take_numbers(alloc, matrix, 1, [1, 0, 0, 0])?;
+    take_numbers(alloc, matrix, 2, [third, 0, 0, 0])
 }
 
-/// The number that the leader of view 0 offers first.
-fn first_number(alloc: Global, sizes: Sizes, matrix: &Matrix) -> Result<Option<u64>, Want> {
-    let order = Order::new(alloc, sizes);
-    let mut offers = Offers::new(sizes);
-    let word = offers.due(&order, matrix, true, 0, true, true)?;
+/// The number that the leader of view 0 offers next.
+fn number_offered(leading: &mut Leading) -> Result<Option<u64>, Want>
+    requires few { HasFewRows leading.old.order.facts }
+    requires view { leading.old.offers.progress.view ≡ 0 }
+{
+    let word = leading
+        .offers
+        .due(&leading.order, &leading.matrix, true, 0, true, true)?;
     Ok(number_of(&word))
 }
 
@@ -60,16 +87,26 @@ fn number_of(word: &Option<Body>) -> Option<u64> {
     }
 }
 
+/// The number that the leader of four masters offers first, where three of them summed up, the third up to this number.
+fn first_number(alloc: Global, sizes: Sizes, third: u64) -> Result<Option<u64>, Want>
+    requires masters { sizes.n ≡ 4 }
+    requires small { third ≤ 4096 }
+{
+    let mut leading = knowing_nothing(alloc, sizes);
+    let summed_up = sum_up(alloc, &mut leading.matrix, third);
+    let number = number_offered(&mut leading);
+    let_go(leading);
+    summed_up?;
+    number
+}
+
 /// What three of four masters have certified is offered.
 #[test]
 fn a_leader_offers_what_a_quorum_certified(rt: HostRuntime) -> Result<(), Fail> {
-    let alloc = rt.alloc();
     let sizes = Sizes::new(1, 0)?;
     assert_eq!(rt; sizes.n, 4);
-    let backed = summed_up(alloc, sizes, 1)?;
-    assert_eq!(rt; first_number(alloc, sizes, &backed)?, Some(1));
-    let not_backed = summed_up(alloc, sizes, 0)?;
-    assert_eq!(rt; first_number(alloc, sizes, &not_backed)?, None);
+    assert_eq!(rt; first_number(rt.alloc(), sizes, 1)?, Some(1));
+    assert_eq!(rt; first_number(rt.alloc(), sizes, 0)?, None);
     Ok(())
 }
 
@@ -81,14 +118,21 @@ fn length_summed_up(summary: &mut Summary, numbers: &Reach) -> Result<usize, Wan
     }
 }
 
+/// The lengths where a vector is of zeros, where it has grown, and where it stayed since.
+fn lengths_summed_up(summary: &mut Summary) -> Result<[usize; 3], Want> {
+    let mut reach = Reach::none();
+    let zeros = length_summed_up(summary, &reach)?;
+    reach.numbers[2] = 5;
+    let grown = length_summed_up(summary, &reach)?;
+    let again = length_summed_up(summary, &reach)?;
+    Ok([zeros, grown, again])
+}
+
 #[test]
 fn a_vector_is_summed_up_once(rt: HostRuntime) -> Result<(), Fail> {
     let mut summary = Summary::new(rt.alloc(), Sizes::new(1, 1)?);
-    let mut reach = Reach::none();
-    assert_eq!(rt; length_summed_up(&mut summary, &reach)?, 0);
-    reach.numbers[2] = 5;
-    assert_eq!(rt; length_summed_up(&mut summary, &reach)?, 6);
-    assert_eq!(rt; length_summed_up(&mut summary, &reach)?, 0);
+    let lengths = lengths_summed_up(&mut summary)?;
+    assert_eq!(rt; lengths, [0, 6, 0]);
     Ok(())
 }
 
@@ -109,13 +153,18 @@ fn number_vouched(body: Option<&Body>) -> u64 {
     }
 }
 
-#[test]
-fn each_order_is_vouched_for_once(rt: HostRuntime) -> Result<(), Fail> {
-    let alloc = rt.alloc();
+/// The last vouchers where one order is known, where two are, and then.
+fn numbers_vouched(alloc: Global) -> Result<[u64; 3], Want> {
     let order = ClientOrder::Write { point: 1, raw: 2 };
     let mut vouchers = Vouchers::none();
-    assert_eq!(rt; last_vouched(alloc, &mut vouchers, &[order])?, 1);
-    assert_eq!(rt; last_vouched(alloc, &mut vouchers, &[order, order])?, 2);
-    assert_eq!(rt; last_vouched(alloc, &mut vouchers, &[order, order])?, 0);
+    let one = last_vouched(alloc, &mut vouchers, &[order])?;
+    let two = last_vouched(alloc, &mut vouchers, &[order, order])?;
+    let again = last_vouched(alloc, &mut vouchers, &[order, order])?;
+    Ok([one, two, again])
+}
+
+#[test]
+fn each_order_is_vouched_for_once(rt: HostRuntime) -> Result<(), Fail> {
+    assert_eq!(rt; numbers_vouched(rt.alloc())?, [1, 2, 0]);
     Ok(())
 }

@@ -4,7 +4,8 @@ use Rattle.protocol_rules.specs.Facts.{rows_known}
 use Rattle.global_order.specs.Taken.{Taken}
 use Rattle.leader_offers.specs.Counting.{are_few}
 use Rattle.leader_offers.proofs.Few.{few-none}
-use Rattle.leader_offers.proofs.tests.first_number.Goals as goal
+use Rattle.leader_offers.proofs.tests.knowing_nothing.Goals as goal
 
-pub due-requires-clause-rows : goal.due-requires-clause-rows
-due-requires-clause-rows c = ap (λ (t : Taken). list_all are_few (rows_known t.facts)) c.new-order.ensures ∙ few-none
+-- the facts of a new order are none
+pub returns-clause-few : goal.returns-clause-few
+returns-clause-few c = ap (λ (t : Taken). list_all are_few (rows_known t.facts)) c.new.ensures ∙ few-none
