@@ -177,7 +177,12 @@ impl Measure {
         let mut bodies = Vec::with_capacity(self.alloc, self.pending.len())?;
         self.list(&mut bodies, view, at_tick)?;
         let masters = self.sizes.n;
-        release(&mut self.pending, &mut self.early, masters, bodies.as_slice())?;
+        release(
+            &mut self.pending,
+            &mut self.early,
+            masters,
+            bodies.as_slice(),
+        )?;
         count(&mut self.said, bodies.as_slice())?;
         settle(&mut self.pending, bodies.as_slice());
         Ok(bodies)
