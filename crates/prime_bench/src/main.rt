@@ -2,9 +2,9 @@
 //! taken at the start and at the end of many.
 //!
 //! `CRATE WORDS TIMES` hands so many words to the crate, asks of it after each what a master asks at an event, and does all
-//! of it so many times anew. It prints how many words it took and one figure of what the crate answers. Two more names show
-//! what may grow: `unsaid_pings` is `suspect_leader` with pongs to pings that were never said, and `never_given` is
-//! `reconcile` where nothing that others want is given.
+//! of it so many times anew. It prints how many words it took and one figure of what the crate answers. Two more names hand
+//! over what only intruded masters say: `unsaid_pings` is `suspect_leader` with pongs to pings that were never said, and
+//! `never_given` is `reconcile` where nothing that others want is given.
 #![tactic(auto)]
 
 mod asks;

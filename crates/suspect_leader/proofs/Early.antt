@@ -9,7 +9,7 @@ use Rattle.std.specs.Result.{OnErr}
 use Rattle.std.specs.Cmp.{IsTotalOrder}
 use Rattle.std.specs.Ordering.{is_eq, is_lt, nat_cmp, ordering_reverse, match_ordering, on, then_cmp}
 use Rattle.std.specs.declared.cmp.Ordering.{Ordering}
-use Rattle.std.proofs.lemmas.Bool.{and_parts, eqb-true, eqb-false, ltb-true, or_cases, true≢false}
+use Rattle.std.proofs.lemmas.Bool.{and_parts, eqb-true, eqb-false, or_cases, true≢false}
 use Rattle.std.proofs.lemmas.Cmp.{nat_cmp_total, on_total, then_total}
 use Rattle.std.proofs.lemmas.List.{take_more}
 use Rattle.std.proofs.lemmas.List.Folds.{list_any-append}
@@ -263,14 +263,6 @@ more_early pending early early_now said x s more =
     among_with pending early_now s ∙ ap (λ b. b || is_among pending s) more ∙ sym (or_assoc (same_saying x s && not (is_among said s)) (is_among early s) (is_among pending s))
     ∙ ap (λ b. same_saying x s && not (is_among said s) || b) (sym (among_with pending early s))
 
-pub early_put : (n : ℕ) (said early early_now : List Saying) (to number : ℕ) → nat_lt to n ≡ true → is_among said (Ping number) ≡ false → AllEarly n said early
-    → ((s : Saying) → is_among early_now s ≡ true → (same_saying (RoundTrip to number) s || is_among early s) ≡ true) → AllEarly n said early_now
-early_put n said early early_now to number within unsaid all only = λ s h. by s (or_cases (same_saying (RoundTrip to number) s) (is_among early s) (only s h))
-  where
-    by : (s : Saying) → (same_saying (RoundTrip to number) s ≡ true) ⊎ (is_among early s ≡ true) → is_early n said s ≡ true
-    by s (inl here) = ap (is_early n said) (sym (same_is (RoundTrip to number) s here)) ∙ ap (λ b. b && not (is_among said (Ping number))) within ∙ ap not unsaid
-    by s (inr there) = all s there
-
 -- what was said is no longer owed
 pub settled_with : (pending pending_now early : List Saying) (bodies : List Body) (s : Saying) → is_among pending_now s ≡ (not (list_any (says s) bodies) && is_among pending s) → (is_among early s ≡ true → list_any (says s) bodies ≡ false)
     → is_among (with_all pending_now early) s ≡ (not (list_any (says s) bodies) && is_among (with_all pending early) s)
@@ -346,26 +338,6 @@ early_not_due n kept v at_tick (Pong a b) e = absurd (true≢false (sym e))
 early_not_due n kept v at_tick (Report a b) e = absurd (true≢false (sym e))
 early_not_due n kept v at_tick (Bound a) e = absurd (true≢false (sym e))
 early_not_due n kept v at_tick (Vote a) e = absurd (true≢false (sym e))
-
--- once the bodies count as said, those early still wait whose pings aren't among them
-pub early_after : (n : ℕ) (said counted early : List Saying) (bodies : List Body) → AllEarly n said early → ((s : Saying) → is_among counted s ≡ (list_any (says s) bodies || is_among said s))
-    → ((to number : ℕ) → to < n → list_any (pings_said number) bodies ≡ true → is_among early (RoundTrip to number) ≡ false) → AllEarly n counted early
-early_after n said counted early bodies all more gone = λ s h. by s h (all s h)
-  where
-    by : (s : Saying) → is_among early s ≡ true → is_early n said s ≡ true → is_early n counted s ≡ true
-    by (RoundTrip to number) h e = at (list_any (pings_said number) bodies) refl
-      where
-        within : nat_lt to n ≡ true
-        within = (and_parts (nat_lt to n) (not (is_among said (Ping number))) e).0
-
-        at : (b : Bool) → list_any (pings_said number) bodies ≡ b → (nat_lt to n && not (is_among counted (Ping number))) ≡ true
-        at true now = absurd (true≢false (sym h ∙ gone to number (ltb-true to n within) now))
-        at false now = ap (λ b. b && not (is_among counted (Ping number))) within ∙ ap not (more (Ping number) ∙ ap (λ b. b || is_among said (Ping number)) now ∙ waits n said to number e)
-    by (Ping a) h e = absurd (true≢false (sym e))
-    by (Pong a b) h e = absurd (true≢false (sym e))
-    by (Report a b) h e = absurd (true≢false (sym e))
-    by (Bound a) h e = absurd (true≢false (sym e))
-    by (Vote a) h e = absurd (true≢false (sym e))
 
 -- the same measures with other answers owed, and other words said
 abbrev pub with_owed : Kept → List Saying → List Saying → Kept

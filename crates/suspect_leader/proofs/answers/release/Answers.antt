@@ -1,5 +1,4 @@
-use Rattle.std.proofs.Common.{◌≡◌, ℕ, ◌<◌, true, false}
-use Rattle.suspect_leader.proofs.Early.{not_moved, moved_again, gone_more}
+use Rattle.suspect_leader.proofs.Early.{moved_again, gone_more}
 use Rattle.suspect_leader.proofs.answers.release.Goals as goal
 
 pub loop-body-preserved : goal.loop-body-preserved

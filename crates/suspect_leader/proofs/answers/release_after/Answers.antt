@@ -1,7 +1,6 @@
-use Rattle.std.proofs.Common.{◌≡◌, ℕ, ◌∙◌, sym, ap, true, false}
+use Rattle.std.proofs.Common.{ℕ, ◌∙◌, sym, ap}
 use Rattle.std.proofs.lemmas.Bool.{eqb-true}
 use Rattle.std.proofs.lemmas.Result.{on_ok_weaker}
-use Rattle.message_types.specs.declared.body.Body.{Body}
 use Rattle.protocol_rules.specs.Measures.{pings_said}
 use Rattle.suspect_leader.specs.declared.saying.Saying.TheVariants.{RoundTrip}
 use Rattle.suspect_leader.specs.Sayings.{is_among}

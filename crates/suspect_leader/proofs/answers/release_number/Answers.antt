@@ -1,4 +1,4 @@
-use Rattle.std.proofs.Common.{◌≡◌, ℕ, ◌<◌, false, arith}
+use Rattle.std.proofs.Common.{arith}
 use Rattle.suspect_leader.proofs.Early.{not_moved, moved_again, gone_step}
 use Rattle.suspect_leader.proofs.answers.release_number.Goals as goal
 
