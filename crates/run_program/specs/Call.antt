@@ -66,9 +66,14 @@ CauseOf call (Err refusal.Output) =
     (text : List ℕ) × Defines call text × HasRisen call.out_faults_before call.out_faults_after × PutsBeginning call.put_before text call.put_after
 CauseOf call (Err refusal.Memory) = Unit {0}
 
--- where memory was wanted a beginning of the text may have been put
+-- Nothing was put, or a beginning of the text that the call defines.
+pub data NothingOrBegun (call : Call) : Type 0 where
+  nothing : PutsNothing call → NothingOrBegun call
+  begun : (text : List ℕ) → Defines call text → PutsBeginning call.put_before text call.put_after → NothingOrBegun call
+
+-- what was put where memory was wanted
 abbrev pub PutsInMemory : Call → Result (Unit {0}) Refusal → Type 0
-PutsInMemory call (Err refusal.Memory) = (text : List ℕ) × PutsBeginning call.put_before text call.put_after
+PutsInMemory call (Err refusal.Memory) = NothingOrBegun call
 PutsInMemory call _ = Unit {0}
 
 -- the status and the line of each refusal
