@@ -16,6 +16,11 @@ pub enum SeatAnswer {
 }
 
 impl From<Want> for SeatAnswer {
+    ghost use Rattle.std.specs.Prelude.{◌≡◌};
+    ghost use Rattle.node_seats.specs.declared.answer.SeatAnswer.TheVariants as answer;
+
+    ghost from_gives = { λ _ given. given ≡ answer.Want };
+
     fn from(_want: Want) -> SeatAnswer {
         SeatAnswer::Want
     }

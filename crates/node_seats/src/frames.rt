@@ -1,4 +1,4 @@
-ghost use Rattle.std.specs.Prelude.{◌≡◌, IfOk, map};
+ghost use Rattle.std.specs.Prelude.{◌≡◌, [], IfOk, map};
 ghost use Rattle.std.specs.List.{list_all};
 ghost use Rattle.std.specs.Prelude.{true, nat_eq};
 ghost use Rattle.protocol_rules.specs.Group.{group_of};
@@ -12,7 +12,9 @@ use quorum_sets::Sizes;
 use std::alloc::Global;
 
 /// The signature of no bytes.
-pub fn empty_signature(alloc: Global) -> Result<Bytes, Want> {
+pub fn empty_signature(alloc: Global) -> Result<Bytes, Want>
+    ensures { IfOk result (λ sig. sig ≡ []) }
+{
     Bytes::from_slice(alloc, &[])
 }
 

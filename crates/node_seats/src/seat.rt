@@ -1,4 +1,8 @@
-ghost use Rattle.std.specs.Prelude.{◌≡◌, ◌<◌};
+ghost use Rattle.std.specs.Prelude.{◌≡◌, ◌<◌, ◌≤◌, ◌^◌, [], Some, None, IfOk, OnOk, IsErrOf, true, false, sum};
+ghost use Rattle.master_knowledge.specs.Whole.{is_whole};
+ghost use Rattle.master_node.specs.Charge.{Charge, IsChargeOf};
+ghost use Rattle.master_node.specs.Running.{IsRunning, group_in, ticks_in};
+ghost use Rattle.node_seats.specs.Seated.{IsAnswer};
 ghost use Rattle.scenario_file.specs.Reading.{contents};
 ghost use Rattle.scenario_file.specs.Valid.{IsScenario};
 
@@ -50,6 +54,7 @@ impl Seat {
     pub fn new(alloc: Global, scenario: &Scenario, number: u32) -> Result<Seat, Want>
         requires valid { IsScenario (contents scenario.now) }
         requires number { number < scenario.now.sizes.n }
+        ensures { IfOk result (λ seat. (c : Charge) → IsChargeOf scenario.now number (2 ^ sum scenario.now.heights) c → IsRunning c seat.running []) }
     {
         let clients = scenario.plant.devices.len() as u32 + scenario.screens;
         Ok(Seat {
@@ -69,7 +74,13 @@ impl Seat {
     }
 
     /// Takes a frame, and gives what the master says then. After want of memory it takes none any more.
-    pub fn hear(&mut self, frame: &Frame) -> Result<Vec<Frame>, SeatAnswer> {
+    pub fn hear(&mut self, frame: &Frame) -> Result<Vec<Frame>, SeatAnswer>
+        ensures answer { IfOk result (λ frames. IsAnswer self.old self.new (Some frame.now) false frames.items) }
+        ensures placed { OnOk result (is_whole (group_in self.old.running) frame.now ≡ true) }
+        ensures misplaced { IsErrOf result SeatAnswer.Misplaced → is_whole (group_in self.old.running) frame.now ≡ false }
+        ensures unchanged { IsErrOf result SeatAnswer.Misplaced → self.new ≡ self.old }
+        ensures no_tick { IsErrOf result SeatAnswer.TooManyTicks → ⊥ }
+    {
         if self.is_spent {
             return Err(SeatAnswer::Want);
         }
@@ -83,7 +94,13 @@ impl Seat {
     }
 
     /// Has a tick, and gives what the master says then. After want of memory it has none any more.
-    pub fn tick(&mut self) -> Result<Vec<Frame>, SeatAnswer> {
+    pub fn tick(&mut self) -> Result<Vec<Frame>, SeatAnswer>
+        ensures answer { IfOk result (λ frames. IsAnswer self.old self.new None true frames.items) }
+        ensures left { OnOk result (ticks_in self.old.running < 2 ^ 32) }
+        ensures too_many { IsErrOf result SeatAnswer.TooManyTicks → 2 ^ 32 ≤ ticks_in self.old.running }
+        ensures unchanged { IsErrOf result SeatAnswer.TooManyTicks → self.new ≡ self.old }
+        ensures no_frame { IsErrOf result SeatAnswer.Misplaced → ⊥ }
+    {
         if self.is_spent {
             return Err(SeatAnswer::Want);
         }
@@ -106,9 +123,10 @@ impl Seat {
 }
 
 // The leaves of a key whose levels have trees of these heights.
-fn leaves_of(heights: &[u32]) -> u64 {
-    let height = heights
-        .iter()
-        .fold(0u32, |sum, height| sum.saturating_add(*height));
-    if height < 64 { 1 << height } else { u64::MAX }
+fn leaves_of(heights: &[u32]) -> u64
+    requires { sum heights.now < 64 }
+    ensures { result ≡ 2 ^ sum heights.now }
+{
+    let height: u32 = heights.iter().sum();
+    2u64.pow(height)
 }

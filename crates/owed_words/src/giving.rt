@@ -28,8 +28,8 @@ pub struct GiftsSaid {
     pub orders: Vec<Body>,
 }
 
-/// Gives what others want and the master has: each counts as given from then on. After an error the asks are
-/// those of a master that said a part of it.
+/// Gives what others want and the master has: each counts as given from then on. After an error the asks are of no more
+/// use, as is the master: it is spent.
 pub fn say_gifts(
     alloc: Global,
     gifts: &Gifts,
