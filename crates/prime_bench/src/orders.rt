@@ -1,11 +1,8 @@
-ghost use Rattle.std.specs.Prelude.{◌≡◌, IsTrue, IfOk};
-ghost use Rattle.message_types.specs.Spelling.{row_fits, rows_fit};
-
-use crate::words::frame;
+use crate::words::{frame, rows_to};
 use global_order::Order;
 use message_digests::rows_digest;
-use message_types::{Commit, Mark, Prepare, Rows};
-use plain_lists::{Items, Vector, Want};
+use message_types::{Commit, Mark, Prepare};
+use plain_lists::Want;
 use quorum_sets::Sizes;
 use std::alloc::Global;
 
@@ -37,7 +34,7 @@ fn take_words(alloc: Global, order: &mut Order, count: u32) -> Result<u64, Want>
 /// Of ten words the first is what is offered; then come the prepares, the commits and a mark.
 fn take_word(alloc: Global, order: &mut Order, s: u64, step: u32) -> Result<(), Want> {
     match step {
-        0 => order.take_preprepare(0, s, &rows_of(alloc, s)?),
+        0 => order.take_preprepare(0, s, &rows_to(alloc, s)?),
         1..=4 => take_prepare(alloc, order, s, step.saturating_sub(1)),
         5..=8 => take_commit(alloc, order, s, step.saturating_sub(5)),
         _ => take_mark(alloc, order, s),
@@ -45,12 +42,12 @@ fn take_word(alloc: Global, order: &mut Order, s: u64, step: u32) -> Result<(), 
 }
 
 fn take_prepare(alloc: Global, order: &mut Order, s: u64, signer: u32) -> Result<(), Want> {
-    let digest = rows_digest(&rows_of(alloc, s)?);
+    let digest = rows_digest(&rows_to(alloc, s)?);
     order.take_prepare(&frame(alloc, signer, Prepare { v: 0, s, digest })?)
 }
 
 fn take_commit(alloc: Global, order: &mut Order, s: u64, signer: u32) -> Result<(), Want> {
-    let digest = rows_digest(&rows_of(alloc, s)?);
+    let digest = rows_digest(&rows_to(alloc, s)?);
     order.take_commit(&frame(alloc, signer, Commit { v: 0, s, digest })?)
 }
 
@@ -61,20 +58,4 @@ fn take_mark(alloc: Global, order: &mut Order, s: u64) -> Result<(), Want> {
         return Ok(());
     }
     order.take_mark(&frame(alloc, signer, Mark { s: s / 8 * 8 })?)
-}
-
-fn rows_of(alloc: Global, number: u64) -> Result<Rows, Want>
-    ensures { IfOk result (λ rows. IsTrue (rows_fit rows)) }
-{
-    let mut rows = Items::new(alloc);
-    rows.push(row_of(alloc, number)?)?;
-    Ok(rows)
-}
-
-fn row_of(alloc: Global, number: u64) -> Result<Vector, Want>
-    ensures { IfOk result (λ row. IsTrue (row_fits row)) }
-{
-    let mut row = Items::new(alloc);
-    row.push(number)?;
-    Ok(row)
 }

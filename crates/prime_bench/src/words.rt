@@ -1,4 +1,5 @@
-ghost use Rattle.std.specs.Prelude.{◌≡◌, IfOk, replicate};
+ghost use Rattle.std.specs.Prelude.{◌≡◌, IfOk, IsTrue, replicate};
+ghost use Rattle.message_types.specs.Spelling.{rows_fit};
 
 use message_types::{Op, Rows, Signed, Update};
 use plain_lists::{Bytes, Items, Vector, Want};
@@ -34,7 +35,8 @@ pub fn update(client: u32, t: u64) -> Update
 
 /// The rows of four summaries that have all requests certified up to number `s`.
 pub fn rows_to(alloc: Global, s: u64) -> Result<Rows, Want>
-    ensures { IfOk result (λ rows. rows ≡ replicate 4 (replicate 4 s)) }
+    ensures rows { IfOk result (λ rows. rows ≡ replicate 4 (replicate 4 s)) }
+    ensures fits { IfOk result (λ rows. IsTrue (rows_fit rows)) }
 {
     let rows = Vec::from_array(
         alloc,
