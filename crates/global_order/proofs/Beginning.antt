@@ -1,5 +1,5 @@
 -- What an order begins with.
-use Rattle.std.proofs.Common.{◌≡◌, ℕ, zero, suc, ◌≤◌, true, false, ◌&&◌, List, [], ◌∷◌, Option, None, length, nat_eq, nat_le, refl, sym, ◌∙◌, ap, subst, arith}
+use Rattle.std.proofs.Common.{◌≡◌, ℕ, ◌≤◌, true, false, ◌&&◌, List, [], ◌∷◌, Option, None, length, nat_eq, nat_le, refl, sym, ◌∙◌, ap, subst, arith}
 use Rattle.std.specs.List.{list_any, filter_map, cons_option, find}
 use Rattle.std.specs.Option.{option_map}
 use Rattle.std.specs.Str.{bytes_eq}
@@ -9,10 +9,10 @@ use Rattle.message_types.specs.Digests.{digest_of_rows}
 use Rattle.quorum_sets.specs.Masters.{numbers_below}
 use Rattle.protocol_rules.specs.declared.facts.OrderFact.{OrderFact}
 use Rattle.protocol_rules.specs.Group.{Group, most_number}
-use Rattle.protocol_rules.specs.Words.{first_met, first_of_list, greatest_of, greatest_to}
+use Rattle.protocol_rules.specs.Words.{first_met, first_of_list, greatest_of}
 use Rattle.protocol_rules.specs.Facts.{rows_known}
 use Rattle.protocol_rules.specs.Plans.{first_plan}
-use Rattle.protocol_rules.specs.Order.{prepare_by, mark_by, is_voted, prepared, ordered, stable}
+use Rattle.protocol_rules.specs.Order.{prepare_by, is_voted, prepared, ordered, stable}
 use Rattle.protocol_rules.specs.Reconcile.{committed_views}
 use Rattle.global_order.specs.Choosing.{has_digest, is_known, IsLeast}
 use Rattle.global_order.specs.Taken.{HasSizes}
@@ -44,17 +44,12 @@ nothing-known : rows_known [] ≡ []
 unfolding rows_known
 nothing-known = refl
 
-none-greatest : (most : ℕ) → greatest_to (λ s. false) most ≡ 0
-unfolding greatest_to
-none-greatest zero = refl
-none-greatest (suc most) = none-greatest most
-
 nothing-viewed : (g : Group) (s : ℕ) (d : List ℕ) → committed_views g [] s d ≡ []
 nothing-viewed g s d = refl
 
-nothing-stable : (g : Group) → 1 ≤ g.q → stable g [] ≡ 0
+nothing-stable : (g : Group) → stable g [] ≡ 0
 unfolding stable
-nothing-stable g some = (λ i. greatest_to (λ s. no-quorum g (mark_by s) some i) most_number) ∙ none-greatest most_number
+nothing-stable g = refl
 
 empty-choices : (g : Group) (c : Choices) → 1 ≤ g.q → c.rows.entries ≡ [] → c.prepared.entries ≡ [] → c.backed.entries ≡ [] → c.ordered.entries ≡ [] → c.committed.entries ≡ [] → HasChoices g [] c
 empty-choices g c some rows slots backed orders committed = record {
@@ -92,7 +87,7 @@ held-new a some facts said prepares commits marks rows slots backed orders commi
   commits_said = λ v s. rw (told_commits, said) refl;
   marked = λ s low multiple. rw (said, marked) (not-positive s low);
   marked_limit = omega arith;
-  stable = λ g is. rw facts (stable_is ∙ sym (nothing-stable g (enough g is)));
+  stable = λ g is. rw facts (stable_is ∙ sym (nothing-stable g));
   stable_limit = let z : 0 ≤ most_number = omega arith in rw stable_is z;
   prepares_pending = rw offers_pending (pending-whole (said_in a.told.prepares) (offers_rows a.facts.items) 0);
   commits_pending = rw choices_pending (pending-whole (said_in a.told.commits) (holds_prepared a.choices.prepared) 0);

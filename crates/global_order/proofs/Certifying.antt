@@ -1,10 +1,10 @@
 -- Certificates: the least digest with a quorum, in the highest view that has one.
-use Rattle.std.proofs.Common.{◌≡◌, ℕ, suc, ◌+◌, ◌-◌, ◌≤◌, ◌<◌, true, false, cond, ◌&&◌, List, [], ◌∷◌, ◌++◌, Option, Some, None, is_some, refl, sym, ◌∙◌, ap, arith, true≢false}
+use Rattle.std.proofs.Common.{◌≡◌, ℕ, suc, ◌+◌, ◌-◌, ◌≤◌, ◌<◌, true, false, cond, ◌&&◌, ◌||◌, List, [], ◌∷◌, ◌++◌, Option, Some, None, is_some, length, nat_le, refl, sym, ◌∙◌, ap, arith, true≢false}
 use Rattle.std.specs.Prelude.{Result, Ok, Err, IfOk}
 use Rattle.std.specs.List.{find, filter_map, cons_option}
 use Rattle.std.specs.Option.{option_map, option_and_then, option_to_list}
 use Rattle.std.specs.Str.{bytes_eq}
-use Rattle.std.proofs.lemmas.Bool.{ne_eqb}
+use Rattle.std.proofs.lemmas.Bool.{ne_eqb, le-leb, lt-leb}
 use Rattle.std.proofs.lemmas.List.Elements.{filter_map-append}
 use Rattle.indexmap.specs.IndexMap.{get}
 use Rattle.message_types.specs.declared.signed.Signed.{Signed}
@@ -15,13 +15,16 @@ use Rattle.protocol_rules.specs.declared.facts.OrderFact.{OrderFact}
 use Rattle.protocol_rules.specs.Words.{or_else, last_below, numbers_from}
 use Rattle.protocol_rules.specs.Group.{Group}
 use Rattle.protocol_rules.specs.Facts.{rows_known}
-use Rattle.protocol_rules.specs.Order.{prepare_by, mark_by, marks_for, quorum_of, least_prepared, certificate_of, last_certificate}
+use Rattle.protocol_rules.specs.Order.{prepare_by, mark_by, is_voted, marks_for, marks_at, quorum_of, prepared, least_prepared, certificate_of, certificate_at, last_certificate}
 use Rattle.global_order.specs.Choosing.{has_digest, is_known, IsLeast}
-use Rattle.global_order.specs.Index.{Map, HasRows, prepares_in}
-use Rattle.global_order.proofs.Booleans.{bytes-same, find-passes}
+use Rattle.global_order.specs.Index.{Map, HasRows, HasMarks, given, mark_at, prepares_in, prepared_in}
+use Rattle.global_order.specs.Taken.{HasSizes}
+use Rattle.global_order.proofs.Booleans.{bytes-same, find-passes, option_map-none}
 use Rattle.global_order.proofs.Given.{option-list}
 use Rattle.global_order.proofs.Least.{least-rows}
+use Rattle.global_order.proofs.Meeting.{chosen-known}
 use Rattle.global_order.proofs.Ranges.{numbers_from-more}
+use Rattle.global_order.proofs.Voting.{marks-quorum}
 
 least-is : (g : Group) (facts : List OrderFact) (v s : ℕ) (least : Option (List ℕ)) → IsLeast (λ d. prepares_in g facts (v, s) d && is_known (rows_known facts) d) least →
     least_prepared g facts v s ≡ option_and_then (λ d. find (has_digest d) (rows_known facts)) least
@@ -31,19 +34,41 @@ pub certificate-none : (g : Group) (facts : List OrderFact) (v s : ℕ) (held : 
     None ≡ option_map (certificate_of g facts s v) (least_prepared g facts v s)
 certificate-none g facts v s held is e = sym (ap (option_map (certificate_of g facts s v)) (least-is g facts v s held is ∙ ap (option_and_then (λ d. find (has_digest d) (rows_known facts))) (sym e)))
 
-pub certificate-lost : (g : Group) (facts : List OrderFact) (v s : ℕ) (d : List ℕ) (held : Option (List ℕ)) (map : Map (List ℕ) (List (List ℕ))) → IsLeast (λ d. prepares_in g facts (v, s) d && is_known (rows_known facts) d) held → Some d ≡ held →
-    HasRows (rows_known facts) map → None ≡ get bytes_eq map d → None ≡ option_map (certificate_of g facts s v) (least_prepared g facts v s)
-certificate-lost g facts v s d held map is e has none =
-    sym (ap (option_map (certificate_of g facts s v)) (least-is g facts v s held is ∙ ap (option_and_then (λ d. find (has_digest d) (rows_known facts))) (sym e) ∙ sym (has d) ∙ sym none))
+-- the rows of the least digest held are those that the least certificate has
+pub least-found : (g : Group) (facts : List OrderFact) (v s : ℕ) (d : List ℕ) (held : Option (List ℕ)) → IsLeast (λ d. prepares_in g facts (v, s) d && is_known (rows_known facts) d) held → Some d ≡ held →
+    find (has_digest d) (rows_known facts) ≡ least_prepared g facts v s
+least-found g facts v s d held is e = sym (least-is g facts v s held is ∙ ap (option_and_then (λ d. find (has_digest d) (rows_known facts))) (sym e))
 
-pub certificate-found : (g : Group) (facts : List OrderFact) (v s : ℕ) (d : List ℕ) (held : Option (List ℕ)) (map : Map (List ℕ) (List (List ℕ))) (rows : List (List ℕ)) (prepares : List (Signed Prepare)) →
-    IsLeast (λ d. prepares_in g facts (v, s) d && is_known (rows_known facts) d) held → Some d ≡ held → HasRows (rows_known facts) map → Some rows ≡ get bytes_eq map d → prepares ≡ quorum_of g (prepare_by v s d) facts →
-    Some record { s = s; v = v; rows = rows; prepares = prepares } ≡ option_map (certificate_of g facts s v) (least_prepared g facts v s)
-certificate-found g facts v s d held map rows prepares is e has found are =
+-- those of the digest held as the first are those that were prepared first
+prepared-known : (g : Group) (facts : List OrderFact) (v s : ℕ) (rows : List (List ℕ)) → prepared g facts v s ≡ Some rows → find (has_digest (digest_of_rows rows)) (rows_known facts) ≡ Some rows
+unfolding prepared
+prepared-known g facts v s rows e = chosen-known (λ beginning d. is_voted g (prepare_by v s d) beginning) facts rows e
+
+pub first-found : (g : Group) (facts : List OrderFact) (v s : ℕ) (d : List ℕ) → Some d ≡ prepared_in g facts (v, s) → find (has_digest d) (rows_known facts) ≡ prepared g facts v s
+first-found g facts v s d e = by (prepared g facts v s) refl e
+  where
+    by : (o : Option (List (List ℕ))) → prepared g facts v s ≡ o → Some d ≡ option_map digest_of_rows o → find (has_digest d) (rows_known facts) ≡ o
+    by None is none = absurd (true≢false (ap is_some none))
+    by (Some rows) is some =
+        let same : d ≡ digest_of_rows rows = cc in
+        ap (λ x. find (has_digest x) (rows_known facts)) same ∙ prepared-known g facts v s rows is
+
+pub first-none : (g : Group) (facts : List OrderFact) (v s : ℕ) → None ≡ prepared_in g facts (v, s) → None ≡ certificate_at g facts s v
+first-none g facts v s e = sym (ap (option_map (certificate_of g facts s v)) (option_map-none digest_of_rows (prepared g facts v s) (sym e)))
+
+-- the certificate of a digest, where its rows aren't known and where they are
+pub certificate-lost : (g : Group) (facts : List OrderFact) (v s : ℕ) (d : List ℕ) (map : Map (List ℕ) (List (List ℕ))) → HasRows (rows_known facts) map → None ≡ get bytes_eq map d →
+    None ≡ option_map (certificate_of g facts s v) (find (has_digest d) (rows_known facts))
+certificate-lost g facts v s d map has none = sym (ap (option_map (certificate_of g facts s v)) (sym (has d) ∙ sym none))
+
+pub certificate-found : (g : Group) (facts : List OrderFact) (v s : ℕ) (d : List ℕ) (map : Map (List ℕ) (List (List ℕ))) (rows : List (List ℕ)) (prepares : List (Signed Prepare)) →
+    HasRows (rows_known facts) map → Some rows ≡ get bytes_eq map d → prepares ≡ quorum_of g (prepare_by v s d) facts →
+    Some record { s = s; v = v; rows = rows; prepares = prepares } ≡ option_map (certificate_of g facts s v) (find (has_digest d) (rows_known facts))
+certificate-found g facts v s d map rows prepares has found are =
     let there : find (has_digest d) (rows_known facts) ≡ Some rows = sym (has d) ∙ sym found in
     let same : digest_of_rows rows ≡ d = bytes-same (digest_of_rows rows) d (find-passes (has_digest d) (rows_known facts) rows there) in
     (λ i. Some record { s = s; v = v; rows = rows; prepares = (are ∙ ap (λ (x : List ℕ). quorum_of g (prepare_by v s x) facts) (sym same)) i })
-    ∙ sym (ap (option_map (certificate_of g facts s v)) (least-is g facts v s held is ∙ ap (option_and_then (λ d. find (has_digest d) (rows_known facts))) (sym e) ∙ there))
+    ∙ sym (ap (option_map (certificate_of g facts s v)) there)
 
 pub last-step : (g : Group) (facts : List OrderFact) (v s : ℕ) (here : Option Certificate) → 0 < v → here ≡ option_map (certificate_of g facts s (v - 1)) (least_prepared g facts (v - 1) s) → is_some here ≡ false →
     last_certificate g facts (v - 1) s ≡ last_certificate g facts v s
@@ -85,6 +110,28 @@ marks-none g facts s e = sym (ap (marks_for g facts) e)
 
 pub marks-some : (g : Group) (facts : List OrderFact) (s : ℕ) → (s ≡ 0 → ⊥) → quorum_of g (mark_by s) facts ≡ marks_for g facts s
 marks-some g facts s ne = sym (ap (λ b. cond b [] (quorum_of g (mark_by s) facts)) (ne_eqb s 0 ne))
+
+-- the marks of a given base
+pub base-none : (g : Group) (facts : List OrderFact) (s : ℕ) → s ≡ 0 → Some [] ≡ marks_at g facts s
+base-none g facts s e = sym (ap (marks_at g facts) e)
+
+base-is : (g : Group) (n q : ℕ) (facts : List OrderFact) (marks : Map (ℕ × ℕ) (List ℕ)) (count s : ℕ) → HasSizes g n q → HasMarks facts marks → count ≡ length (given (mark_at marks s) n) → (s ≡ 0 → ⊥) →
+    cond (nat_le q count) (Some (quorum_of g (mark_by s) facts)) None ≡ marks_at g facts s
+base-is g n q facts marks count s sizes has count_is ne =
+    (λ i. cond (nat_le (sym sizes.quorum i) (count_is i)) (Some (quorum_of g (mark_by s) facts)) None)
+    ∙ ap (λ b. cond b (Some (quorum_of g (mark_by s) facts)) None) (marks-quorum g n facts marks s sizes.masters has)
+    ∙ ap (λ ms. cond (is_voted g (mark_by s) facts) (Some ms) None) (marks-some g facts s ne)
+    ∙ sym (ap (λ b. cond (b || is_voted g (mark_by s) facts) (Some (marks_for g facts s)) None) (ne_eqb s 0 ne))
+
+pub base-few : (g : Group) (n q : ℕ) (facts : List OrderFact) (marks : Map (ℕ × ℕ) (List ℕ)) (count s : ℕ) → HasSizes g n q → HasMarks facts marks → count ≡ length (given (mark_at marks s) n) → (s ≡ 0 → ⊥) → count < q →
+    None ≡ marks_at g facts s
+base-few g n q facts marks count s sizes has count_is ne few =
+    sym (ap (λ b. cond b (Some (quorum_of g (mark_by s) facts)) None) (lt-leb q count few)) ∙ base-is g n q facts marks count s sizes has count_is ne
+
+pub base-enough : (g : Group) (n q : ℕ) (facts : List OrderFact) (marks : Map (ℕ × ℕ) (List ℕ)) (count s : ℕ) → HasSizes g n q → HasMarks facts marks → count ≡ length (given (mark_at marks s) n) → (s ≡ 0 → ⊥) → q ≤ count →
+    Some (quorum_of g (mark_by s) facts) ≡ marks_at g facts s
+base-enough g n q facts marks count s sizes has count_is ne enough =
+    sym (ap (λ b. cond b (Some (quorum_of g (mark_by s) facts)) None) (le-leb q count enough)) ∙ base-is g n q facts marks count s sizes has count_is ne
 
 pub if_ok : {T E : Type 0} (r : Result T E) (P Q : T → Type 0) → ((x : T) → P x → Q x) → IfOk r P → IfOk r Q
 if_ok (Ok x) P Q f p = f x p

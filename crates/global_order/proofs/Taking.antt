@@ -1,10 +1,10 @@
 -- What one fact more changes of the choices, the offers and the stable number.
-use Rattle.std.proofs.Common.{◌≡◌, ℕ, zero, suc, ◌≤◌, ◌<◌, ◌⊎◌, inl, inr, max, Bool, true, false, cond, ◌&&◌, ◌||◌, not, List, [], ◌∷◌, ◌++◌, Option, Some, None, is_some, length, nat_eq, nat_le, refl, sym, ◌∙◌, ap, subst, arith, true≢false}
+use Rattle.std.proofs.Common.{◌≡◌, ℕ, ◌≤◌, ◌⊎◌, inl, inr, max, Bool, true, false, cond, ◌&&◌, ◌||◌, not, List, [], ◌∷◌, ◌++◌, Option, Some, None, is_some, length, nat_eq, nat_le, refl, sym, ◌∙◌, ap, subst, arith, true≢false}
 use Rattle.std.specs.Bool.{OnTrue, OnFalse}
 use Rattle.std.specs.List.{filter_map, list_any, list_all, cons_option}
 use Rattle.std.specs.Str.{bytes_eq}
 use Rattle.std.proofs.Math.Bool.{or-false}
-use Rattle.std.proofs.lemmas.Bool.{le-leb, lt-leb, leb-true, cases_lt, cases_eq, ne_eqb}
+use Rattle.std.proofs.lemmas.Bool.{leb-true, eq-eqb}
 use Rattle.std.proofs.lemmas.List.{append-nil}
 use Rattle.std.proofs.lemmas.List.Elements.{filter_map-append}
 use Rattle.indexmap.specs.IndexMap.{get}
@@ -16,10 +16,11 @@ use Rattle.message_types.specs.Digests.{digest_of_rows}
 use Rattle.quorum_sets.specs.Masters.{numbers_below}
 use Rattle.protocol_rules.specs.declared.facts.OrderFact.{OrderFact}
 use Rattle.protocol_rules.specs.declared.facts.OrderFact.TheVariants as fact
-use Rattle.protocol_rules.specs.Words.{or_else, first_of_list, greatest_to}
+use Rattle.protocol_rules.specs.Words.{or_else, first_of_list, greatest_of}
 use Rattle.protocol_rules.specs.Group.{Group, most_number}
 use Rattle.protocol_rules.specs.Facts.{rows_in, rows_known}
-use Rattle.protocol_rules.specs.Order.{prepare_by, commit_by, mark_by, is_voted, commit_views, is_committed, prepared, ordered, stable, plan_in, proposal_in}
+use Rattle.protocol_rules.specs.Order.{prepare_by, commit_by, mark_by, is_voted, commit_views, is_committed, prepared, ordered, stable, number_marked, plan_in, proposal_in}
+use Rattle.protocol_rules.proofs.Greatest.{or_zero, greatest-push, greatest-more, greatest-same}
 use Rattle.global_order.specs.Choosing.{is_known}
 use Rattle.global_order.specs.Taken.{HasSizes}
 use Rattle.global_order.specs.Index.{Map, Vote, TakesFirst, given, vote_at, mark_at, HasPrepares, HasCommits, HasMarks, Agrees, HasChoices, same_pair, prepares_in, prepared_in, ordered_in, with_rows, with_all, with_quorum, with_choice}
@@ -341,90 +342,102 @@ offers-other facts x offers plan proposal has = record {
 
 -- stable
 
-stable-other : (g : Group) (facts : List OrderFact) (x : OrderFact) → ((s : ℕ) → is_voted g (mark_by s) (facts ++ x ∷ []) ≡ is_voted g (mark_by s) facts) → stable g (facts ++ x ∷ []) ≡ stable g facts
+stable-is : (g : Group) (facts : List OrderFact) → stable g facts ≡ greatest_of (filter_map (number_marked g facts) facts)
 unfolding stable
-stable-other g facts x same = λ i. greatest_to (λ s. same s i) most_number
+stable-is g facts = refl
+
+-- a fact shows the same number where the same numbers are marked by a quorum
+marked-same : (g : Group) (facts more : List OrderFact) → ((s : ℕ) → is_voted g (mark_by s) more ≡ is_voted g (mark_by s) facts) → (x : OrderFact) → number_marked g more x ≡ number_marked g facts x
+marked-same g facts more same (fact.Mark f) = ap (λ b. cond b (Some f.body.s) None) (same f.body.s)
+marked-same g facts more same (fact.Prepare f) = refl
+marked-same g facts more same (fact.Commit f) = refl
+marked-same g facts more same (fact.Rows rows) = refl
+marked-same g facts more same (fact.Proposal v s rows) = refl
+marked-same g facts more same (fact.Plan v plan) = refl
+
+-- one fact more, by which no more numbers are marked by a quorum
+stable-pushed : (g : Group) (facts : List OrderFact) (x : OrderFact) → ((s : ℕ) → is_voted g (mark_by s) (facts ++ x ∷ []) ≡ is_voted g (mark_by s) facts)
+    → stable g (facts ++ x ∷ []) ≡ max (stable g facts) (or_zero (number_marked g facts x))
+stable-pushed g facts x same =
+    stable-is g (facts ++ x ∷ []) ∙ greatest-same (number_marked g facts) (number_marked g (facts ++ x ∷ [])) (marked-same g facts (facts ++ x ∷ []) same) (facts ++ x ∷ [])
+    ∙ greatest-push (number_marked g facts) facts x ∙ ap (λ k. max k (or_zero (number_marked g facts x))) (sym (stable-is g facts))
+
+max-none : (k : ℕ) → max k 0 ≡ k
+max-none k = omega arith
+
+no_mark-shown : (g : Group) (facts : List OrderFact) (x : OrderFact) → ((s m : ℕ) → mark_by s m x ≡ None) → number_marked g facts x ≡ None
+no_mark-shown g facts (fact.Mark f) none =
+    let own : Some f ≡ None = sym (ap (λ b. cond (b && nat_eq f.body.s f.body.s) (Some f) None) (eq-eqb f.signer f.signer refl) ∙ ap (λ b. cond b (Some f) None) (eq-eqb f.body.s f.body.s refl)) ∙ none f.body.s f.signer in
+    absurd (cc)
+no_mark-shown g facts (fact.Prepare f) none = refl
+no_mark-shown g facts (fact.Commit f) none = refl
+no_mark-shown g facts (fact.Rows rows) none = refl
+no_mark-shown g facts (fact.Proposal v s rows) none = refl
+no_mark-shown g facts (fact.Plan v plan) none = refl
 
 pub stable-no_mark : (g : Group) (facts : List OrderFact) (x : OrderFact) → ((s m : ℕ) → mark_by s m x ≡ None) → stable g (facts ++ x ∷ []) ≡ stable g facts
-stable-no_mark g facts x none = stable-other g facts x (λ s. voted-other g (mark_by s) facts x (none s))
-
-greatest-limit : (p : ℕ → Bool) (most : ℕ) → greatest_to p most ≤ most
-unfolding greatest_to
-greatest-limit p zero = omega arith
-greatest-limit p (suc most) = by (p (suc most)) (greatest-limit p most)
-  where
-    by : (b : Bool) → greatest_to p most ≤ most → cond b (suc most) (greatest_to p most) ≤ suc most
-    by true le = omega arith
-    by false le = omega arith
-
-greatest-with : (p r : ℕ → Bool) (s most : ℕ) → ((t : ℕ) → nat_eq s t ≡ false → r t ≡ p t) → r s ≡ true → s ≤ most → greatest_to r most ≡ max (greatest_to p most) s
-unfolding greatest_to
-greatest-with p r s zero others pass le = let same : s ≡ 0 = omega arith in rw same refl
-greatest-with p r s (suc most) others pass le = by (cases_eq s (suc most)) (λ less. greatest-with p r s most others pass less)
-  where
-    low : (b : Bool) → cond b (suc most) (greatest_to p most) ≤ suc most
-    low true = omega arith
-    low false = let le : greatest_to p most ≤ most = greatest-limit p most in omega arith
-
-    step : (b : Bool) → s ≤ most → greatest_to r most ≡ max (greatest_to p most) s → cond b (suc most) (greatest_to r most) ≡ max (cond b (suc most) (greatest_to p most)) s
-    step true less e = omega arith
-    step false less e = e
-
-    by : (s ≡ suc most) ⊎ (s ≡ suc most → ⊥) → (s ≤ most → greatest_to r most ≡ max (greatest_to p most) s) → cond (r (suc most)) (suc most) (greatest_to r most) ≡ max (cond (p (suc most)) (suc most) (greatest_to p most)) s
-    by (inl e) more =
-        let here : r (suc most) ≡ true = ap r (sym e) ∙ pass in
-        let below : cond (p (suc most)) (suc most) (greatest_to p most) ≤ suc most = low (p (suc most)) in
-        let all : suc most ≡ max (cond (p (suc most)) (suc most) (greatest_to p most)) s = omega arith in
-        ap (λ b. cond b (suc most) (greatest_to r most)) here ∙ all
-    by (inr ne) more =
-        let less : s ≤ most = omega arith in
-        ap (λ b. cond b (suc most) (greatest_to r most)) (others (suc most) (ne_eqb s (suc most) ne)) ∙ step (p (suc most)) less (more less)
-
-greatest-beyond : (p r : ℕ → Bool) (s most : ℕ) → ((t : ℕ) → nat_eq s t ≡ false → r t ≡ p t) → most < s → greatest_to r most ≡ greatest_to p most
-unfolding greatest_to
-greatest-beyond p r s zero others above = refl
-greatest-beyond p r s (suc most) others above =
-    let ne : s ≡ suc most → ⊥ = λ e. omega arith in
-    (λ i. cond (others (suc most) (ne_eqb s (suc most) ne) i) (suc most) (greatest-beyond p r s most others (omega arith) i))
+stable-no_mark g facts x none =
+    stable-pushed g facts x (λ s. voted-other g (mark_by s) facts x (none s)) ∙ ap (λ o. max (stable g facts) (or_zero o)) (no_mark-shown g facts x none) ∙ max-none (stable g facts)
 
 marks-apart : (g : Group) (facts : List OrderFact) (x : Signed Mark) (s : ℕ) → nat_eq x.body.s s ≡ false → is_voted g (mark_by s) (facts ++ fact.Mark x ∷ []) ≡ is_voted g (mark_by s) facts
 marks-apart g facts x s e = voted-other g (mark_by s) facts (fact.Mark x) (λ m. ap (λ b. cond (nat_eq x.signer m && b) (Some x) None) e ∙ ap (λ b. cond b (Some x) None) (false-and (nat_eq x.signer m)))
 
 -- a mark raises the stable number where its number has a quorum now
 pub stable-mark : (g : Group) (n q : ℕ) (facts : List OrderFact) (x : Signed Mark) (new : Map (ℕ × ℕ) (List ℕ)) (count was raised : ℕ) → HasSizes g n q → HasMarks (facts ++ fact.Mark x ∷ []) new → count ≡ length (given (mark_at new x.body.s) n) → was ≡ stable g facts →
-    raised ≡ cond (nat_le q count && nat_le x.body.s 4096) (max was x.body.s) was → raised ≡ stable g (facts ++ fact.Mark x ∷ [])
-unfolding stable most_number
+    raised ≡ cond (nat_le q count) (max was x.body.s) was → raised ≡ stable g (facts ++ fact.Mark x ∷ [])
 stable-mark g n q facts x new count was raised sizes has count_is was_is is =
-    is ∙ (λ i. cond (has_is i && nat_le x.body.s 4096) (max (was_is i) x.body.s) (was_is i)) ∙ by (is_voted g (mark_by x.body.s) (facts ++ fact.Mark x ∷ [])) refl (cases_lt 4096 x.body.s)
+    is ∙ (λ i. cond (has_is i) (max (was_is i) x.body.s) (was_is i)) ∙ by (is_voted g (mark_by x.body.s) now) refl
   where
-    has_is : nat_le q count ≡ is_voted g (mark_by x.body.s) (facts ++ fact.Mark x ∷ [])
-    has_is = (λ i. nat_le (sym sizes.quorum i) (count_is i)) ∙ marks-quorum g n (facts ++ fact.Mark x ∷ []) new x.body.s sizes.masters has
+    now : List OrderFact
+    now = facts ++ fact.Mark x ∷ []
 
-    before : ℕ → Bool
-    before s = is_voted g (mark_by s) facts
+    has_is : nat_le q count ≡ is_voted g (mark_by x.body.s) now
+    has_is = (λ i. nat_le (sym sizes.quorum i) (count_is i)) ∙ marks-quorum g n now new x.body.s sizes.masters has
 
-    now : ℕ → Bool
-    now s = is_voted g (mark_by s) (facts ++ fact.Mark x ∷ [])
+    shown : ℕ → Bool → Option ℕ
+    shown s b = cond b (Some s) None
 
-    lost : is_voted g (mark_by x.body.s) (facts ++ fact.Mark x ∷ []) ≡ false → is_voted g (mark_by x.body.s) facts ≡ false
+    lost : is_voted g (mark_by x.body.s) now ≡ false → is_voted g (mark_by x.body.s) facts ≡ false
     lost e = on (is_voted g (mark_by x.body.s) facts) refl
       where
         on : (b : Bool) → is_voted g (mark_by x.body.s) facts ≡ b → b ≡ false
         on false h = refl
         on true h = absurd (true≢false (sym (voted-stays g (mark_by x.body.s) facts (fact.Mark x) h) ∙ e))
 
-    same : is_voted g (mark_by x.body.s) (facts ++ fact.Mark x ∷ []) ≡ false → (s : ℕ) → is_voted g (mark_by s) (facts ++ fact.Mark x ∷ []) ≡ is_voted g (mark_by s) facts
+    same : is_voted g (mark_by x.body.s) now ≡ false → (s : ℕ) → is_voted g (mark_by s) now ≡ is_voted g (mark_by s) facts
     same e s = on (nat_eq x.body.s s) refl
       where
-        on : (b : Bool) → nat_eq x.body.s s ≡ b → is_voted g (mark_by s) (facts ++ fact.Mark x ∷ []) ≡ is_voted g (mark_by s) facts
+        on : (b : Bool) → nat_eq x.body.s s ≡ b → is_voted g (mark_by s) now ≡ is_voted g (mark_by s) facts
         on false h = marks-apart g facts x s h
-        on true h = subst (λ (t : ℕ). is_voted g (mark_by t) (facts ++ fact.Mark x ∷ []) ≡ is_voted g (mark_by t) facts) (nat_eq-same x.body.s s h) (e ∙ sym (lost e))
+        on true h = subst (λ (t : ℕ). is_voted g (mark_by t) now ≡ is_voted g (mark_by t) facts) (nat_eq-same x.body.s s h) (e ∙ sym (lost e))
 
-    by : (b : Bool) → is_voted g (mark_by x.body.s) (facts ++ fact.Mark x ∷ []) ≡ b → (4096 < x.body.s) ⊎ (x.body.s ≤ 4096) →
-        cond (b && nat_le x.body.s 4096) (max (greatest_to (λ s. is_voted g (mark_by s) facts) 4096) x.body.s) (greatest_to (λ s. is_voted g (mark_by s) facts) 4096) ≡ greatest_to (λ s. is_voted g (mark_by s) (facts ++ fact.Mark x ∷ [])) 4096
-    by false e low = λ i. greatest_to (λ s. sym (same e s) i) 4096
-    by true e (inr low) = ap (λ b. cond b (max (greatest_to (λ s. is_voted g (mark_by s) facts) 4096) x.body.s) (greatest_to (λ s. is_voted g (mark_by s) facts) 4096)) (le-leb x.body.s 4096 low) ∙ sym (greatest-with (λ s. is_voted g (mark_by s) facts) (λ s. is_voted g (mark_by s) (facts ++ fact.Mark x ∷ [])) x.body.s 4096 (marks-apart g facts x) e low)
-    by true e (inl high) = ap (λ b. cond b (max (greatest_to (λ s. is_voted g (mark_by s) facts) 4096) x.body.s) (greatest_to (λ s. is_voted g (mark_by s) facts) 4096)) (lt-leb x.body.s 4096 high) ∙ sym (greatest-beyond (λ s. is_voted g (mark_by s) facts) (λ s. is_voted g (mark_by s) (facts ++ fact.Mark x ∷ [])) x.body.s 4096 (marks-apart g facts x) high)
+    marked : is_voted g (mark_by x.body.s) now ≡ true → (s : ℕ) (b : Bool) → nat_eq x.body.s s ≡ b →
+        (shown s (is_voted g (mark_by s) now) ≡ shown s (is_voted g (mark_by s) facts)) ⊎ ((shown s (is_voted g (mark_by s) facts) ≡ None) × (shown s (is_voted g (mark_by s) now) ≡ Some x.body.s))
+    marked e s false apart = inl (ap (shown s) (marks-apart g facts x s apart))
+    marked e s true own = on (is_voted g (mark_by s) facts) refl
+      where
+        here : shown s (is_voted g (mark_by s) now) ≡ Some s
+        here = ap (shown s) (ap (λ t. is_voted g (mark_by t) now) (sym (nat_eq-same x.body.s s own)) ∙ e)
+
+        on : (b : Bool) → is_voted g (mark_by s) facts ≡ b →
+            (shown s (is_voted g (mark_by s) now) ≡ shown s (is_voted g (mark_by s) facts)) ⊎ ((shown s (is_voted g (mark_by s) facts) ≡ None) × (shown s (is_voted g (mark_by s) now) ≡ Some x.body.s))
+        on true was = inl (here ∙ sym (ap (shown s) was))
+        on false was = inr (ap (shown s) was, here ∙ ap Some (sym (nat_eq-same x.body.s s own)))
+
+    more : is_voted g (mark_by x.body.s) now ≡ true → (f : OrderFact) → (number_marked g now f ≡ number_marked g facts f) ⊎ ((number_marked g facts f ≡ None) × (number_marked g now f ≡ Some x.body.s))
+    more e (fact.Mark f) = marked e f.body.s (nat_eq x.body.s f.body.s) refl
+    more e (fact.Prepare f) = inl refl
+    more e (fact.Commit f) = inl refl
+    more e (fact.Rows rows) = inl refl
+    more e (fact.Proposal v s rows) = inl refl
+    more e (fact.Plan v plan) = inl refl
+
+    by : (b : Bool) → is_voted g (mark_by x.body.s) now ≡ b → cond b (max (stable g facts) x.body.s) (stable g facts) ≡ stable g now
+    by true e = sym (
+        stable-is g now ∙ greatest-push (number_marked g now) facts (fact.Mark x)
+        ∙ ap (λ b. max (greatest_of (filter_map (number_marked g now) facts)) (or_zero (shown x.body.s b))) e
+        ∙ greatest-more (number_marked g facts) (number_marked g now) x.body.s (more e) facts ∙ ap (λ k. max k x.body.s) (sym (stable-is g facts)))
+    by false e = sym (stable-pushed g facts (fact.Mark x) (same e) ∙ ap (λ b. max (stable g facts) (or_zero (shown x.body.s b))) (lost e) ∙ max-none (stable g facts))
 
 -- what a map held, in other room, is there still, and takes one more
 pub taken-first : {K X : Type 0} (same : K → K → Bool) (old mid new : Map K X) (key : K) (x : X) → mid.entries ≡ old.entries → TakesFirst same mid new key x → TakesFirst same old new key x
@@ -472,11 +485,10 @@ fit-plan v plan offers new pending fit takes fits_all = record {
     by None true e = fit
     by None false e = refl
 
-pub raised-limit : (b : Bool) (was s : ℕ) → was ≤ most_number → cond (b && nat_le s 4096) (max was s) was ≤ most_number
+pub raised-limit : (b : Bool) (was s : ℕ) → was ≤ most_number → s ≤ most_number → cond b (max was s) was ≤ most_number
+raised-limit false was s le most = le
+raised-limit true was s le most = omega arith
+
+pub most_number-is : most_number ≡ 4096
 unfolding most_number
-raised-limit false was s le = le
-raised-limit true was s le = by (cases_lt 4096 s)
-  where
-    by : (4096 < s) ⊎ (s ≤ 4096) → cond (nat_le s 4096) (max was s) was ≤ 4096
-    by (inl high) = let e : nat_le s 4096 ≡ false = lt-leb s 4096 high in rw e le
-    by (inr low) = let e : nat_le s 4096 ≡ true = le-leb s 4096 low in rw e (omega arith)
+most_number-is = refl

@@ -1,16 +1,18 @@
 ghost use Rattle.std.specs.Prelude.{◌≡◌, ◌++◌, ◌≤◌, ℕ, List, Option, OnOk, IfOk, take, length};
-ghost use Rattle.std.specs.List.{filter_map};
+ghost use Rattle.std.specs.List.{filter_map, find};
 ghost use Rattle.std.specs.Option.{option_to_list, option_map};
 ghost use Rattle.message_types.specs.declared.ordering.Certificate.{Certificate as Cert};
 ghost use Rattle.protocol_rules.specs.declared.facts.OrderFact.{OrderFact as Fact};
 ghost use Rattle.protocol_rules.specs.Group.{Group};
 ghost use Rattle.protocol_rules.specs.Words.{last_below};
-ghost use Rattle.protocol_rules.specs.Order.{quorum_of, prepare_by, mark_by, certificate_of, least_prepared, last_certificate};
+ghost use Rattle.protocol_rules.specs.Order.{quorum_of, prepare_by, mark_by, certificate_of, certificate_at, least_prepared, last_certificate};
+ghost use Rattle.protocol_rules.specs.Facts.{rows_known};
+ghost use Rattle.global_order.specs.Choosing.{has_digest};
 ghost use Rattle.global_order.specs.Taken.{HasSizes};
-ghost use Rattle.global_order.specs.Index.{HasPrepares, HasMarks, HasChoices, vote_at, mark_at, prepare_of, mark_of};
+ghost use Rattle.global_order.specs.Index.{HasPrepares, HasMarks, HasRows, HasChoices, vote_at, mark_at, prepare_of, mark_of};
 
 use crate::choices::Choices;
-use crate::slots::least_digest;
+use crate::slots::{first_digest, least_digest};
 use crate::votes::{Marks, Votes};
 use message_types::{Certificate, Mark, Prepare, Signed};
 use plain_lists::{Copied, Items, Want};
@@ -120,6 +122,40 @@ fn certificate_in(
     let Some(digest) = least_digest(&choices.prepared, v, s) else {
         return Ok(None);
     };
+    certificate_with(alloc, choices, votes, sizes, v, s, digest)
+}
+
+/// The certificate for number `s` of view `v` that was complete first.
+pub fn first_certificate_of(
+    alloc: Global,
+    choices: &Choices,
+    votes: &Votes,
+    sizes: &Sizes,
+    v: u64,
+    s: u64,
+) -> Result<Option<Certificate>, Want>
+    ensures { IfOk result (λ answer. (g : Group) (facts : List Fact) → HasSizes g sizes.now.n sizes.now.q → HasPrepares facts votes.now → HasChoices g facts choices.now
+        → answer ≡ certificate_at g facts s v) }
+{
+    let Some(digest) = first_digest(&choices.prepared, v, s) else {
+        return Ok(None);
+    };
+    certificate_with(alloc, choices, votes, sizes, v, s, digest)
+}
+
+/// The certificate for number `s` of view `v` with this digest, where its rows are known.
+fn certificate_with(
+    alloc: Global,
+    choices: &Choices,
+    votes: &Votes,
+    sizes: &Sizes,
+    v: u64,
+    s: u64,
+    digest: [u8; 32],
+) -> Result<Option<Certificate>, Want>
+    ensures { IfOk result (λ answer. (g : Group) (facts : List Fact) → HasSizes g sizes.now.n sizes.now.q → HasPrepares facts votes.now → HasRows (rows_known facts) choices.now.rows
+        → answer ≡ option_map (certificate_of g facts s v) (find (has_digest digest) (rows_known facts))) }
+{
     let Some(rows) = choices.rows.get(&digest) else {
         return Ok(None);
     };

@@ -1,19 +1,19 @@
-ghost use Rattle.std.specs.Prelude.{◌≡◌, ◌++◌, ◌∷◌, ◌&&◌, List, [], IsTrue, OnOk, OnErr, IfOk, option_copied, nat_le, not, max, if◌then◌else◌};
+ghost use Rattle.std.specs.Prelude.{◌≡◌, ◌++◌, ◌∷◌, ◌&&◌, ◌≤◌, ◌<◌, List, [], IsTrue, OnOk, OnErr, IfOk, option_copied, nat_le, not, max, if◌then◌else◌};
 ghost use Rattle.std.specs.List.{list_all};
 ghost use Rattle.message_types.specs.Spelling.{rows_fit};
 ghost use Rattle.protocol_rules.specs.declared.facts.OrderFact.TheVariants as fact;
-ghost use Rattle.protocol_rules.specs.Group.{Group};
+ghost use Rattle.protocol_rules.specs.Group.{Group, most_number};
 ghost use Rattle.protocol_rules.specs.Master.{gap_of};
 ghost use Rattle.protocol_rules.specs.Order as rules;
 ghost use Rattle.global_order.specs.Giving.{given_order};
 ghost use Rattle.global_order.specs.Taken.{IsOrderOf, bodies_due};
 
-use crate::certificates::{last_certificate_of, marks_of, push_certificate};
+use crate::certificates::{first_certificate_of, last_certificate_of, marks_of, push_certificate};
 use crate::choices::{Choices, learn, learn_all, note_if_committed, note_if_prepared};
 use crate::due::{push_marks, push_pending_commits, push_pending_prepares};
 use crate::gifts::{Views, commits_of, note_view, view_of};
 use crate::offers::{Offers, note_plan, note_proposal, offered_in, plan_of_view};
-use crate::orders::{make_order, order_of, run_end};
+use crate::orders::{MOST_NUMBER, make_order, order_of, run_end};
 use crate::pending::{all_pending, pending_from, pending_in};
 use crate::said::{Said, note_said};
 use crate::slots::make_slot;
@@ -170,12 +170,16 @@ impl Order {
         Ok(())
     }
 
-    /// Takes a master's mark.
+    /// Takes a master's mark. One of a number that there isn't is passed over.
     pub fn take_mark(&mut self, frame: &Signed<Mark>) -> Result<(), Want>
-        ensures taken { OnOk result (self.new ≡ record self.old { facts = self.old.facts ++ fact.Mark frame.now ∷ [] }) }
+        ensures taken { OnOk result (frame.now.body.s ≤ most_number → self.new ≡ record self.old { facts = self.old.facts ++ fact.Mark frame.now ∷ [] }) }
+        ensures passed { OnOk result (most_number < frame.now.body.s → self.new ≡ self.old) }
         ensures refused { OnErr result (self.new ≡ self.old) }
     {
         let s = frame.body.s;
+        if s > MOST_NUMBER {
+            return Ok(());
+        }
         let own = frame.copy()?;
         self.facts.reserve(1)?;
         note_mark(&mut self.marks, (s, frame.signer), &frame.sig)?;
@@ -323,6 +327,30 @@ impl Order {
         marks_of(self.alloc, &self.marks, &self.sizes, self.stable)
     }
 
+    /// The marks that show a base: the first ones of the `q` lowest masters, and no mark for base 0. None exactly
+    /// where `base` isn't 0 and fewer than `q` masters' marks of it are known.
+    pub fn marks_of_base(&self, base: u64) -> Result<Option<Items<Signed<Mark>>>, Want>
+        ensures { IfOk result (λ marks. (g : Group) → IsOrderOf g self.now → marks ≡ rules.marks_at g self.now.facts base) }
+    {
+        if base == 0 {
+            return Ok(Some(Items::new(self.alloc)));
+        }
+        let count = count_marks(&self.marks, self.sizes.n, base);
+        if count < self.sizes.q {
+            return Ok(None);
+        }
+        let marks = marks_of(self.alloc, &self.marks, &self.sizes, base)?;
+        Ok(Some(Items::from_vec(self.alloc, marks)))
+    }
+
+    /// The certificate of view `v` for number `s` that was complete first, with the first prepares of the `q` lowest
+    /// masters. None exactly where no known rows have a quorum of prepares there.
+    pub fn certificate(&self, v: u64, s: u64) -> Result<Option<Certificate>, Want>
+        ensures { IfOk result (λ certificate. (g : Group) → IsOrderOf g self.now → certificate ≡ rules.certificate_at g self.now.facts s v) }
+    {
+        first_certificate_of(self.alloc, &self.choices, &self.prepares, &self.sizes, v, s)
+    }
+
     /// What a report of view `below` brings: for each of the 16 numbers after the stable one that has a known
     /// certificate of a view below this, that of the highest one. The certificate holds the first prepares of the
     /// `q` lowest masters; of several of one view it is that of the least digest.
@@ -368,13 +396,9 @@ fn reaches_quorum(sizes: &Sizes, before: u32, after: u32) -> bool
 
 /// The stable number once this number is marked by a quorum, or not.
 fn raised(stable: u64, s: u64, is_marked: bool) -> u64
-    ensures { result ≡ (if is_marked && nat_le s 4096 then max stable s else stable) }
+    ensures { result ≡ (if is_marked then max stable s else stable) }
 {
-    if is_marked && s <= 4096 {
-        stable.max(s)
-    } else {
-        stable
-    }
+    if is_marked { stable.max(s) } else { stable }
 }
 
 fn copy_all(alloc: Global, bodies: &Vec<Body>) -> Result<Vec<Body>, Want>

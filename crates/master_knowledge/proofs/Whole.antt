@@ -1,15 +1,18 @@
 -- What is in its place with all that is inside it.
 use Rattle.std.proofs.Common.{◌≡◌, ℕ, ◌≤◌, ◌<◌, Bool, true, ◌&&◌, List, [], ◌∷◌, ◌++◌, nat_eq, nat_le, nat_lt, length, zero, suc, take, get_or, refl, sym, ◌∙◌, ap, subst, inl, inr, arith}
-use Rattle.std.proofs.lemmas.Bool.{and_from, and_parts, ltb-true}
+use Rattle.std.proofs.lemmas.Bool.{and_from, and_parts, leb-true, ltb-true}
 use Rattle.std.specs.List.{list_all}
 use Rattle.message_types.specs.declared.signed.Signed.{Signed}
 use Rattle.message_types.specs.declared.updates.Update.{Update}
 use Rattle.message_types.specs.declared.preordering.PoSummary.{PoSummary}
+use Rattle.message_types.specs.declared.ordering.Mark.{Mark}
+use Rattle.message_types.specs.declared.measures.Suspect.{Suspect}
+use Rattle.message_types.specs.declared.views.NewView.{NewView}
 use Rattle.message_types.specs.declared.body.Body.{Body}
 use Rattle.message_types.specs.declared.body.Body.TheVariants as body
 use Rattle.message_types.specs.Parts.{parts, inside, as_frame}
-use Rattle.protocol_rules.specs.Group.{Group, most_number}
-use Rattle.protocol_rules.specs.Places.{in_place}
+use Rattle.protocol_rules.specs.Group.{Group, most_number, most_view}
+use Rattle.protocol_rules.specs.Places.{in_place, word_in_place}
 use Rattle.history_rules.specs.Audit.{IsIn, here, there}
 use Rattle.agreement.proofs.Lists.{in_cons_cases, all_at}
 use Rattle.agreement.proofs.Inside.{parts_closed}
@@ -46,6 +49,30 @@ client_there g s placed =
     let signed = and_parts _ _ own.0 in
     let small = and_parts _ _ signed.0 in
     ltb-true s.body.client g.clients small.0
+
+-- the numbers of a mark, a suspicion and a new view in their places are within their limits
+pub mark_low : (g : Group) (f : Signed Mark) → in_place g (as_frame body.Mark f) ≡ true → f.body.s ≤ most_number
+mark_low g f placed =
+    let word = (and_parts (nat_lt f.signer g.n) (word_in_place g f.signer (body.Mark f.body)) placed).1 in
+    leb-true f.body.s most_number (and_parts _ _ (and_parts _ _ word).0).1
+
+pub suspect_low : (g : Group) (f : Signed Suspect) → in_place g (as_frame body.Suspect f) ≡ true → f.body.v < most_view
+suspect_low g f placed = ltb-true f.body.v most_view (and_parts (nat_lt f.signer g.n) (nat_lt f.body.v most_view) placed).1
+
+pub new_view_low : (g : Group) (f : Signed NewView) → in_place g (as_frame body.NewView f) ≡ true → f.body.v ≤ most_view
+new_view_low g f placed =
+    let word = (and_parts (nat_lt f.signer g.n) (word_in_place g f.signer (body.NewView f.body)) placed).1 in
+    leb-true f.body.v most_view (and_parts _ _ (and_parts _ _ (and_parts _ _ (and_parts _ _ word).0).0).0).1
+
+-- so are those of one that is whole
+pub mark_within : (g : Group) (f : Signed Mark) → is_whole g (as_frame body.Mark f) ≡ true → f.body.s ≤ most_number
+mark_within g f whole = mark_low g f (first_in_place g (as_frame body.Mark f) whole)
+
+pub suspect_within : (g : Group) (f : Signed Suspect) → is_whole g (as_frame body.Suspect f) ≡ true → f.body.v < most_view
+suspect_within g f whole = suspect_low g f (first_in_place g (as_frame body.Suspect f) whole)
+
+pub new_view_within : (g : Group) (f : Signed NewView) → is_whole g (as_frame body.NewView f) ≡ true → f.body.v ≤ most_view
+new_view_within g f whole = new_view_low g f (first_in_place g (as_frame body.NewView f) whole)
 
 -- a summary's place goes by the number of masters alone
 pub summary_placed : (g h : Group) (signer : ℕ) (word : PoSummary) (sig : List ℕ) → g.n ≡ h.n → in_place g record { signer = signer; body = body.PoSummary word; sig = sig } ≡ true

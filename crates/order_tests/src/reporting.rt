@@ -29,6 +29,15 @@ fn votes_reported(alloc: Global, order: &Order, s: u64) -> Result<Vec<(u32, u8)>
     }
 }
 
+/// The votes in the certificate of view 0 for number `s` that was complete first, if there is one.
+fn votes_certified(alloc: Global, order: &Order, s: u64) -> Result<Option<Vec<(u32, u8)>>, Want> {
+    let certificate = order.certificate(0, s)?;
+    match certificate {
+        Some(one) => Ok(Some(votes_in(alloc, one.prepares.as_slice())?)),
+        None => Ok(None),
+    }
+}
+
 fn votes_prepared(alloc: Global, order: &mut Order, s: u64) -> Result<Vec<(u32, u8)>, Want> {
     prepare(alloc, order, s)?;
     votes_reported(alloc, order, s)
@@ -39,9 +48,17 @@ fn a_report_brings_what_is_prepared_in_the_window(rt: HostRuntime) -> Result<(),
     let mut order = order_of_four(rt.alloc())?;
     let beyond = votes_prepared(rt.alloc(), &mut order, 17);
     let within = votes_prepared(rt.alloc(), &mut order, 16);
+    let certified = votes_certified(rt.alloc(), &order, 17);
+    let other = votes_certified(rt.alloc(), &order, 18);
     let_go(order);
     assert_eq!(rt; beyond?.len(), 0);
     assert_eq!(rt; within?.as_slice(), [(0, 10), (1, 11), (2, 12)].as_slice());
+    let certified = certified?.ok_or("no certificate")?;
+    assert_eq!(rt;
+        certified.as_slice(),
+        [(0, 10), (1, 11), (2, 12)].as_slice()
+    );
+    assert!(rt; other?.is_none());
     Ok(())
 }
 
@@ -56,17 +73,31 @@ fn votes_marked(
     votes_in(alloc, &marks)
 }
 
+/// The votes that show number 8 as a base, if a quorum's are known.
+fn votes_of_base(alloc: Global, order: &Order) -> Result<Option<Vec<(u32, u8)>>, Want> {
+    let marks = order.marks_of_base(8)?;
+    match marks {
+        Some(marks) => Ok(Some(votes_in(alloc, marks.as_slice())?)),
+        None => Ok(None),
+    }
+}
+
 #[test]
 fn marks_of_a_quorum_make_a_number_stable(rt: HostRuntime) -> Result<(), Fail> {
     let mut order = order_of_four(rt.alloc())?;
     let by_two = votes_marked(rt.alloc(), &mut order, &[(3, 13), (1, 11), (1, 21)]);
     let before = order.stable();
+    let early = votes_of_base(rt.alloc(), &order);
     let by_four = votes_marked(rt.alloc(), &mut order, &[(2, 12), (0, 10)]);
     let after = order.stable();
+    let shown = votes_of_base(rt.alloc(), &order);
     let_go(order);
     assert_eq!(rt; (before, after), (0, 8));
     assert_eq!(rt; by_two?.len(), 0);
     assert_eq!(rt; by_four?.as_slice(), [(0, 10), (1, 11), (2, 12)].as_slice());
+    assert!(rt; early?.is_none());
+    let shown = shown?.ok_or("no quorum")?;
+    assert_eq!(rt; shown.as_slice(), [(0, 10), (1, 11), (2, 12)].as_slice());
     Ok(())
 }
 

@@ -7,8 +7,8 @@ use Rattle.message_types.specs.declared.preordering.PoSummary.{PoSummary}
 use Rattle.message_types.specs.declared.body.Body.{Body}
 use Rattle.message_types.specs.declared.body.Body.TheVariants as body
 use Rattle.quorum_sets.specs.Masters.{numbers_below}
-use Rattle.protocol_rules.specs.Words.{best_by, greatest_to}
-use Rattle.protocol_rules.specs.Group.{Group, most_number}
+use Rattle.protocol_rules.specs.Words.{best_by, greatest_of}
+use Rattle.protocol_rules.specs.Group.{Group}
 
 -- the frame is a summary of master j
 abbrev pub summary_of : ℕ → Signed Body → Option (Signed PoSummary)
@@ -37,9 +37,9 @@ rows_of_frames g frames = map (λ j. elim (find (λ f. nat_eq f.signer j) frames
 abbrev pub column : List (List ℕ) → ℕ → List ℕ
 column rows j = map (λ row. slice_index row j) rows
 
--- the q-th greatest of the rows' j-th numbers: the greatest number that q rows reach
+-- the q-th greatest of the rows' j-th numbers: the greatest of them that q rows reach, 0 where there is none
 unfoldable pub eligible : Group → List (List ℕ) → ℕ → ℕ
-eligible g rows j = greatest_to (λ x. nat_le g.q (length (filter (λ y. nat_le x y) (column rows j)))) most_number
+eligible g rows j = greatest_of (filter (λ x. nat_le g.q (length (filter (λ y. nat_le x y) (column rows j)))) (column rows j))
 
 -- over several rows each place takes the greatest, so that it never falls
 abbrev pub reach : Group → List (List (List ℕ)) → ℕ → ℕ

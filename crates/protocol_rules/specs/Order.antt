@@ -1,6 +1,6 @@
 -- The global order, after Prime and PBFT: prepares of a quorum make a certificate, commits of a quorum order a number,
 -- marks of a quorum make a number stable. All over the facts that the known words tell, in their order.
-use Rattle.std.specs.Prelude.{ℕ, ◌+◌, ◌-◌, ◌%◌, Bool, false, ◌&&◌, not, List, [], ◌∷◌, Option, Some, None, length, filter, take, nat_eq, nat_le, if◌then◌else◌, slice_get}
+use Rattle.std.specs.Prelude.{ℕ, ◌+◌, ◌-◌, ◌%◌, Bool, false, ◌&&◌, ◌||◌, not, List, [], ◌∷◌, Option, Some, None, length, filter, take, nat_eq, nat_le, if◌then◌else◌, slice_get}
 use Rattle.std.specs.List.{list_any, find, filter_map, flat_map}
 use Rattle.std.specs.Option.{option_map}
 use Rattle.std.specs.Str.{bytes_eq}
@@ -16,7 +16,7 @@ use Rattle.message_types.specs.Digests.{digest_of_rows}
 use Rattle.quorum_sets.specs.Masters.{numbers_below}
 use Rattle.protocol_rules.specs.declared.facts.OrderFact.{OrderFact}
 use Rattle.protocol_rules.specs.declared.facts.OrderFact.TheVariants as fact
-use Rattle.protocol_rules.specs.Words.{first_met, greatest_to, run_from, numbers_from, last_below, best_by, first_of_list}
+use Rattle.protocol_rules.specs.Words.{first_met, greatest_of, run_from, numbers_from, last_below, best_by, first_of_list}
 use Rattle.protocol_rules.specs.Group.{Group, most_number, window, mark_step}
 use Rattle.protocol_rules.specs.Facts.{rows_known}
 use Rattle.protocol_rules.specs.Plans.{digest_below, first_plan}
@@ -71,13 +71,22 @@ ordered_run g facts = run_from (ordered g facts) 1 most_number
 abbrev pub gapless : Group → List OrderFact → ℕ
 gapless g facts = length (ordered_run g facts)
 
--- the greatest number for which a quorum of marks is known
+-- the number that a known mark shows, where a quorum's marks do
+abbrev pub number_marked : Group → List OrderFact → OrderFact → Option ℕ
+number_marked g facts (fact.Mark f) = if is_voted g (mark_by f.body.s) facts then Some f.body.s else None
+number_marked g facts _ = None
+
+-- the greatest number for which a quorum of marks is known, 0 where there is none
 unfoldable pub stable : Group → List OrderFact → ℕ
-stable g facts = greatest_to (λ s. is_voted g (mark_by s) facts) most_number
+stable g facts = greatest_of (filter_map (number_marked g facts) facts)
 
 -- the marks that show a base: those of the q lowest masters, none for 0
 abbrev pub marks_for : Group → List OrderFact → ℕ → List (Signed Mark)
 marks_for g facts s = if nat_eq s 0 then [] else quorum_of g (mark_by s) facts
+
+-- the marks that show a base, where it is 0 or a quorum's marks of it are known
+abbrev pub marks_at : Group → List OrderFact → ℕ → Option (List (Signed Mark))
+marks_at g facts s = if nat_eq s 0 || is_voted g (mark_by s) facts then Some (marks_for g facts s) else None
 
 -- among the rows with a quorum of prepares for (v, s) those of the least digest, the first known among equals
 abbrev pub least_prepared : Group → List OrderFact → ℕ → ℕ → Option (List (List ℕ))
@@ -85,6 +94,10 @@ least_prepared g facts v s = best_by (λ a b. digest_below (digest_of_rows a) (d
 
 abbrev pub certificate_of : Group → List OrderFact → ℕ → ℕ → List (List ℕ) → Certificate
 certificate_of g facts s v rows = record { s = s; v = v; rows = rows; prepares = quorum_of g (prepare_by v s (digest_of_rows rows)) facts }
+
+-- the known certificate for (v, s) that was complete first
+abbrev pub certificate_at : Group → List OrderFact → ℕ → ℕ → Option Certificate
+certificate_at g facts s v = option_map (certificate_of g facts s v) (prepared g facts v s)
 
 -- the known certificate for s of the highest view below v
 unfoldable pub last_certificate : Group → List OrderFact → ℕ → ℕ → Option Certificate

@@ -1,5 +1,5 @@
 -- Views, after Prime's suspicion votes and PBFT's view change, over the words known in their order.
-use Rattle.std.specs.Prelude.{ℕ, ◌-◌, Bool, false, ◌&&◌, ◌||◌, not, List, [], ◌∷◌, Option, Some, None, length, take, nat_eq, nat_le, if◌then◌else◌}
+use Rattle.std.specs.Prelude.{ℕ, ◌+◌, ◌-◌, Bool, false, ◌&&◌, ◌||◌, not, List, [], ◌∷◌, Option, Some, None, length, take, nat_eq, nat_le, if◌then◌else◌}
 use Rattle.std.specs.List.{list_any, filter_map}
 use Rattle.std.specs.Option.{is_some}
 use Rattle.message_types.specs.declared.signed.Signed.{Signed}
@@ -11,8 +11,8 @@ use Rattle.message_types.specs.declared.body.Body.{Body}
 use Rattle.message_types.specs.declared.body.Body.TheVariants as body
 use Rattle.quorum_sets.specs.Masters.{numbers_below}
 use Rattle.quorum_sets.specs.Quorum.{has_quorum}
-use Rattle.protocol_rules.specs.Words.{greatest_to, first_of_list}
-use Rattle.protocol_rules.specs.Group.{Group, most_view, leader_of}
+use Rattle.protocol_rules.specs.Words.{greatest_of, first_of_list}
+use Rattle.protocol_rules.specs.Group.{Group, leader_of}
 
 -- the frame is the master's vote against the leader of view v
 abbrev pub is_suspect : ℕ → ℕ → Signed Body → Bool
@@ -31,9 +31,17 @@ new_view_in v f = elim f.body [
 abbrev pub is_opened : List (Signed Body) → ℕ → Bool
 is_opened known v = list_any (λ f. is_some (new_view_in v f)) known
 
--- The present view: the greatest whose predecessor a quorum suspects or that a known new view opens, else 0.
+-- the view that a known frame shows: a suspect of v shows v + 1 where a quorum suspects v, a new view its own
+abbrev pub view_shown : Group → List (Signed Body) → Signed Body → Option ℕ
+view_shown g known f = elim f.body [
+  | body.Suspect b ↦ if is_suspected g known b.v then Some (b.v + 1) else None
+  | body.NewView b ↦ Some b.v
+  | _ ↦ None
+]
+
+-- The present view: the greatest that is shown, else 0.
 unfoldable pub view : Group → List (Signed Body) → ℕ
-view g known = greatest_to (λ v. is_suspected g known (v - 1) || is_opened known v) most_view
+view g known = greatest_of (filter_map (view_shown g known) known)
 
 unfoldable pub is_open : Group → List (Signed Body) → Bool
 is_open g known = nat_eq (view g known) 0 || is_opened known (view g known)

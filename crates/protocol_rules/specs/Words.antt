@@ -12,11 +12,6 @@ unfoldable pub first_met : {F X : Type 0} → (List F → Option X) → List F �
 first_met met seen [] = met seen
 first_met met seen (x ∷ rest) = or_else (met seen) (first_met met (seen ++ x ∷ []) rest)
 
--- the greatest number up to `most` that passes, 0 where none does
-unfoldable pub greatest_to : (ℕ → Bool) → ℕ → ℕ
-greatest_to passes zero = 0
-greatest_to passes (suc most) = if passes (suc most) then suc most else greatest_to passes most
-
 -- what `f` gives of start, start + 1, .. up to the first number of which it gives nothing, at most `most` values
 unfoldable pub run_from : {X : Type 0} → (ℕ → Option X) → ℕ → ℕ → List X
 run_from f start zero = []

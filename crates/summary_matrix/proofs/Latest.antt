@@ -12,13 +12,13 @@ use Rattle.message_types.specs.declared.body.Body.{Body}
 use Rattle.message_types.specs.declared.body.Body.TheVariants as body
 use Rattle.message_types.specs.Parts.{as_frame}
 use Rattle.quorum_sets.specs.Masters.{numbers_below}
-use Rattle.protocol_rules.specs.Words.{best_from, best_by, greatest_to}
+use Rattle.protocol_rules.specs.Words.{best_from, best_by}
 use Rattle.protocol_rules.specs.Group.{Group, most_number}
 use Rattle.protocol_rules.specs.Places.{in_place}
 use Rattle.protocol_rules.specs.Matrix.{latest, latest_frames, summary_of, tells_more, exceeds, eligible, column, reach}
 use Rattle.protocol_rules.specs.Master.{latest_rows}
 use Rattle.summary_matrix.specs.Held.{Summaries, IsMatrixOf, TellsEach, held, takes_over, row_of, rows_at, frames_at, is_summary, proposal_of}
-use Rattle.summary_matrix.proofs.Halving.{most_number-is, reaches}
+use Rattle.summary_matrix.proofs.Greatest.{most_number-is, reached}
 use Rattle.summary_matrix.proofs.Loops.{map_below, filter_map_below, any_below}
 
 -- one value more beats the best before, or doesn't
@@ -174,7 +174,7 @@ takes_over-read m latest f r e within = ap (takes_over f) (ap (λ xs. get_or xs 
 
 pub eligible-known : (g : Group) (m : Summaries) (known : List (Signed Body)) (j : ℕ) → IsMatrixOf g m known → eligible m.group (rows_at m.group.n m.latest) j ≡ eligible g (latest_rows g known) j
 unfolding eligible
-eligible-known g m known j is = ap (λ q. greatest_to (reaches q (column (rows_at m.group.n m.latest) j)) most_number) is.quorum ∙ ap (λ rows. greatest_to (reaches g.q (column rows j)) most_number) (rows-known g m known is)
+eligible-known g m known j is = ap (λ q. reached q (column (rows_at m.group.n m.latest) j) (column (rows_at m.group.n m.latest) j)) is.quorum ∙ ap (λ rows. reached g.q (column rows j) (column rows j)) (rows-known g m known is)
 
 -- asking whether numbers exceed others, where they tell what is eligible
 pub exceeds-known : (g : Group) (rows : List (List ℕ)) (numbers : List ℕ) (offered : ℕ → ℕ) → g.n ≤ 14 → TellsEach numbers (eligible g rows) → list_any (λ j. nat_lt (offered j) (get_or numbers j 0)) (numbers_below g.n) ≡ exceeds g rows offered

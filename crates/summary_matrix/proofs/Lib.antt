@@ -1,3 +1,3 @@
-pub mod Halving
+pub mod Greatest
 pub mod Loops
 pub mod Latest

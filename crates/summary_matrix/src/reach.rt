@@ -1,10 +1,10 @@
 ghost use Rattle.std.specs.Prelude.{◌≡◌, ◌+◌, ◌<◌, ◌≤◌, ◌^◌, ℕ, length, take, filter, max, nat_le, nat_lt, slice_index, sum};
 ghost use Rattle.std.specs.List.{list_any};
 ghost use Rattle.quorum_sets.specs.Masters.{numbers_below};
-ghost use Rattle.protocol_rules.specs.Group.{group_of, most_number};
+ghost use Rattle.protocol_rules.specs.Group.{group_of};
 ghost use Rattle.protocol_rules.specs.Matrix.{column};
 ghost use Rattle.protocol_rules.specs.Matrix as rules;
-ghost use Rattle.protocol_rules.specs.Words.{greatest_to};
+ghost use Rattle.protocol_rules.specs.Words.{greatest_of};
 ghost use Rattle.summary_matrix.specs.Held.{TellsEach};
 
 use message_types::Rows;
@@ -97,21 +97,17 @@ pub fn number_at(row: &Vector, place: usize) -> u64
     }
 }
 
-/// The greatest number, of those that a request may have, that `q` of the numbers reach. It halves the range.
+/// The greatest of the numbers that `q` of them reach, 0 where there is none.
 pub fn greatest_reached(numbers: &[u64], q: u32) -> u64
-    ensures { result ≡ greatest_to (λ x. nat_le q (length (filter (λ y. nat_le x y) numbers.now))) most_number }
+    ensures { result ≡ greatest_of (filter (λ x. nat_le q (length (filter (λ y. nat_le x y) numbers.now))) numbers.now) }
 {
-    let mut low = 0;
-    let mut high = MOST_NUMBER;
-    while low < high {
-        let middle = low + (high - low + 1) / 2;
-        if how_many_reach(numbers, middle) >= q as usize {
-            low = middle;
-        } else {
-            high = middle - 1;
+    let mut greatest = 0;
+    for number in numbers {
+        if *number > greatest && how_many_reach(numbers, *number) >= q as usize {
+            greatest = *number;
         }
     }
-    low
+    greatest
 }
 
 fn how_many_reach(numbers: &[u64], least: u64) -> usize

@@ -89,6 +89,13 @@ impl Measure {
         }
     }
 
+    /// How many ticks it was told of.
+    pub fn ticks(&self) -> u64
+        ensures { result ≡ self.now.ticks }
+    {
+        self.ticks
+    }
+
     /// Is told of a tick: the view at it, and whether the master then waits for the leader. It takes no memory.
     pub fn tick(&mut self, view: u64, waits: bool) -> Result<(), Want>
         requires { self.old.ticks < 2 ^ 32 }

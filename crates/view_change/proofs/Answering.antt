@@ -18,15 +18,15 @@ use Rattle.quorum_sets.specs.Masters.{has_master, numbers_below}
 use Rattle.quorum_sets.specs.Quorum.{has_quorum}
 use Rattle.protocol_rules.specs.declared.facts.OrderFact.{OrderFact}
 use Rattle.protocol_rules.specs.declared.facts.OrderFact.TheVariants as fact
-use Rattle.protocol_rules.specs.Words.{first_of_list, greatest_to}
+use Rattle.protocol_rules.specs.Words.{first_of_list}
 use Rattle.protocol_rules.specs.Group.{Group, most_view, leader_of}
 use Rattle.protocol_rules.specs.Plans.{first_plan, plan_of}
 use Rattle.protocol_rules.specs.Facts.{tells, facts_of}
 use Rattle.protocol_rules.specs.Order.{plan_in, plan_known}
 use Rattle.protocol_rules.specs.Views.{view, is_open, is_suspect, is_suspected, is_opened, report_by, new_view_in, first_reports, reports_said, new_views_said, report_due, new_view_due}
 use Rattle.view_change.specs.Kept.{Kept, AreViewsOf, at_view, at_place, suspects_of, first_report, first_new_view, plan_in_new_view, present_reports, is_report_owed, is_new_view_owed}
-use Rattle.view_change.proofs.Reached.{greatest_to-le, quorum-same, quorum-none}
-use Rattle.view_change.proofs.Known.{most_view-is, opened-is, view-is, reached}
+use Rattle.view_change.proofs.Reached.{quorum-same, quorum-none}
+use Rattle.view_change.proofs.Known.{most_view-is, opened-is}
 
 -- the plan facts that the words tell are those of the new views
 rows_tell : (v : ℕ) (certificates : List Certificate) → filter_map (plan_in v) (map (λ c. fact.Rows c.rows) certificates) ≡ []
@@ -93,18 +93,11 @@ later-open g me kept known said v e later is =
 abbrev pub report_is_due : Group → List (Signed Body) → List Body → ℕ → Bool
 report_is_due g known said v = nat_le 1 v && is_suspected g known (v - 1) && not (list_any (reports_said v) said)
 
-pub view-le : (g : Group) (known : List (Signed Body)) → view g known ≤ 255
-view-le g known =
-    let top : most_view ≡ 255 = most_view-is in
-    let is : view g known ≡ greatest_to (reached g known) most_view = view-is g known in
-    let low : greatest_to (reached g known) most_view ≤ most_view = greatest_to-le (reached g known) most_view in
-    omega arith
-
 pub report_owed-is : (g : Group) (me : ℕ) (kept : Kept) (known : List (Signed Body)) (said : List Body) → AreViewsOf g me kept known said → is_report_owed kept ≡ report_is_due g known said (view g known)
 report_owed-is g me kept known said is = at (nat_le 1 kept.view) refl ∙ ap (report_is_due g known said) is.view
   where
     low : kept.view ≤ 255
-    low = let e : kept.view ≡ view g known = is.view in let le : view g known ≤ 255 = view-le g known in omega arith
+    low = let le : kept.view ≤ most_view = is.limit in let top : most_view ≡ 255 = most_view-is in omega arith
 
     at : (b : Bool) → nat_le 1 kept.view ≡ b → is_report_owed kept ≡ report_is_due g known said kept.view
     at false e = ap (λ b. b && has_quorum kept.group.n kept.group.q (has_master (suspects_of kept (kept.view - 1))) && not (slice_index_or kept.reported kept.view false)) e
@@ -173,7 +166,7 @@ new_view_owed-is g me kept known said is =
     ∙ ap (λ v. nat_le 1 v && nat_eq me (v % g.n) && nat_le g.q (length (first_reports g known (view g known))) && not (list_any (new_views_said v) said)) is.view
   where
     low : kept.view ≤ most_view
-    low = let e : kept.view ≡ view g known = is.view in let le : view g known ≤ 255 = view-le g known in let top : most_view ≡ 255 = most_view-is in omega arith
+    low = is.limit
 
 abbrev pub new_view_with : ℕ → List (Signed Report) → Body
 new_view_with v reports = body.NewView record { v = v; reports = reports }

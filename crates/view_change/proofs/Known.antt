@@ -1,8 +1,8 @@
 -- What a word known changes.
-use Rattle.std.proofs.Common.{◌≡◌, ℕ, ◌+◌, ◌-◌, ◌<◌, ◌≤◌, Bool, true, false, ◌||◌, ◌&&◌, List, [], ◌∷◌, ◌++◌, Option, Some, None, max, nat_eq, nat_le, refl, sym, ◌∙◌, ap, inl, inr, ◌⊎◌, arith, if◌then◌else◌, unwrap_or, slice_index_or}
+use Rattle.std.proofs.Common.{◌≡◌, ℕ, ◌+◌, ◌-◌, ◌<◌, ◌≤◌, Bool, true, false, ◌||◌, ◌&&◌, List, [], ◌∷◌, ◌++◌, Option, Some, None, max, nat_eq, refl, sym, ◌∙◌, ap, inl, inr, ◌⊎◌, arith, if◌then◌else◌, unwrap_or, slice_index_or}
 use Rattle.std.specs.List.{list_any, filter_map}
 use Rattle.std.specs.Option.{option_map, is_some}
-use Rattle.std.proofs.lemmas.Bool.{cases_eq, eq-eqb, ne_eqb, eqb-true, leb-true, leb-false, and_parts}
+use Rattle.std.proofs.lemmas.Bool.{cases_eq, eq-eqb, ne_eqb, eqb-true, and_parts}
 use Rattle.std.proofs.lemmas.List.Elements.{filter_map-append}
 use Rattle.std.proofs.lemmas.List.Folds.{list_any-append}
 use Rattle.message_types.specs.declared.signed.Signed.{Signed}
@@ -14,11 +14,12 @@ use Rattle.message_types.specs.declared.body.Body.TheVariants as body
 use Rattle.message_types.specs.Parts.{as_frame}
 use Rattle.quorum_sets.specs.Masters.{has_master, with_master}
 use Rattle.quorum_sets.specs.Quorum.{has_quorum}
-use Rattle.protocol_rules.specs.Words.{first_of_list, greatest_to, or_else}
+use Rattle.protocol_rules.specs.Words.{first_of_list, greatest_of, or_else}
 use Rattle.protocol_rules.specs.Group.{Group, most_view}
-use Rattle.protocol_rules.specs.Views.{view, is_suspect, is_suspected, is_opened, report_by, new_view_in}
+use Rattle.protocol_rules.specs.Views.{view, view_shown, is_suspect, is_suspected, is_opened, report_by, new_view_in}
+use Rattle.protocol_rules.proofs.Greatest.{or_zero, greatest-push, greatest-more, greatest-covers, greatest-same}
 use Rattle.view_change.specs.Kept.{Kept, AreViewsOf, at_view, at_place, suspects_of, first_report, first_new_view, plan_in_new_view}
-use Rattle.view_change.proofs.Reached.{greatest_to-same, greatest_to-raised, quorum-same, quorum-fewer, has_with_master}
+use Rattle.view_change.proofs.Reached.{quorum-same, quorum-fewer, quorum-none, has_with_master}
 
 pub most_view-is : most_view ≡ 255
 unfolding most_view
@@ -62,48 +63,123 @@ pub opened-is : (known : List (Signed Body)) (v : ℕ) → is_opened known v ≡
 unfolding first_new_view
 opened-is known v = some_first (new_view_in v) known
 
--- whether a view is reached
-abbrev pub reached : Group → List (Signed Body) → ℕ → Bool
-reached g known v = is_suspected g known (v - 1) || is_opened known v
-
-pub view-is : (g : Group) (known : List (Signed Body)) → view g known ≡ greatest_to (reached g known) most_view
+pub view-is : (g : Group) (known : List (Signed Body)) → view g known ≡ greatest_of (filter_map (view_shown g known) known)
 unfolding view
 view-is g known = refl
 
--- a word that is no vote of the group for a view that another follows
+-- a frame shows the same view where the same views' leaders are suspected
+shown-same : (g : Group) (known more : List (Signed Body)) → ((v : ℕ) → is_suspected g known v ≡ is_suspected g more v) → (f : Signed Body) → view_shown g more f ≡ view_shown g known f
+shown-same g known more same f = at f.body refl
+  where
+    at : (b : Body) → f.body ≡ b → view_shown g more f ≡ view_shown g known f
+    at (body.Suspect b) e = rw e (ap (λ s. if s then Some (b.v + 1) else None) (sym (same b.v)))
+    at _ e = rw e refl
+
+pub view-same : (g : Group) (known more words : List (Signed Body)) → ((v : ℕ) → is_suspected g known v ≡ is_suspected g more v)
+    → greatest_of (filter_map (view_shown g more) words) ≡ greatest_of (filter_map (view_shown g known) words)
+view-same g known more words same = greatest-same (view_shown g known) (view_shown g more) (shown-same g known more same) words
+
+-- the view with one word more, by which no more leaders are suspected
+view-pushed : (g : Group) (known : List (Signed Body)) (f : Signed Body) → ((v : ℕ) → is_suspected g known v ≡ is_suspected g (known ++ f ∷ []) v) → view g (known ++ f ∷ []) ≡ max (view g known) (or_zero (view_shown g known f))
+view-pushed g known f same =
+    view-is g (known ++ f ∷ []) ∙ view-same g known (known ++ f ∷ []) (known ++ f ∷ []) same ∙ greatest-push (view_shown g known) known f
+    ∙ ap (λ k. max k (or_zero (view_shown g known f))) (sym (view-is g known))
+
+-- an open view is shown
+pub opened-shown : (g : Group) (known : List (Signed Body)) (v : ℕ) → is_opened known v ≡ true → v ≤ view g known
+opened-shown g known v is_open =
+    let covered : v ≤ greatest_of (filter_map (view_shown g known) known) = greatest-covers (view_shown g known) (λ f. is_some (new_view_in v f)) v given known is_open in
+    let is : view g known ≡ greatest_of (filter_map (view_shown g known) known) = view-is g known in
+    omega arith
+  where
+    there : (w : ℕ) (x : Signed NewView) (b : Bool) → nat_eq w v ≡ b → is_some (if b then Some x else None) ≡ true → Some w ≡ Some v
+    there w x true e some = ap Some (eqb-true w v e)
+    there w x false e some = absurd (let h : false ≡ true = some in cc)
+
+    given : (f : Signed Body) → is_some (new_view_in v f) ≡ true → view_shown g known f ≡ Some v
+    given f = at f.body refl
+      where
+        at : (b : Body) → f.body ≡ b → is_some (new_view_in v f) ≡ true → view_shown g known f ≡ Some v
+        at (body.NewView b) e = rw e (λ some. there b.v record { signer = f.signer; body = b; sig = f.sig } (nat_eq b.v v) refl some)
+        at _ e = rw e (λ some. absurd (let h : false ≡ true = some in cc))
+
+-- the frame is somebody's vote against the leader of view v
+abbrev suspects : ℕ → Signed Body → Bool
+suspects v f = elim f.body [ body.Suspect b ↦ nat_eq b.v v | _ ↦ false ]
+
+no_vote_of : (v j : ℕ) (known : List (Signed Body)) → list_any (suspects v) known ≡ false → list_any (is_suspect v j) known ≡ false
+no_vote_of v j [] none = refl
+no_vote_of v j (f ∷ rest) none = by (suspects v f) refl none (no_vote_of v j rest)
+  where
+    other : (a b : Bool) → b ≡ false → (a && b) ≡ false
+    other true b e = e
+    other false b e = refl
+
+    here : suspects v f ≡ false → is_suspect v j f ≡ false
+    here = at f.body refl
+      where
+        at : (b : Body) → f.body ≡ b → suspects v f ≡ false → is_suspect v j f ≡ false
+        at (body.Suspect b) e = rw e (other (nat_eq f.signer j) (nat_eq b.v v))
+        at _ e = rw e (λ h. refl)
+
+    by : (b : Bool) → suspects v f ≡ b → (b || list_any (suspects v) rest) ≡ false → (list_any (suspects v) rest ≡ false → list_any (is_suspect v j) rest ≡ false) → list_any (is_suspect v j) (f ∷ rest) ≡ false
+    by true e h less = absurd (let no : true ≡ false = h in cc)
+    by false e h less = ap (λ b. b || list_any (is_suspect v j) rest) (here e) ∙ less h
+
+-- where a quorum suspects a view's leader, the view after it is shown
+pub suspected-shown : (g : Group) (known : List (Signed Body)) (v : ℕ) → 1 ≤ g.q → is_suspected g known v ≡ true → v + 1 ≤ view g known
+suspected-shown g known v some enough = by (list_any (suspects v) known) refl
+  where
+    there : (w : ℕ) (b : Bool) → nat_eq w v ≡ b → b ≡ true → (if is_suspected g known w then Some (w + 1) else None) ≡ Some (v + 1)
+    there w true e is = ap (λ u. if is_suspected g known u then Some (u + 1) else None) (eqb-true w v e) ∙ ap (λ s. if s then Some (v + 1) else None) enough
+    there w false e is = absurd (let h : false ≡ true = is in cc)
+
+    given : (f : Signed Body) → suspects v f ≡ true → view_shown g known f ≡ Some (v + 1)
+    given f = at f.body refl
+      where
+        at : (b : Body) → f.body ≡ b → suspects v f ≡ true → view_shown g known f ≡ Some (v + 1)
+        at (body.Suspect b) e = rw e (λ is. there b.v (nat_eq b.v v) refl is)
+        at _ e = rw e (λ is. absurd (let h : false ≡ true = is in cc))
+
+    by : (b : Bool) → list_any (suspects v) known ≡ b → v + 1 ≤ view g known
+    by true e =
+        let covered : v + 1 ≤ greatest_of (filter_map (view_shown g known) known) = greatest-covers (view_shown g known) (suspects v) (v + 1) given known e in
+        let is : view g known ≡ greatest_of (filter_map (view_shown g known) known) = view-is g known in
+        omega arith
+    by false e =
+        let nobody : is_suspected g known v ≡ false = quorum-same g.n g.q (λ j. list_any (is_suspect v j) known) (has_master []) (λ j lt. no_vote_of v j known e) ∙ quorum-none g.n g.q some in
+        absurd (let h : true ≡ false = sym enough ∙ nobody in cc)
+
+-- a word that is no vote of the group
 abbrev pub NoVote : Group → Signed Body → Type 0
-NoVote g f = (v j : ℕ) → v < most_view → j < g.n → is_suspect v j f ≡ false
+NoVote g f = (v j : ℕ) → j < g.n → is_suspect v j f ≡ false
 
 or_false : (b : Bool) → (b || (false || false)) ≡ b
 or_false true = refl
 or_false false = refl
 
-votes-passed : (g : Group) (known : List (Signed Body)) (f : Signed Body) → NoVote g f → (v j : ℕ) → v < most_view → j < g.n → list_any (is_suspect v j) (known ++ f ∷ []) ≡ list_any (is_suspect v j) known
-votes-passed g known f none v j low few = list_any-append (is_suspect v j) known (f ∷ []) ∙ ap (λ b. list_any (is_suspect v j) known || (b || false)) (none v j low few) ∙ or_false (list_any (is_suspect v j) known)
+votes-passed : (g : Group) (known : List (Signed Body)) (f : Signed Body) → NoVote g f → (v j : ℕ) → j < g.n → list_any (is_suspect v j) (known ++ f ∷ []) ≡ list_any (is_suspect v j) known
+votes-passed g known f none v j few = list_any-append (is_suspect v j) known (f ∷ []) ∙ ap (λ b. list_any (is_suspect v j) known || (b || false)) (none v j few) ∙ or_false (list_any (is_suspect v j) known)
 
-opened-passed : (known : List (Signed Body)) (f : Signed Body) → ((v : ℕ) → first_new_view (known ++ f ∷ []) v ≡ first_new_view known v) → (v : ℕ) → is_opened (known ++ f ∷ []) v ≡ is_opened known v
-opened-passed known f same v = opened-is (known ++ f ∷ []) v ∙ ap is_some (same v) ∙ sym (opened-is known v)
+suspected-passed : (g : Group) (known : List (Signed Body)) (f : Signed Body) → NoVote g f → (v : ℕ) → is_suspected g known v ≡ is_suspected g (known ++ f ∷ []) v
+suspected-passed g known f none v = quorum-same g.n g.q (λ j. list_any (is_suspect v j) known) (λ j. list_any (is_suspect v j) (known ++ f ∷ [])) (λ j few. sym (votes-passed g known f none v j few))
 
-suspected-passed : (g : Group) (known : List (Signed Body)) (f : Signed Body) → NoVote g f → (v : ℕ) → v < most_view → is_suspected g (known ++ f ∷ []) v ≡ is_suspected g known v
-suspected-passed g known f none v low = quorum-same g.n g.q (λ j. list_any (is_suspect v j) (known ++ f ∷ [])) (λ j. list_any (is_suspect v j) known) (λ j few. votes-passed g known f none v j low few)
-
-view-passed : (g : Group) (known : List (Signed Body)) (f : Signed Body) → NoVote g f → ((v : ℕ) → first_new_view (known ++ f ∷ []) v ≡ first_new_view known v) → view g (known ++ f ∷ []) ≡ view g known
-view-passed g known f none same =
-    view-is g (known ++ f ∷ [])
-    ∙ greatest_to-same (reached g (known ++ f ∷ [])) (reached g known) most_view
-    (λ v least most. ap (λ b. b || is_opened (known ++ f ∷ []) v) (suspected-passed g known f none (v - 1) (omega arith)) ∙ ap (λ b. is_suspected g known (v - 1) || b) (opened-passed known f same v))
-    ∙ sym (view-is g known)
+view-passed : (g : Group) (known : List (Signed Body)) (f : Signed Body) → NoVote g f → or_zero (view_shown g known f) ≤ view g known → view g (known ++ f ∷ []) ≡ view g known
+view-passed g known f none low =
+    let pushed : view g (known ++ f ∷ []) ≡ max (view g known) (or_zero (view_shown g known f)) = view-pushed g known f (suspected-passed g known f none) in
+    omega arith
 
 -- a word that changes nothing
-pub passed : (g : Group) (me : ℕ) (kept : Kept) (known : List (Signed Body)) (said : List Body) (f : Signed Body) → NoVote g f
+pub passed : (g : Group) (me : ℕ) (kept : Kept) (known : List (Signed Body)) (said : List Body) (f : Signed Body) → NoVote g f → or_zero (view_shown g known f) ≤ view g known
     → ((v j : ℕ) → or_else (first_report known v j) (report_by v j f) ≡ first_report known v j) → ((v : ℕ) → or_else (first_new_view known v) (new_view_in v f) ≡ first_new_view known v)
     → AreViewsOf g me kept known said → AreViewsOf g me kept (known ++ f ∷ []) said
-passed g me kept known said f none reports opens is = record {
+passed g me kept known said f none shown reports opens is = record {
   masters = is.masters;
   quorum = is.quorum;
   own = is.own;
-  view = is.view ∙ sym (view-passed g known f none (λ v. first_new_view-more known f v ∙ opens v));
-  suspects = λ v j low few. is.suspects v j low few ∙ sym (votes-passed g known f none v j low few);
+  view = is.view ∙ sym (view-passed g known f none shown);
+  limit = is.limit;
+  suspects = λ v j low few. is.suspects v j low few ∙ sym (votes-passed g known f none v j few);
   reports = λ v j. is.reports v j ∙ sym (first_report-more known f v j ∙ reports v j);
   plans = λ v. is.plans v ∙ ap (option_map (plan_in_new_view g)) (sym (first_new_view-more known f v ∙ opens v));
   reported = is.reported;
@@ -113,19 +189,16 @@ passed g me kept known said f none reports opens is = record {
 abbrev pub suspect_of : ℕ → ℕ → List ℕ → Signed Body
 suspect_of signer v sig = record { signer = signer; body = body.Suspect record { v = v }; sig = sig }
 
--- a vote of no master of the group, or for a view that none follows
-pub suspect-passed : (g : Group) (me : ℕ) (kept : Kept) (known : List (Signed Body)) (said : List Body) (signer v : ℕ) (sig : List ℕ) → (g.n ≤ signer) ⊎ (255 ≤ v)
+-- a vote of no master of the group
+pub suspect-passed : (g : Group) (me : ℕ) (kept : Kept) (known : List (Signed Body)) (said : List Body) (signer v : ℕ) (sig : List ℕ) → 1 ≤ g.q → g.n ≤ signer
     → AreViewsOf g me kept known said → AreViewsOf g me kept (known ++ suspect_of signer v sig ∷ []) said
-suspect-passed g me kept known said signer v sig out is =
-    passed g me kept known said (suspect_of signer v sig) (λ w j low few. by out w j low few) (λ w j. or_none (first_report known w j)) (λ w. or_none (first_new_view known w)) is
+suspect-passed g me kept known said signer v sig some out is =
+    passed g me kept known said (suspect_of signer v sig) (λ w j few. ap (λ b. b && nat_eq v w) (ne_eqb signer j (λ (e : signer ≡ j). omega arith))) (shown (is_suspected g known v) refl)
+    (λ w j. or_none (first_report known w j)) (λ w. or_none (first_new_view known w)) is
   where
-    none : (a b : Bool) → b ≡ false → (a && b) ≡ false
-    none true b e = e
-    none false b e = refl
-
-    by : (g.n ≤ signer) ⊎ (255 ≤ v) → (w j : ℕ) → w < most_view → j < g.n → (nat_eq signer j && nat_eq v w) ≡ false
-    by (inl le) w j low few = ap (λ b. b && nat_eq v w) (ne_eqb signer j (λ (e : signer ≡ j). omega arith))
-    by (inr le) w j low few = let top : most_view ≡ 255 = most_view-is in none (nat_eq signer j) (nat_eq v w) (ne_eqb v w (λ (e : v ≡ w). omega arith))
+    shown : (b : Bool) → is_suspected g known v ≡ b → or_zero (if b then Some (v + 1) else None) ≤ view g known
+    shown true e = suspected-shown g known v some e
+    shown false e = omega arith
 
 -- the votes with one more
 voted : (known : List (Signed Body)) (signer v : ℕ) (sig : List ℕ) (w j : ℕ) → list_any (is_suspect w j) (known ++ suspect_of signer v sig ∷ []) ≡ (list_any (is_suspect w j) known || ((nat_eq signer j && nat_eq v w) || false))
@@ -151,9 +224,6 @@ eq_sym a b = at (cases_eq a b)
     at (inl e) = eq-eqb a b e ∙ sym (eq-eqb b a (sym e))
     at (inr ne) = ne_eqb a b ne ∙ sym (ne_eqb b a (λ (e : b ≡ a). ne (sym e)))
 
-opened-same : (known : List (Signed Body)) (signer v : ℕ) (sig : List ℕ) (w : ℕ) → is_opened (known ++ suspect_of signer v sig ∷ []) w ≡ is_opened known w
-opened-same known signer v sig w = opened-passed known (suspect_of signer v sig) (λ u. first_new_view-more known (suspect_of signer v sig) u ∙ or_none (first_new_view known u)) w
-
 -- a vote for another view
 vote-elsewhere : (known : List (Signed Body)) (signer v : ℕ) (sig : List ℕ) (w j : ℕ) → (v ≡ w → ⊥) → list_any (is_suspect w j) known ≡ list_any (is_suspect w j) (known ++ suspect_of signer v sig ∷ [])
 vote-elsewhere known signer v sig w j ne = other_vote (list_any (is_suspect w j) known) (nat_eq signer j) (nat_eq v w) (ne_eqb v w ne) ∙ sym (voted known signer v sig w j)
@@ -173,39 +243,62 @@ still_voted true b e = refl
 still_voted false b e = absurd (let f : false ≡ true = e in cc)
 
 -- the view once a quorum suspects its leader, and while none does
-view-raised : (g : Group) (known : List (Signed Body)) (signer v : ℕ) (sig : List ℕ) → v < 255 → is_suspected g (known ++ suspect_of signer v sig ∷ []) v ≡ true → view g (known ++ suspect_of signer v sig ∷ []) ≡ max (view g known) (v + 1)
-view-raised g known signer v sig low enough =
-    let top : most_view ≡ 255 = most_view-is in
-    let back : v + 1 - 1 ≡ v = omega arith in
-    view-is g (known ++ suspect_of signer v sig ∷ [])
-    ∙ greatest_to-raised (reached g known) (reached g (known ++ suspect_of signer v sig ∷ [])) (v + 1) most_view (omega arith)
-    (ap (λ k. is_suspected g (known ++ suspect_of signer v sig ∷ []) k || is_opened (known ++ suspect_of signer v sig ∷ []) (v + 1)) back ∙ ap (λ b. b || is_opened (known ++ suspect_of signer v sig ∷ []) (v + 1)) enough)
-    (λ w ne least most. elsewhere w (λ (e : v ≡ w - 1). let same : w ≡ v + 1 = omega arith in ne same))
-    ∙ ap (λ k. max k (v + 1)) (sym (view-is g known))
+view-raised : (g : Group) (known : List (Signed Body)) (signer v : ℕ) (sig : List ℕ) → is_suspected g (known ++ suspect_of signer v sig ∷ []) v ≡ true → view g (known ++ suspect_of signer v sig ∷ []) ≡ max (view g known) (v + 1)
+view-raised g known signer v sig enough =
+    view-is g now ∙ greatest-push (view_shown g now) known (suspect_of signer v sig)
+    ∙ ap (λ s. max (greatest_of (filter_map (view_shown g now) known)) (or_zero (if s then Some (v + 1) else None))) enough
+    ∙ greatest-more (view_shown g known) (view_shown g now) (v + 1) more known ∙ ap (λ k. max k (v + 1)) (sym (view-is g known))
   where
-    elsewhere : (w : ℕ) → (v ≡ w - 1 → ⊥) → reached g known w ≡ reached g (known ++ suspect_of signer v sig ∷ []) w
-    elsewhere w ne = ap (λ b. b || is_opened known w) (suspected-elsewhere g known signer v sig (w - 1) ne) ∙ ap (λ b. is_suspected g (known ++ suspect_of signer v sig ∷ []) (w - 1) || b) (sym (opened-same known signer v sig w))
+    now : List (Signed Body)
+    now = known ++ suspect_of signer v sig ∷ []
+
+    shows : ℕ → Bool → Option ℕ
+    shows w s = if s then Some (w + 1) else None
+
+    voted_for : (w : ℕ) → (v ≡ w) ⊎ (v ≡ w → ⊥)
+        → (shows w (is_suspected g now w) ≡ shows w (is_suspected g known w)) ⊎ ((shows w (is_suspected g known w) ≡ None) × (shows w (is_suspected g now w) ≡ Some (v + 1)))
+    voted_for w (inl e) = by (is_suspected g known w) refl
+      where
+        is_now : shows w (is_suspected g now w) ≡ Some (w + 1)
+        is_now = ap (shows w) (ap (is_suspected g now) (sym e) ∙ enough)
+
+        by : (b : Bool) → is_suspected g known w ≡ b → (shows w (is_suspected g now w) ≡ shows w (is_suspected g known w)) ⊎ ((shows w (is_suspected g known w) ≡ None) × (shows w (is_suspected g now w) ≡ Some (v + 1)))
+        by true was = inl (is_now ∙ sym (ap (shows w) was))
+        by false was = inr (ap (shows w) was, is_now ∙ ap (λ u. Some (u + 1)) (sym e))
+    voted_for w (inr ne) = inl (ap (shows w) (sym (suspected-elsewhere g known signer v sig w ne)))
+
+    more : (f : Signed Body) → (view_shown g now f ≡ view_shown g known f) ⊎ ((view_shown g known f ≡ None) × (view_shown g now f ≡ Some (v + 1)))
+    more f = at f.body refl
+      where
+        at : (b : Body) → f.body ≡ b → (view_shown g now f ≡ view_shown g known f) ⊎ ((view_shown g known f ≡ None) × (view_shown g now f ≡ Some (v + 1)))
+        at (body.Suspect b) e = rw e (voted_for b.v (cases_eq v b.v))
+        at _ e = rw e (inl refl)
 
 view-stays : (g : Group) (known : List (Signed Body)) (signer v : ℕ) (sig : List ℕ) → is_suspected g (known ++ suspect_of signer v sig ∷ []) v ≡ false → view g (known ++ suspect_of signer v sig ∷ []) ≡ view g known
 view-stays g known signer v sig few =
-    view-is g (known ++ suspect_of signer v sig ∷ [])
-    ∙ sym (greatest_to-same (reached g known) (reached g (known ++ suspect_of signer v sig ∷ [])) most_view (λ w least most. at w (cases_eq v (w - 1)))) ∙ sym (view-is g known)
+    let pushed : view g (known ++ suspect_of signer v sig ∷ []) ≡ max (view g known) (or_zero (view_shown g known (suspect_of signer v sig))) =
+    view-pushed g known (suspect_of signer v sig) (λ w. same w (cases_eq v w)) in
+    pushed ∙ ap (λ s. max (view g known) (or_zero (if s then Some (v + 1) else None))) failed ∙ none (view g known)
   where
+    none : (k : ℕ) → max k 0 ≡ k
+    none k = omega arith
+
     failed : is_suspected g known v ≡ false
     failed = quorum-fewer g.n g.q (λ j. list_any (is_suspect v j) known) (λ j. list_any (is_suspect v j) (known ++ suspect_of signer v sig ∷ []))
         (λ j below is. voted known signer v sig v j ∙ still_voted (list_any (is_suspect v j) known) (nat_eq signer j && nat_eq v v) is) few
 
-    same : (w : ℕ) → (v ≡ w - 1) ⊎ (v ≡ w - 1 → ⊥) → is_suspected g known (w - 1) ≡ is_suspected g (known ++ suspect_of signer v sig ∷ []) (w - 1)
+    same : (w : ℕ) → (v ≡ w) ⊎ (v ≡ w → ⊥) → is_suspected g known w ≡ is_suspected g (known ++ suspect_of signer v sig ∷ []) w
     same w (inl e) = ap (is_suspected g known) (sym e) ∙ failed ∙ sym few ∙ ap (is_suspected g (known ++ suspect_of signer v sig ∷ [])) e
-    same w (inr ne) = suspected-elsewhere g known signer v sig (w - 1) ne
+    same w (inr ne) = suspected-elsewhere g known signer v sig w ne
 
-    at : (w : ℕ) → (v ≡ w - 1) ⊎ (v ≡ w - 1 → ⊥) → reached g known w ≡ reached g (known ++ suspect_of signer v sig ∷ []) w
-    at w c = ap (λ b. b || is_opened known w) (same w c) ∙ ap (λ b. is_suspected g (known ++ suspect_of signer v sig ∷ []) (w - 1) || b) (sym (opened-same known signer v sig w))
-
-view-voted : (g : Group) (known : List (Signed Body)) (signer v : ℕ) (sig : List ℕ) (r : Bool) (old new : ℕ) → v < 255 → r ≡ is_suspected g (known ++ suspect_of signer v sig ∷ []) v → old ≡ view g known → new ≡ (if r then max old (v + 1) else old)
+view-voted : (g : Group) (known : List (Signed Body)) (signer v : ℕ) (sig : List ℕ) (r : Bool) (old new : ℕ) → r ≡ is_suspected g (known ++ suspect_of signer v sig ∷ []) v → old ≡ view g known → new ≡ (if r then max old (v + 1) else old)
     → new ≡ view g (known ++ suspect_of signer v sig ∷ [])
-view-voted g known signer v sig true old new low e was now = now ∙ ap (λ k. max k (v + 1)) was ∙ sym (view-raised g known signer v sig low (sym e))
-view-voted g known signer v sig false old new low e was now = now ∙ was ∙ sym (view-stays g known signer v sig (sym e))
+view-voted g known signer v sig true old new e was now = now ∙ ap (λ k. max k (v + 1)) was ∙ sym (view-raised g known signer v sig (sym e))
+view-voted g known signer v sig false old new e was now = now ∙ was ∙ sym (view-stays g known signer v sig (sym e))
+
+view-limited : (r : Bool) (old new v : ℕ) → v < 255 → old ≤ most_view → new ≡ (if r then max old (v + 1) else old) → new ≤ most_view
+view-limited true old new v low was now = let top : most_view ≡ 255 = most_view-is in omega arith
+view-limited false old new v low was now = omega arith
 
 pub suspect-taken : (g : Group) (me : ℕ) (kept new : Kept) (known : List (Signed Body)) (said : List Body) (signer v : ℕ) (sig masters : List ℕ) (r : Bool) → g.n ≤ 14 → v < 255
     → masters ≡ with_master (suspects_of kept v) signer → r ≡ has_quorum g.n g.q (has_master masters)
@@ -216,7 +309,8 @@ suspect-taken g me kept new known said signer v sig masters r few low joined eno
   masters = ap (λ (h : Group). h.n) group ∙ is.masters;
   quorum = ap (λ (h : Group). h.q) group ∙ is.quorum;
   own = own ∙ is.own;
-  view = view-voted g known signer v sig r kept.view new.view low (enough ∙ quorum-same g.n g.q (has_master masters) (λ j. list_any (is_suspect v j) (known ++ suspect_of signer v sig ∷ [])) here) is.view now;
+  view = view-voted g known signer v sig r kept.view new.view (enough ∙ quorum-same g.n g.q (has_master masters) (λ j. list_any (is_suspect v j) (known ++ suspect_of signer v sig ∷ [])) here) is.view now;
+  limit = view-limited r kept.view new.view v low is.limit now;
   suspects = λ w j below small. ap (λ o. has_master (unwrap_or o []) j) (votes w) ∙ at w j below small (cases_eq v w);
   reports = λ w j. ap (λ es. at_place es w j) reports ∙ is.reports w j ∙ sym (first_report-more known (suspect_of signer v sig) w j ∙ or_none (first_report known w j));
   plans = λ w. ap (λ es. at_view es w) plans ∙ is.plans w ∙ ap (option_map (plan_in_new_view g)) (sym (first_new_view-more known (suspect_of signer v sig) w ∙ or_none (first_new_view known w)));
@@ -253,7 +347,7 @@ own_place f v j e = let both : (nat_eq f.signer j ≡ true) × (nat_eq f.body.v 
 -- one of a master that has one of that view
 pub report-passed : (g : Group) (me : ℕ) (kept : Kept) (known : List (Signed Body)) (said : List Body) (f : Signed Report) → is_some (at_place kept.reports f.body.v f.signer) ≡ true
     → AreViewsOf g me kept known said → AreViewsOf g me kept (known ++ report_word f ∷ []) said
-report-passed g me kept known said f there is = passed g me kept known said (report_word f) (λ w j low few. refl) (λ w j. at w j (nat_eq f.signer j && nat_eq f.body.v w) refl) (λ w. or_none (first_new_view known w)) is
+report-passed g me kept known said f there is = passed g me kept known said (report_word f) (λ w j few. refl) (omega arith) (λ w j. at w j (nat_eq f.signer j && nat_eq f.body.v w) refl) (λ w. or_none (first_new_view known w)) is
   where
     at : (w j : ℕ) (b : Bool) → (nat_eq f.signer j && nat_eq f.body.v w) ≡ b → or_else (first_report known w j) (report_by w j (report_word f)) ≡ first_report known w j
     at w j true e =
@@ -271,8 +365,9 @@ report-taken g me kept new known said f fresh group own same suspects reports pl
   masters = ap (λ (h : Group). h.n) group ∙ is.masters;
   quorum = ap (λ (h : Group). h.q) group ∙ is.quorum;
   own = own ∙ is.own;
-  view = same ∙ is.view ∙ sym (view-passed g known (report_word f) (λ w j low few. refl) (λ w. first_new_view-more known (report_word f) w ∙ or_none (first_new_view known w)));
-  suspects = λ w j low few. ap (λ es. has_master (unwrap_or (at_view es w) []) j) suspects ∙ is.suspects w j low few ∙ sym (votes-passed g known (report_word f) (λ w j low few. refl) w j low few);
+  view = same ∙ is.view ∙ sym (view-passed g known (report_word f) (λ w j few. refl) (omega arith));
+  limit = (let low : kept.view ≤ most_view = is.limit in omega arith);
+  suspects = λ w j low few. ap (λ es. has_master (unwrap_or (at_view es w) []) j) suspects ∙ is.suspects w j low few ∙ sym (votes-passed g known (report_word f) (λ w j few. refl) w j few);
   reports = λ w j. reports w j ∙ at w j (nat_eq f.signer j && nat_eq f.body.v w) refl ∙ sym (first_report-more known (report_word f) w j);
   plans = λ w. ap (λ es. at_view es w) plans ∙ is.plans w ∙ ap (option_map (plan_in_new_view g)) (sym (first_new_view-more known (report_word f) w ∙ or_none (first_new_view known w)));
   reported = λ w most. ap (λ bs. slice_index_or bs w false) reported ∙ is.reported w most;
@@ -314,8 +409,11 @@ no_plan (Some x) e = absurd (let h : true ≡ false = e in cc)
 -- one of a view that is open
 pub new_view-passed : (g : Group) (me : ℕ) (kept : Kept) (known : List (Signed Body)) (said : List Body) (f : Signed NewView) → is_some (at_view kept.plans f.body.v) ≡ true
     → AreViewsOf g me kept known said → AreViewsOf g me kept (known ++ new_view_word f ∷ []) said
-new_view-passed g me kept known said f there is = passed g me kept known said (new_view_word f) (λ w j low few. refl) (λ w j. or_none (first_report known w j)) (λ w. at w (cases_eq f.body.v w)) is
+new_view-passed g me kept known said f there is = passed g me kept known said (new_view_word f) (λ w j few. refl) (opened-shown g known f.body.v is_open) (λ w j. or_none (first_report known w j)) (λ w. at w (cases_eq f.body.v w)) is
   where
+    is_open : is_opened known f.body.v ≡ true
+    is_open = opened-is known f.body.v ∙ sym (plan_there (plan_in_new_view g) (first_new_view known f.body.v)) ∙ ap is_some (sym (is.plans f.body.v)) ∙ there
+
     at : (w : ℕ) → (f.body.v ≡ w) ⊎ (f.body.v ≡ w → ⊥) → or_else (first_new_view known w) (if nat_eq f.body.v w then Some f else None) ≡ first_new_view known w
     at w (inl e) =
         report_kept (first_new_view known w) (if nat_eq f.body.v w then Some f else None)
@@ -327,56 +425,23 @@ suspected-by_others g known f v =
     quorum-same g.n g.q (λ j. list_any (is_suspect v j) known) (λ j. list_any (is_suspect v j) (known ++ new_view_word f ∷ []))
     (λ j few. sym (list_any-append (is_suspect v j) known (new_view_word f ∷ []) ∙ or_false (list_any (is_suspect v j) known)))
 
-opened-elsewhere : (known : List (Signed Body)) (f : Signed NewView) (v : ℕ) → (f.body.v ≡ v → ⊥) → is_opened known v ≡ is_opened (known ++ new_view_word f ∷ []) v
-opened-elsewhere known f v ne =
-    sym (opened-is (known ++ new_view_word f ∷ []) v ∙ ap is_some (first_new_view-more known (new_view_word f) v ∙ ap (λ b. or_else (first_new_view known v) (if b then Some f else None)) (ne_eqb f.body.v v ne) ∙ or_none (first_new_view known v))
-    ∙ sym (opened-is known v))
-
-or_some : {X : Type 0} (o : Option X) (x : X) → is_some (or_else o (Some x)) ≡ true
-or_some None x = refl
-or_some (Some y) x = refl
-
-opened-here : (known : List (Signed Body)) (f : Signed NewView) → is_opened (known ++ new_view_word f ∷ []) f.body.v ≡ true
-opened-here known f =
-    opened-is (known ++ new_view_word f ∷ []) f.body.v
-    ∙ ap is_some (first_new_view-more known (new_view_word f) f.body.v ∙ ap (λ b. or_else (first_new_view known f.body.v) (if b then Some f else None)) (eq-eqb f.body.v f.body.v refl))
-    ∙ or_some (first_new_view known f.body.v) f
-
-or_true : (b : Bool) → (b || true) ≡ true
-or_true true = refl
-or_true false = refl
-
-view-elsewhere : (g : Group) (known : List (Signed Body)) (f : Signed NewView) (w : ℕ) → (w ≡ f.body.v → ⊥) → reached g known w ≡ reached g (known ++ new_view_word f ∷ []) w
-view-elsewhere g known f w ne =
-    ap (λ b. b || is_opened known w) (suspected-by_others g known f (w - 1)) ∙ ap (λ b. is_suspected g (known ++ new_view_word f ∷ []) (w - 1) || b) (opened-elsewhere known f w (λ (e : f.body.v ≡ w). ne (sym e)))
-
-view-opened : (g : Group) (known : List (Signed Body)) (f : Signed NewView) (old new : ℕ) (r : Bool) → r ≡ nat_le f.body.v 255 → old ≡ view g known → new ≡ (if r then max old f.body.v else old) → new ≡ view g (known ++ new_view_word f ∷ [])
-view-opened g known f old new true e was now =
-    let low : f.body.v ≤ 255 = leb-true f.body.v 255 (sym e) in
-    let top : most_view ≡ 255 = most_view-is in
-    now ∙ ap (λ k. max k f.body.v) was
-    ∙ sym (view-is g (known ++ new_view_word f ∷ []) ∙ greatest_to-raised (reached g known) (reached g (known ++ new_view_word f ∷ [])) f.body.v most_view (omega arith)
-    (ap (λ b. is_suspected g (known ++ new_view_word f ∷ []) (f.body.v - 1) || b) (opened-here known f) ∙ or_true (is_suspected g (known ++ new_view_word f ∷ []) (f.body.v - 1)))
-    (λ w ne least most. view-elsewhere g known f w ne) ∙ ap (λ k. max k f.body.v) (sym (view-is g known)))
-view-opened g known f old new false e was now =
-    let top : most_view ≡ 255 = most_view-is in
-    let high : 255 < f.body.v = leb-false f.body.v 255 (sym e) in
-    now ∙ was ∙ view-is g known
-    ∙ greatest_to-same (reached g known) (reached g (known ++ new_view_word f ∷ [])) most_view (λ w least most. view-elsewhere g known f w (λ (same : w ≡ f.body.v). omega arith)) ∙ sym (view-is g (known ++ new_view_word f ∷ []))
+view-opened : (g : Group) (known : List (Signed Body)) (f : Signed NewView) (old new : ℕ) → old ≡ view g known → new ≡ max old f.body.v → new ≡ view g (known ++ new_view_word f ∷ [])
+view-opened g known f old new was now = now ∙ ap (λ k. max k f.body.v) was ∙ sym (view-pushed g known (new_view_word f) (suspected-by_others g known f))
 
 -- the first of its view
-pub new_view-taken : (g : Group) (me : ℕ) (kept new : Kept) (known : List (Signed Body)) (said : List Body) (f : Signed NewView) (plan : Plan) (r : Bool) → is_some (at_view kept.plans f.body.v) ≡ false
-    → plan ≡ plan_in_new_view g f → r ≡ nat_le f.body.v 255
-    → new.group ≡ kept.group → new.me ≡ kept.me → new.view ≡ (if r then max kept.view f.body.v else kept.view) → new.suspects ≡ kept.suspects → new.reports ≡ kept.reports
+pub new_view-taken : (g : Group) (me : ℕ) (kept new : Kept) (known : List (Signed Body)) (said : List Body) (f : Signed NewView) (plan : Plan) → is_some (at_view kept.plans f.body.v) ≡ false
+    → plan ≡ plan_in_new_view g f → f.body.v ≤ most_view
+    → new.group ≡ kept.group → new.me ≡ kept.me → new.view ≡ max kept.view f.body.v → new.suspects ≡ kept.suspects → new.reports ≡ kept.reports
     → ((w : ℕ) → at_view new.plans w ≡ (if nat_eq f.body.v w then Some plan else at_view kept.plans w))
     → new.reported ≡ kept.reported → new.opened ≡ kept.opened
     → AreViewsOf g me kept known said → AreViewsOf g me new (known ++ new_view_word f ∷ []) said
-new_view-taken g me kept new known said f plan r fresh made low group own now suspects reports plans reported opened is = record {
+new_view-taken g me kept new known said f plan fresh made low group own now suspects reports plans reported opened is = record {
   masters = ap (λ (h : Group). h.n) group ∙ is.masters;
   quorum = ap (λ (h : Group). h.q) group ∙ is.quorum;
   own = own ∙ is.own;
-  view = view-opened g known f kept.view new.view r low is.view now;
-  suspects = λ w j below few. ap (λ es. has_master (unwrap_or (at_view es w) []) j) suspects ∙ is.suspects w j below few ∙ sym (votes-passed g known (new_view_word f) (λ w j low few. refl) w j below few);
+  view = view-opened g known f kept.view new.view is.view now;
+  limit = (let was : kept.view ≤ most_view = is.limit in omega arith);
+  suspects = λ w j below few. ap (λ es. has_master (unwrap_or (at_view es w) []) j) suspects ∙ is.suspects w j below few ∙ sym (votes-passed g known (new_view_word f) (λ w j few. refl) w j few);
   reports = λ w j. ap (λ es. at_place es w j) reports ∙ is.reports w j ∙ sym (first_report-more known (new_view_word f) w j ∙ or_none (first_report known w j));
   plans = λ w. plans w ∙ at w (cases_eq f.body.v w) ∙ ap (option_map (plan_in_new_view g)) (sym (first_new_view-more known (new_view_word f) w));
   reported = λ w most. ap (λ bs. slice_index_or bs w false) reported ∙ is.reported w most;

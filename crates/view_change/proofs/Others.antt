@@ -1,16 +1,17 @@
 -- Which words and which bodies count.
-use Rattle.std.proofs.Common.{◌≡◌, ℕ, ◌-◌, Bool, true, false, cond, ◌||◌, List, [], ◌∷◌, ◌++◌, Option, Some, None, filter, refl, sym, ◌∙◌, ap}
+use Rattle.std.proofs.Common.{◌≡◌, ℕ, Bool, true, false, cond, ◌||◌, List, [], ◌∷◌, ◌++◌, Option, Some, None, filter, refl, sym, ◌∙◌, ap, arith}
 use Rattle.std.specs.List.{list_any, filter_map}
-use Rattle.std.specs.Option.{option_map, is_some}
+use Rattle.std.specs.Option.{option_map}
 use Rattle.message_types.specs.declared.signed.Signed.{Signed}
 use Rattle.message_types.specs.declared.body.Body.{Body}
 use Rattle.message_types.specs.declared.body.Body.TheVariants as body
-use Rattle.protocol_rules.specs.Words.{first_of_list, or_else}
-use Rattle.protocol_rules.specs.Group.{Group, most_view}
-use Rattle.protocol_rules.specs.Views.{view, is_suspect, is_suspected, is_opened, report_by, new_view_in, reports_said, new_views_said}
+use Rattle.protocol_rules.specs.Words.{first_of_list, greatest_of, or_else}
+use Rattle.protocol_rules.specs.Group.{Group}
+use Rattle.protocol_rules.specs.Views.{view, view_shown, is_suspect, report_by, new_view_in, reports_said, new_views_said}
 use Rattle.view_change.specs.Kept.{Kept, AreViewsOf, first_report, first_new_view, plan_in_new_view, is_view_word}
-use Rattle.view_change.proofs.Reached.{greatest_to-same, quorum-same}
-use Rattle.view_change.proofs.Known.{passed, or_none, view-is, reached, opened-is}
+use Rattle.protocol_rules.proofs.Greatest.{or_zero}
+use Rattle.view_change.proofs.Reached.{quorum-same}
+use Rattle.view_change.proofs.Known.{passed, or_none, view-is, view-same}
 
 not_suspect : (v j : ℕ) (f : Signed Body) → is_view_word f ≡ false → is_suspect v j f ≡ false
 not_suspect v j f none = at f.body refl
@@ -33,10 +34,18 @@ not_new_view v f none = at f.body refl
     at (body.NewView b) e = absurd (let h : true ≡ false = ap (λ w. is_view_word record f { body = w }) (sym e) ∙ none in cc)
     at _ e = rw e refl
 
+shows_nothing : (g : Group) (known : List (Signed Body)) (f : Signed Body) → is_view_word f ≡ false → view_shown g known f ≡ None
+shows_nothing g known f none = at f.body refl
+  where
+    at : (b : Body) → f.body ≡ b → view_shown g known f ≡ None
+    at (body.Suspect b) e = absurd (let h : true ≡ false = ap (λ w. is_view_word record f { body = w }) (sym e) ∙ none in cc)
+    at (body.NewView b) e = absurd (let h : true ≡ false = ap (λ w. is_view_word record f { body = w }) (sym e) ∙ none in cc)
+    at _ e = rw e refl
+
 -- a word of another kind
 pub other_passed : (g : Group) (me : ℕ) (kept : Kept) (known : List (Signed Body)) (said : List Body) (f : Signed Body) → is_view_word f ≡ false → AreViewsOf g me kept known said → AreViewsOf g me kept (known ++ f ∷ []) said
 other_passed g me kept known said f none is =
-    passed g me kept known said f (λ v j low few. not_suspect v j f none)
+    passed g me kept known said f (λ v j few. not_suspect v j f none) (let zero : or_zero (view_shown g known f) ≡ 0 = ap or_zero (shows_nothing g known f none) in omega arith)
     (λ v j. ap (λ o. or_else (first_report known v j) o) (not_report v j f none) ∙ or_none (first_report known v j))
     (λ v. ap (λ o. or_else (first_new_view known v) o) (not_new_view v f none) ∙ or_none (first_new_view known v)) is
 
@@ -73,11 +82,9 @@ first_new_view_alone known v = ap first_of_list (gives_alone (new_view_in v) (λ
 view_alone : (g : Group) (known : List (Signed Body)) → view g (filter is_view_word known) ≡ view g known
 view_alone g known =
     view-is g (filter is_view_word known)
-    ∙ greatest_to-same (reached g (filter is_view_word known)) (reached g known) most_view
-    (λ v least most.
-    ap (λ b. b || is_opened (filter is_view_word known) v) (quorum-same g.n g.q (λ j. list_any (is_suspect (v - 1) j) (filter is_view_word known)) (λ j. list_any (is_suspect (v - 1) j) known) (λ j few. votes_alone (v - 1) j known))
-    ∙ ap (λ b. is_suspected g known (v - 1) || b) (opened-is (filter is_view_word known) v ∙ ap is_some (first_new_view_alone known v) ∙ sym (opened-is known v)))
-    ∙ sym (view-is g known)
+    ∙ view-same g known (filter is_view_word known) (filter is_view_word known)
+    (λ v. quorum-same g.n g.q (λ j. list_any (is_suspect v j) known) (λ j. list_any (is_suspect v j) (filter is_view_word known)) (λ j few. sym (votes_alone v j known)))
+    ∙ ap greatest_of (gives_alone (view_shown g known) (shows_nothing g known) known) ∙ sym (view-is g known)
 
 -- only suspicions, reports and new views count
 pub view_words_alone : (g : Group) (me : ℕ) (kept : Kept) (known : List (Signed Body)) (said : List Body) → AreViewsOf g me kept (filter is_view_word known) said → AreViewsOf g me kept known said
@@ -86,6 +93,7 @@ view_words_alone g me kept known said is = record {
   quorum = is.quorum;
   own = is.own;
   view = is.view ∙ view_alone g known;
+  limit = is.limit;
   suspects = λ v j low few. is.suspects v j low few ∙ votes_alone v j known;
   reports = λ v j. is.reports v j ∙ first_report_alone known v j;
   plans = λ v. is.plans v ∙ ap (option_map (plan_in_new_view g)) (first_new_view_alone known v);
@@ -101,6 +109,7 @@ said_alone g me kept known said other reports opens is = record {
   quorum = is.quorum;
   own = is.own;
   view = is.view;
+  limit = is.limit;
   suspects = is.suspects;
   reports = is.reports;
   plans = is.plans;

@@ -1,50 +1,10 @@
--- The greatest view that is reached.
-use Rattle.std.proofs.Common.{◌≡◌, ℕ, zero, suc, ◌+◌, ◌*◌, ◌<◌, ◌≤◌, Bool, true, false, cond, ◌||◌, List, [], length, max, nat_eq, nat_le, refl, sym, ◌∙◌, ap, inl, inr, ◌⊎◌, arith, IsTrue, ◌↔◌}
-use Rattle.std.proofs.lemmas.Bool.{cases_eq, le-leb, leb-true, cond-true}
+-- Quorums of masters.
+use Rattle.std.proofs.Common.{◌≡◌, ℕ, zero, suc, ◌+◌, ◌*◌, ◌<◌, ◌≤◌, Bool, true, false, cond, ◌||◌, List, [], length, nat_eq, nat_le, refl, sym, ◌∙◌, ap, arith, IsTrue, ◌↔◌}
+use Rattle.std.proofs.lemmas.Bool.{le-leb, leb-true}
 use Rattle.quorum_sets.specs.Masters.{has_master, voters, with_master}
 use Rattle.quorum_sets.specs.Quorum.{has_quorum}
 use Rattle.quorum_sets.specs.declared.sizes.Sizes.{Sizes}
 use Rattle.quorum_sets.proofs.MastersLemmas.{voters_same, length-voters-suc, voters-zero, voters_none, has_master-voters_below}
-use Rattle.protocol_rules.specs.Words.{greatest_to}
-
-pub greatest_to-le : (p : ℕ → Bool) (m : ℕ) → greatest_to p m ≤ m
-unfolding greatest_to
-greatest_to-le p zero = omega arith
-greatest_to-le p (suc m) = at (p (suc m)) (greatest_to-le p m)
-  where
-    at : (b : Bool) → greatest_to p m ≤ m → cond b (suc m) (greatest_to p m) ≤ suc m
-    at true less = omega arith
-    at false less = omega arith
-
--- tests that agree
-pub greatest_to-same : (p q : ℕ → Bool) (m : ℕ) → ((v : ℕ) → 1 ≤ v → v ≤ m → p v ≡ q v) → greatest_to p m ≡ greatest_to q m
-unfolding greatest_to
-greatest_to-same p q zero same = refl
-greatest_to-same p q (suc m) same =
-    let less : greatest_to p m ≡ greatest_to q m = greatest_to-same p q m (λ v least most. same v least (omega arith)) in
-    ap (λ b. cond b (suc m) (greatest_to p m)) (same (suc m) (omega arith) (omega arith)) ∙ ap (λ k. cond (q (suc m)) (suc m) k) less
-
--- one number more passes
-pub greatest_to-raised : (p q : ℕ → Bool) (w m : ℕ) → w ≤ m → q w ≡ true → ((v : ℕ) → (v ≡ w → ⊥) → 1 ≤ v → v ≤ m → p v ≡ q v) → greatest_to q m ≡ max (greatest_to p m) w
-unfolding greatest_to
-greatest_to-raised p q w zero most passes same = omega arith
-greatest_to-raised p q w (suc m) most passes same =
-    by_place (cases_eq w (suc m)) (λ (ne : w ≡ suc m → ⊥). greatest_to-raised p q w m (omega arith) passes (λ v other least less. same v other least (omega arith)))
-  where
-    low : greatest_to p (suc m) ≤ suc m
-    low = greatest_to-le p (suc m)
-
-    at : (b : Bool) → greatest_to q m ≡ max (greatest_to p m) w → cond b (suc m) (greatest_to q m) ≡ max (cond b (suc m) (greatest_to p m)) w
-    at true below = omega arith
-    at false below = below
-
-    by_place : (w ≡ suc m) ⊎ (w ≡ suc m → ⊥) → ((w ≡ suc m → ⊥) → greatest_to q m ≡ max (greatest_to p m) w) → greatest_to q (suc m) ≡ max (greatest_to p (suc m)) w
-    by_place (inl e) below =
-        let top : greatest_to q (suc m) ≡ suc m = cond-true (q (suc m)) (suc m) (greatest_to q m) (ap q (sym e) ∙ passes) in
-        let bound : greatest_to p (suc m) ≤ suc m = low in
-        omega arith
-    by_place (inr ne) below =
-        at (q (suc m)) (below ne) ∙ ap (λ b. max (cond b (suc m) (greatest_to p m)) w) (sym (same (suc m) (λ (e : suc m ≡ w). ne (sym e)) (omega arith) (omega arith)))
 
 -- quorums of tests that agree
 pub quorum-same : (n q : ℕ) (s t : ℕ → Bool) → ((j : ℕ) → j < n → s j ≡ t j) → has_quorum n q s ≡ has_quorum n q t

@@ -1,5 +1,5 @@
 -- What the bodies said change, and the views where nothing is known or said.
-use Rattle.std.proofs.Common.{◌≡◌, ℕ, zero, suc, ◌<◌, ◌≤◌, Bool, true, false, ◌||◌, ◌&&◌, List, [], ◌∷◌, ◌++◌, Option, Some, None, length, take, get_or, set, nat_eq, refl, sym, ◌∙◌, ap, inl, inr, ◌⊎◌, if◌then◌else◌, unwrap_or, slice_index_or, get_or-set_same, get_or-set_other}
+use Rattle.std.proofs.Common.{◌≡◌, ℕ, zero, suc, ◌<◌, ◌≤◌, Bool, true, false, ◌||◌, ◌&&◌, List, [], ◌∷◌, ◌++◌, Option, Some, None, length, take, get_or, set, nat_eq, refl, sym, ◌∙◌, ap, inl, inr, ◌⊎◌, if◌then◌else◌, unwrap_or, slice_index_or, get_or-set_same, get_or-set_other, arith}
 use Rattle.std.specs.Prelude.{replicate}
 use Rattle.std.specs.List.{list_any}
 use Rattle.std.specs.Option.{is_some, option_to_list}
@@ -10,12 +10,9 @@ use Rattle.message_types.specs.declared.ordering.Mark.{Mark}
 use Rattle.message_types.specs.declared.ordering.Certificate.{Certificate}
 use Rattle.message_types.specs.declared.body.Body.{Body}
 use Rattle.quorum_sets.specs.Masters.{has_master}
-use Rattle.protocol_rules.specs.Words.{greatest_to}
 use Rattle.protocol_rules.specs.Group.{Group, most_view}
 use Rattle.protocol_rules.specs.Views.{view, first_reports, reports_said, new_views_said, report_due, new_view_due}
 use Rattle.view_change.specs.Kept.{Kept, AreViewsOf, at_view, at_place, first_report, first_new_view}
-use Rattle.view_change.proofs.Reached.{greatest_to-same, quorum-none}
-use Rattle.view_change.proofs.Known.{view-is, reached}
 use Rattle.view_change.proofs.Answering.{report_with, new_view_with, report_is_due, new_view_is_due}
 
 is_there : {X : Type 0} (o : Option X) (x : X) → option_to_list o ≡ x ∷ [] → is_some o ≡ true
@@ -77,6 +74,7 @@ counted g me kept new known said bodies base marks certificates report opening r
   quorum = ap (λ (h : Group). h.q) group ∙ is.quorum;
   own = own ∙ is.own;
   view = same ∙ is.view;
+  limit = (let low : kept.view ≤ most_view = is.limit in omega arith);
   suspects = λ v j low few. ap (λ es. has_master (unwrap_or (at_view es v) []) j) suspects ∙ is.suspects v j low few;
   reports = λ v j. ap (λ es. at_place es v j) kept_reports ∙ is.reports v j;
   plans = λ v. ap (λ es. at_view es v) plans ∙ is.plans v;
@@ -122,24 +120,20 @@ unmarked zero v = refl
 unmarked (suc n) zero = refl
 unmarked (suc n) (suc v) = unmarked n v
 
-greatest_to-never : (m : ℕ) → greatest_to (λ v. false) m ≡ 0
-unfolding greatest_to
-greatest_to-never zero = refl
-greatest_to-never (suc m) = greatest_to-never m
-
 -- nothing known and nothing said
-view-none : (g : Group) → 1 ≤ g.q → 0 ≡ view g []
-view-none g some =
-    sym (view-is g [] ∙ greatest_to-same (reached g []) (λ v. false) most_view (λ v least most. ap (λ b. b || false) (quorum-none g.n g.q some)) ∙ greatest_to-never most_view)
+view-none : (g : Group) → 0 ≡ view g []
+unfolding view
+view-none g = refl
 
-pub views-none : (g : Group) (me : ℕ) (kept : Kept) → 1 ≤ g.q → kept.group.n ≡ g.n → kept.group.q ≡ g.q → kept.me ≡ me → kept.view ≡ 0 → kept.suspects ≡ [] → kept.reports ≡ [] → kept.plans ≡ []
+pub views-none : (g : Group) (me : ℕ) (kept : Kept) → kept.group.n ≡ g.n → kept.group.q ≡ g.q → kept.me ≡ me → kept.view ≡ 0 → kept.suspects ≡ [] → kept.reports ≡ [] → kept.plans ≡ []
     → kept.reported ≡ replicate 256 false → kept.opened ≡ replicate 256 false → AreViewsOf g me kept [] []
 unfolding first_report first_new_view
-views-none g me kept some n q own view suspects reports plans reported opened = record {
+views-none g me kept n q own view suspects reports plans reported opened = record {
   masters = n;
   quorum = q;
   own = own;
-  view = view ∙ view-none g some;
+  view = view ∙ view-none g;
+  limit = (let e : kept.view ≡ 0 = view in omega arith);
   suspects = λ v j low few. ap (λ es. has_master (unwrap_or (at_view es v) []) j) suspects;
   reports = λ v j. ap (λ es. at_place es v j) reports;
   plans = λ v. ap (λ es. at_view es v) plans;

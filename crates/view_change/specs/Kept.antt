@@ -77,6 +77,7 @@ pub record AreViewsOf (g : Group) (me : ℕ) (kept : Kept) (known : List (Signed
   pub quorum : kept.group.q ≡ g.q
   pub own : kept.me ≡ me
   pub view : kept.view ≡ view g known
+  pub limit : kept.view ≤ most_view
   pub suspects : (v master : ℕ) → v < most_view → master < g.n → has_master (suspects_of kept v) master ≡ list_any (is_suspect v master) known
   pub reports : (v master : ℕ) → at_place kept.reports v master ≡ first_report known v master
   pub plans : (v : ℕ) → at_view kept.plans v ≡ option_map (plan_in_new_view g) (first_new_view known v)

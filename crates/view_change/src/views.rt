@@ -1,4 +1,4 @@
-ghost use Rattle.std.specs.Prelude.{◌≡◌, ◌≢◌, ◌++◌, ◌∷◌, ◌≤◌, ℕ, false, List, [], IsTrue, OnOk, OnErr, IfOk, length, map, max, is_some, unwrap_or, option_copied, slice_set, take, ◌||◌, if◌then◌else◌};
+ghost use Rattle.std.specs.Prelude.{◌≡◌, ◌≢◌, ◌++◌, ◌∷◌, ◌≤◌, ◌<◌, ℕ, false, List, [], IsTrue, OnOk, OnErr, IfOk, length, map, max, is_some, unwrap_or, option_copied, slice_set, take, ◌||◌, if◌then◌else◌};
 ghost use Rattle.std.specs.Option.{option_to_list, option_map};
 ghost use Rattle.std.specs.List.{slice_index_or};
 ghost use Rattle.message_types.specs.declared.signed.Signed.{Signed as SignedWord};
@@ -6,7 +6,7 @@ ghost use Rattle.message_types.specs.declared.body.Body.{Body as Word};
 ghost use Rattle.message_types.specs.declared.views.Report.{Report as ReportWord};
 ghost use Rattle.message_types.specs.declared.body.Body.TheVariants as body;
 ghost use Rattle.message_types.specs.Parts.{as_frame};
-ghost use Rattle.protocol_rules.specs.Group.{Group, group_of};
+ghost use Rattle.protocol_rules.specs.Group.{Group, group_of, most_view};
 ghost use Rattle.protocol_rules.specs.Views as rules;
 ghost use Rattle.protocol_rules.specs.Facts.{facts_of};
 ghost use Rattle.protocol_rules.specs.Order.{plan_known};
@@ -76,11 +76,12 @@ impl Views {
     }
 
     /// Takes the next word known, a vote of `signer` against the leader of view `v`. Two votes of one master
-    /// count once.
+    /// count once. One against the leader of a view that none follows is passed over.
     pub fn take_suspect(&mut self, signer: u32, v: u64) -> Result<(), Want>
-        ensures ok { OnOk result ((g : Group) (me : ℕ) (known : List (SignedWord Word)) (said : List Word) (sig : List ℕ)
+        ensures ok { OnOk result (v < most_view → (g : Group) (me : ℕ) (known : List (SignedWord Word)) (said : List Word) (sig : List ℕ)
             → AreViewsOf g me self.old known said
             → AreViewsOf g me self.new (known ++ record { signer = signer; body = body.Suspect record { v = v }; sig = sig } ∷ []) said) }
+        ensures passed { OnOk result (most_view ≤ v → self.new ≡ self.old) }
         ensures err { OnErr result (self.new ≡ self.old) }
     {
         if signer >= self.sizes.n || v >= MOST_VIEW {
@@ -109,20 +110,22 @@ impl Views {
         Ok(())
     }
 
-    /// Takes the next word known, a new view. The plan of the first for a view is that view's.
+    /// Takes the next word known, a new view. The plan of the first for a view is that view's. One of a view that
+    /// there isn't is passed over.
     pub fn take_new_view(&mut self, frame: &Signed<NewView>) -> Result<(), Want>
         requires { IsTrue (are_spelled (map (λ r. r.body) frame.now.body.reports)) }
-        ensures ok { OnOk result ((g : Group) (me : ℕ) (known : List (SignedWord Word)) (said : List Word)
+        ensures ok { OnOk result (frame.now.body.v ≤ most_view → (g : Group) (me : ℕ) (known : List (SignedWord Word)) (said : List Word)
             → AreViewsOf g me self.old known said → AreViewsOf g me self.new (known ++ as_frame body.NewView frame.now ∷ []) said) }
+        ensures passed { OnOk result (most_view < frame.now.body.v → self.new ≡ self.old) }
         ensures err { OnErr result (self.new ≡ self.old) }
     {
         let v = frame.body.v;
-        if self.plans.contains_key(&v) {
+        if v > MOST_VIEW || self.plans.contains_key(&v) {
             return Ok(());
         }
         let plan = plan_of_new_view(self.alloc, &self.sizes, &frame.body)?;
         self.plans.insert(v, plan)?;
-        self.view = view_after(self.view, v <= MOST_VIEW, v);
+        self.view = self.view.max(v);
         Ok(())
     }
 

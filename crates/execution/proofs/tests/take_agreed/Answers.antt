@@ -4,7 +4,7 @@ use Rattle.std.specs.List.{list_all}
 use Rattle.std.proofs.lemmas.Bool.{and_from, le-leb, eq-eqb}
 use Rattle.protocol_rules.specs.Group.{Group, most_number}
 use Rattle.protocol_rules.specs.Places.{are_rows, is_row}
-use Rattle.summary_matrix.proofs.Halving.{most_number-is}
+use Rattle.summary_matrix.proofs.Greatest.{most_number-is}
 use Rattle.execution.proofs.tests.take_agreed.Goals as goal
 
 row_placed : (g : Group) (first second : ℕ) → g.n ≡ 4 → first ≤ 4096 → second ≤ 4096 → is_row g (first ∷ second ∷ 0 ∷ 0 ∷ []) ≡ true

@@ -1,4 +1,4 @@
-use Rattle.std.proofs.Common.{◌≡◌, ◌≤◌, [], ◌∷◌, ◌++◌, refl, ◌∙◌, ap, subst, arith}
+use Rattle.std.proofs.Common.{◌≡◌, ◌≤◌, [], ◌∷◌, ◌++◌, true, refl, sym, ◌∙◌, ap, subst, arith}
 use Rattle.std.proofs.lemmas.Result.{on_ok_weaker}
 use Rattle.message_types.specs.declared.signed.Signed.{Signed}
 use Rattle.message_types.specs.declared.body.Body.{Body}
@@ -10,6 +10,7 @@ use Rattle.view_change.specs.Kept.{AreViewsOf}
 use Rattle.view_change.proofs.Others.{other_passed}
 use Rattle.view_change.proofs.InPlace.{new_view-spelled}
 use Rattle.master_knowledge.proofs.OfKind.{same_part, no_view_word}
+use Rattle.master_knowledge.proofs.Whole.{suspect_within, new_view_within}
 use Rattle.master_knowledge.proofs.view_words.take_view_part.Goals as goal
 
 pub take_new_view-requires : goal.take_new_view-requires
@@ -22,12 +23,16 @@ take_new_view-requires c =
     ∙ c.requires.whole)
 
 pub returns-in-Suspect : goal.returns-in-Suspect
-returns-in-Suspect c = record {
-  ok = on_ok_weaker c.take_suspect.result (λ took g me known said is.
-      subst (λ (f : Signed Body). AreViewsOf g me c.take_suspect.new.self (known ++ f ∷ []) said)
-      (same_part body.Suspect c.args.part.now c.in-Suspect.suspect c.in-Suspect.suspect c.args.part.now.sig c.in-Suspect.is refl refl)
-      (took g me known said c.args.part.now.sig is)) c.take_suspect.ensures.ok;
-}
+returns-in-Suspect c =
+    let whole = subst (λ (f : Signed Body). list_all (in_place c.requires.group) (parts f) ≡ true)
+    (sym (same_part body.Suspect c.args.part.now c.in-Suspect.suspect c.in-Suspect.suspect c.args.part.now.sig c.in-Suspect.is refl refl)) c.requires.whole in
+    let low = suspect_within c.requires.group record { signer = c.args.part.now.signer; body = c.in-Suspect.suspect; sig = c.args.part.now.sig } whole in
+    record {
+      ok = on_ok_weaker c.take_suspect.result (λ took g me known said is.
+          subst (λ (f : Signed Body). AreViewsOf g me c.take_suspect.new.self (known ++ f ∷ []) said)
+          (same_part body.Suspect c.args.part.now c.in-Suspect.suspect c.in-Suspect.suspect c.args.part.now.sig c.in-Suspect.is refl refl)
+          (took low g me known said c.args.part.now.sig is)) c.take_suspect.ensures.ok;
+    }
 
 pub returns-in_ok-copy-in-Report-2 : goal.returns-in_ok-copy-in-Report-2
 returns-in_ok-copy-in-Report-2 c = record {
@@ -38,12 +43,16 @@ returns-in_ok-copy-in-Report-2 c = record {
 }
 
 pub returns-in_ok-copy-in-NewView-2 : goal.returns-in_ok-copy-in-NewView-2
-returns-in_ok-copy-in-NewView-2 c = record {
-  ok = on_ok_weaker c.take_new_view.result (λ took g me known said is.
-      subst (λ (f : Signed Body). AreViewsOf g me c.take_new_view.new.self (known ++ f ∷ []) said)
-      (same_part body.NewView c.args.part.now c.in-NewView.new_view c.in_ok-copy-in-NewView.field-0 c.in_ok-copy-in-NewView-2.field-0 c.in-NewView.is c.in_ok-copy-in-NewView.ensures c.in_ok-copy-in-NewView-2.ensures)
-      (took g me known said is)) c.take_new_view.ensures.ok;
-}
+returns-in_ok-copy-in-NewView-2 c =
+    let whole = subst (λ (f : Signed Body). list_all (in_place c.requires.group) (parts f) ≡ true)
+    (sym (same_part body.NewView c.args.part.now c.in-NewView.new_view c.in_ok-copy-in-NewView.field-0 c.in_ok-copy-in-NewView-2.field-0 c.in-NewView.is c.in_ok-copy-in-NewView.ensures c.in_ok-copy-in-NewView-2.ensures)) c.requires.whole in
+    let low = new_view_within c.requires.group record { signer = c.args.part.now.signer; body = c.in_ok-copy-in-NewView.field-0; sig = c.in_ok-copy-in-NewView-2.field-0 } whole in
+    record {
+      ok = on_ok_weaker c.take_new_view.result (λ took g me known said is.
+          subst (λ (f : Signed Body). AreViewsOf g me c.take_new_view.new.self (known ++ f ∷ []) said)
+          (same_part body.NewView c.args.part.now c.in-NewView.new_view c.in_ok-copy-in-NewView.field-0 c.in_ok-copy-in-NewView-2.field-0 c.in-NewView.is c.in_ok-copy-in-NewView.ensures c.in_ok-copy-in-NewView-2.ensures)
+          (took low g me known said is)) c.take_new_view.ensures.ok;
+    }
 
 pub returns-in_default : goal.returns-in_default
 returns-in_default c = record {

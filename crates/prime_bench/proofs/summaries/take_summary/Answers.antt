@@ -3,7 +3,7 @@ use Rattle.std.specs.List.{list_all}
 use Rattle.std.proofs.lemmas.Bool.{and_from, le-leb, lt-ltb, eq-eqb}
 use Rattle.message_types.specs.declared.preordering.PoSummary.{PoSummary}
 use Rattle.protocol_rules.specs.Group.{most_number}
-use Rattle.summary_matrix.proofs.Halving.{most_number-is}
+use Rattle.summary_matrix.proofs.Greatest.{most_number-is}
 use Rattle.prime_bench.proofs.summaries.take_summary.Goals as goal
 
 abbrev numbers_of : PoSummary → List ℕ

@@ -2,7 +2,7 @@ use Rattle.std.proofs.Common.{◌≡◌, ◌<◌, ℕ, true, ◌&&◌, List, len
 use Rattle.std.specs.List.{list_all}
 use Rattle.std.proofs.lemmas.Bool.{and_from, lt-ltb, eq-eqb}
 use Rattle.protocol_rules.specs.Group.{most_number}
-use Rattle.summary_matrix.proofs.Halving.{most_number-is}
+use Rattle.summary_matrix.proofs.Greatest.{most_number-is}
 use Rattle.summary_matrix.proofs.tests.take_numbers.Goals as goal
 
 placed : (n signer : ℕ) (xs ys : List ℕ) → n ≡ 4 → signer < 4 → length ys ≡ 4 → list_all (λ x. nat_le x 4096) ys ≡ true → xs ≡ ys → (nat_lt signer n && (nat_eq (length xs) n && list_all (λ x. nat_le x most_number) xs)) ≡ true

@@ -4,7 +4,7 @@ use Rattle.protocol_rules.specs.Group.{Group, group_of, most_number}
 use Rattle.protocol_rules.specs.Matrix.{eligible, reach}
 use Rattle.protocol_rules.specs.Execution.{Request, eligible_requests, newly_eligible}
 use Rattle.summary_matrix.specs.Held.{TellsEach}
-use Rattle.summary_matrix.proofs.Halving.{most_number-is}
+use Rattle.summary_matrix.proofs.Greatest.{most_number-is}
 use Rattle.summary_matrix.proofs.Loops.{masters_few}
 use Rattle.execution.specs.Ran.{Ran, request_of, certificate}
 use Rattle.execution.specs.Progress.{requests_from}

@@ -1,9 +1,10 @@
-use Rattle.std.proofs.Common.{◌≡◌, ◌++◌, ◌∷◌, [], refl, sym, ◌∙◌, ap}
+use Rattle.std.proofs.Common.{◌≡◌, ◌≤◌, arith, ◌++◌, ◌∷◌, [], refl, sym, ◌∙◌, ap}
 use Rattle.protocol_rules.specs.declared.facts.OrderFact.{OrderFact}
+use Rattle.protocol_rules.specs.Group.{most_number}
 use Rattle.protocol_rules.specs.declared.facts.OrderFact.TheVariants as fact
 use Rattle.global_order.specs.Unsaid.{said_in}
 use Rattle.global_order.proofs.Alike.{Kept, alike-itself, held-alike, held-over, kept}
-use Rattle.global_order.proofs.Taking.{choices-none, offers-other, stable-mark, raised-limit}
+use Rattle.global_order.proofs.Taking.{choices-none, offers-other, stable-mark, raised-limit, most_number-is}
 use Rattle.global_order.proofs.Touching.{pending-other}
 use Rattle.global_order.proofs.Viewing.{views-other}
 use Rattle.global_order.proofs.Voting.{prepares-other, commits-other, marks-push}
@@ -40,9 +41,15 @@ invariant_of-self-2 c =
       marked = held.marked;
       marked_limit = held.marked_limit;
       stable = λ g is. stable-mark g a.sizes.n a.sizes.q a.facts.items c.args.frame.now c.note_mark.new.marks c.count_marks-count.result a.stable c.raised-self-inside.result is new_marks c.count_marks-count.ensures (held.stable g is) c.raised-self-inside.ensures;
-      stable_limit = rw c.raised-self-inside.ensures (raised-limit _ a.stable c.args.frame.now.body.s held.stable_limit);
+      stable_limit = rw c.raised-self-inside.ensures (raised-limit _ a.stable c.args.frame.now.body.s held.stable_limit (let limit : most_number ≡ 4096 = most_number-is in let low : c.args.frame.now.body.s ≤ 4096 = c.if-s-gt-MOST_NUMBER.false in omega arith));
       prepares_pending = pending-other (said_in a.told.prepares) a.facts.items x a.offers.pending (λ v. refl) (λ v s. refl) held.prepares_pending;
       commits_pending = held.commits_pending;
       highest = held.highest;
       gapless = held.gapless;
     }
+
+pub returns-then-s-gt-MOST_NUMBER-clause-taken : goal.returns-then-s-gt-MOST_NUMBER-clause-taken
+returns-then-s-gt-MOST_NUMBER-clause-taken c = λ low. let limit : most_number ≡ 4096 = most_number-is in absurd (omega (arith, c.if-s-gt-MOST_NUMBER.true))
+
+pub returns-clause-passed : goal.returns-clause-passed
+returns-clause-passed c = λ high. let limit : most_number ≡ 4096 = most_number-is in absurd (omega (arith, c.if-s-gt-MOST_NUMBER.false))

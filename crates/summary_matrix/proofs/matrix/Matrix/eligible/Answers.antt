@@ -1,10 +1,8 @@
 use Rattle.std.proofs.Common.{◌≡◌, length, take, ◌∙◌, ap, arith}
 use Rattle.std.proofs.lemmas.List.{length-set}
-use Rattle.protocol_rules.specs.Words.{greatest_to}
-use Rattle.protocol_rules.specs.Group.{most_number}
 use Rattle.protocol_rules.specs.Matrix.{column, eligible}
 use Rattle.summary_matrix.specs.Held.{Summaries, rows_at}
-use Rattle.summary_matrix.proofs.Halving.{reaches, eligible-is}
+use Rattle.summary_matrix.proofs.Greatest.{reached, eligible-is}
 use Rattle.summary_matrix.proofs.Loops.{told_more}
 use Rattle.summary_matrix.proofs.Latest.{eligible-known}
 use Rattle.summary_matrix.proofs.matrix.Matrix.eligible.Goals as goal
@@ -14,9 +12,9 @@ loop-place-preserved c =
     let many : length c.loop-place.reach.numbers ≡ 14 = c.loop-place.invariant.0 in
     let n : c.self.inside.sizes.n ≡ c.args.self.now.group.n = ap (λ (m : Summaries). m.group.n) c.self.view_is in
     let q : c.self.inside.sizes.q ≡ c.args.self.now.group.q = ap (λ (m : Summaries). m.group.q) c.self.view_is in
-    let told : c.greatest_reached.result ≡ greatest_to (reaches c.args.self.now.group.q (column (rows_at c.args.self.now.group.n c.args.self.now.latest) c.loop-place.place)) most_number =
-    c.greatest_reached.ensures ∙ ap (λ xs. greatest_to (reaches c.self.inside.sizes.q xs) most_number) (c.leading.ensures ∙ ap (λ k. take k c.column-numbers.result) n ∙ c.column-numbers.ensures)
-    ∙ ap (λ q. greatest_to (reaches q (column (rows_at c.args.self.now.group.n c.args.self.now.latest) c.loop-place.place)) most_number) q in (
+    let told : c.greatest_reached.result ≡ reached c.args.self.now.group.q (column (rows_at c.args.self.now.group.n c.args.self.now.latest) c.loop-place.place) (column (rows_at c.args.self.now.group.n c.args.self.now.latest) c.loop-place.place) =
+    c.greatest_reached.ensures ∙ ap (λ xs. reached c.self.inside.sizes.q xs xs) (c.leading.ensures ∙ ap (λ k. take k c.column-numbers.result) n ∙ c.column-numbers.ensures)
+    ∙ ap (λ q. reached q (column (rows_at c.args.self.now.group.n c.args.self.now.latest) c.loop-place.place) (column (rows_at c.args.self.now.group.n c.args.self.now.latest) c.loop-place.place)) q in (
       length-set c.loop-place.reach.numbers c.loop-place.place c.greatest_reached.result ∙ many,
       told_more c.loop-place.reach.numbers c.loop-place.place c.greatest_reached.result (eligible c.args.self.now.group (rows_at c.args.self.now.group.n c.args.self.now.latest)) (omega arith) c.loop-place.invariant.1 (told ∙ eligible-is c.args.self.now.group (rows_at c.args.self.now.group.n c.args.self.now.latest) c.loop-place.place),
     )

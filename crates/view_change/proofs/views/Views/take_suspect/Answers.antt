@@ -1,10 +1,11 @@
-use Rattle.std.proofs.Common.{◌≡◌, ◌≤◌, ◌+◌, ◌⊎◌, inl, inr, ap, ◌∙◌, arith, Some, max, nat_eq, if◌then◌else◌}
+use Rattle.std.proofs.Common.{◌≡◌, ◌≤◌, ◌+◌, ap, ◌∙◌, arith, Some, max, nat_eq, if◌then◌else◌}
 use Rattle.quorum_sets.specs.Masters.{with_master, has_master}
 use Rattle.quorum_sets.specs.Quorum.{has_quorum}
+use Rattle.protocol_rules.specs.Group.{most_view}
 use Rattle.view_change.specs.Kept.{Kept, at_view, suspects_of}
 use Rattle.view_change.proofs.Maps.{view_put}
-use Rattle.view_change.proofs.Reached.{quorum-is, masters_few}
-use Rattle.view_change.proofs.Known.{suspect-passed, suspect-taken}
+use Rattle.view_change.proofs.Reached.{quorum-is, quorum_some, masters_few}
+use Rattle.view_change.proofs.Known.{most_view-is, suspect-passed, suspect-taken}
 use Rattle.view_change.proofs.views.Views.take_suspect.Goals.{then-signer-self-via-then-signer-self, then-signer-self-via-else-signer-self+then-v-ge-MOST_VIEW}
 use Rattle.view_change.proofs.views.Views.take_suspect.Goals as goal
 
@@ -12,14 +13,20 @@ pub add-requires : goal.add-requires
 add-requires c = let few = masters_few c.self.inside.sizes in omega arith
 
 pub returns-then-signer-self-clause-ok : goal.returns-then-signer-self-clause-ok
-returns-then-signer-self-clause-ok c = λ g me known said sig is.
+returns-then-signer-self-clause-ok c = λ within g me known said sig is.
     let masters : c.self.inside.sizes.n ≡ g.n = ap (λ (v : Kept). v.group.n) c.self.view_is ∙ is.masters in
-    let out : (g.n ≤ c.args.signer) ⊎ (255 ≤ c.args.v) =
-    elim c.then-signer-self.branch [ then-signer-self-via-then-signer-self w ↦ inl (omega (arith, w.if-signer-self.true)) | then-signer-self-via-else-signer-self+then-v-ge-MOST_VIEW w ↦ inr (omega (arith, w.if-v-ge-MOST_VIEW.true)) ] in
-    suspect-passed g me c.args.self.now known said c.args.signer c.args.v sig out is
+    let quorum : c.self.inside.sizes.q ≡ g.q = ap (λ (v : Kept). v.group.q) c.self.view_is ∙ is.quorum in
+    let some : 1 ≤ c.self.inside.sizes.q = quorum_some c.self.inside.sizes in
+    let top : most_view ≡ 255 = most_view-is in
+    let out : g.n ≤ c.args.signer =
+    elim c.then-signer-self.branch [ then-signer-self-via-then-signer-self w ↦ omega (arith, w.if-signer-self.true) | then-signer-self-via-else-signer-self+then-v-ge-MOST_VIEW w ↦ absurd (omega (arith, w.if-v-ge-MOST_VIEW.true)) ] in
+    suspect-passed g me c.args.self.now known said c.args.signer c.args.v sig (omega arith) out is
+
+pub returns-clause-passed : goal.returns-clause-passed
+returns-clause-passed c = λ out. let top : most_view ≡ 255 = most_view-is in absurd (omega (arith, c.if-v-ge-MOST_VIEW.false))
 
 pub returns-clause-ok : goal.returns-clause-ok
-returns-clause-ok c = λ g me known said sig is.
+returns-clause-ok c = λ within g me known said sig is.
     let few = masters_few c.self.inside.sizes in
     let masters : c.self.inside.sizes.n ≡ g.n = ap (λ (v : Kept). v.group.n) c.self.view_is ∙ is.masters in
     let quorum : c.self.inside.sizes.q ≡ g.q = ap (λ (v : Kept). v.group.q) c.self.view_is ∙ is.quorum in
