@@ -6,7 +6,7 @@ use Rattle.message_types.specs.Digests.{digest_of_update, digest_of_rows}
 use Rattle.message_types.specs.Spelling.{has_spelling}
 use Rattle.quorum_sets.specs.Masters.{numbers_below}
 use Rattle.quorum_sets.specs.Quorum.{has_quorum}
-use Rattle.protocol_rules.specs.Words.{first_met, greatest_to, run_from, numbers_from, best_by, last_below, in_order, each_once}
+use Rattle.protocol_rules.specs.Words.{first_met, run_from, numbers_from, best_by, last_below, in_order, each_once}
 use Rattle.protocol_rules.specs.Group.{most_number, window, most_view, mark_step}
 use Rattle.protocol_rules.specs.Facts.{facts_of, rows_known}
 use Rattle.protocol_rules.specs.Plans.{chosen, plan_of}
@@ -18,14 +18,14 @@ use Rattle.protocol_rules.specs.Views.{view, is_open}
 use Rattle.protocol_rules.specs.Measures.{turnaround, acceptable, own_bound}
 use Rattle.protocol_rules.specs.Master.{known_at, executed, waits}
 use Rattle.history_rules.specs.Setup.{own, stands}
-use Rattle.history_rules.specs.Legal.{IsLegal, heard, known_of, executions}
+use Rattle.history_rules.specs.Legal.{IsLegal, heard_in, known_of, executions}
 use Rattle.history_rules.specs.Counts.{forged, alike, intruded_masters}
 use Rattle.agreement.specs.Laws.{HasSizes}
 use Rattle.history_examples.specs.Words.{update, other_update}
 use Rattle.history_examples.specs.Disagreed as it
 use Rattle.history_examples.proofs.Apart.{apart}
-use Rattle.history_examples.proofs.Short.{short_answers, short_says}
-use Rattle.history_examples.proofs.Entries.{each_may_come, EachSays, then_says, legal_history}
+use Rattle.history_examples.proofs.Minds.{short_answers, short_says, EachSays, in_short, then_says}
+use Rattle.history_examples.proofs.Entries.{each_may_come, legal_history}
 use Rattle.audit_counts.proofs.Forged.{forged_counts}
 use Rattle.audit_counts.proofs.Alike.{alike_counts}
 use Rattle.history_examples.specs.Examples.{TwoIntrudedDisagree}
@@ -35,16 +35,16 @@ unfolding own stands has_spelling digest_of_update digest_of_rows most_number mo
 all_fit = refl
 
 introduced_says : EachSays it.setup [] it.introduced
-unfolding short_says short_answers own heard known_at numbers_below has_quorum first_met greatest_to run_from numbers_from best_by last_below in_order each_once most_number window most_view mark_step facts_of rows_known chosen plan_of certified vector latest rows_of_frames eligible is_voted prepared offered ordered ordered_run stable last_certificate eligible_requests certified_run first_missing kept_after executed_of waiting_of view is_open turnaround acceptable own_bound executed waits digest_of_update digest_of_rows sha256 digest_bytes hash_after compress rounds schedule first_words u16_bytes u32_bytes u64_bytes
-introduced_says = (refl, (refl, (refl, (refl, (refl, (refl, (refl, (refl, (refl, tt)))))))))
+unfolding short_says short_answers own heard_in known_at numbers_below has_quorum first_met run_from numbers_from best_by last_below in_order each_once most_number window most_view mark_step facts_of rows_known chosen plan_of certified vector latest rows_of_frames eligible is_voted prepared offered ordered ordered_run stable last_certificate eligible_requests certified_run first_missing kept_after executed_of waiting_of view is_open turnaround acceptable own_bound executed waits digest_of_update digest_of_rows sha256 digest_bytes hash_after compress rounds schedule first_words u16_bytes u32_bytes u64_bytes
+introduced_says = in_short it.setup [] it.introduced (refl, (refl, (refl, (refl, (refl, (refl, (refl, (refl, (refl, tt)))))))))
 
 ordered_says : EachSays it.setup it.introduced it.ordered
-unfolding short_says short_answers own heard known_at numbers_below has_quorum first_met greatest_to run_from numbers_from best_by last_below in_order each_once most_number window most_view mark_step facts_of rows_known chosen plan_of certified vector latest rows_of_frames eligible is_voted prepared offered ordered ordered_run stable last_certificate eligible_requests certified_run first_missing kept_after executed_of waiting_of view is_open turnaround acceptable own_bound executed waits digest_of_update digest_of_rows sha256 digest_bytes hash_after compress rounds schedule first_words u16_bytes u32_bytes u64_bytes
-ordered_says = (refl, (refl, (refl, (refl, tt))))
+unfolding short_says short_answers own heard_in known_at numbers_below has_quorum first_met run_from numbers_from best_by last_below in_order each_once most_number window most_view mark_step facts_of rows_known chosen plan_of certified vector latest rows_of_frames eligible is_voted prepared offered ordered ordered_run stable last_certificate eligible_requests certified_run first_missing kept_after executed_of waiting_of view is_open turnaround acceptable own_bound executed waits digest_of_update digest_of_rows sha256 digest_bytes hash_after compress rounds schedule first_words u16_bytes u32_bytes u64_bytes
+ordered_says = in_short it.setup it.introduced it.ordered (refl, (refl, (refl, (refl, tt))))
 
 executed_says : EachSays it.setup (it.introduced ++ it.ordered) it.executed
-unfolding short_says short_answers own heard known_at numbers_below has_quorum first_met greatest_to run_from numbers_from best_by last_below in_order each_once most_number window most_view mark_step facts_of rows_known chosen plan_of certified vector latest rows_of_frames eligible is_voted prepared offered ordered ordered_run stable last_certificate eligible_requests certified_run first_missing kept_after executed_of waiting_of view is_open turnaround acceptable own_bound executed waits digest_of_update digest_of_rows sha256 digest_bytes hash_after compress rounds schedule first_words u16_bytes u32_bytes u64_bytes
-executed_says = (refl, (refl, (refl, (refl, (refl, tt)))))
+unfolding short_says short_answers own heard_in known_at numbers_below has_quorum first_met run_from numbers_from best_by last_below in_order each_once most_number window most_view mark_step facts_of rows_known chosen plan_of certified vector latest rows_of_frames eligible is_voted prepared offered ordered ordered_run stable last_certificate eligible_requests certified_run first_missing kept_after executed_of waiting_of view is_open turnaround acceptable own_bound executed waits digest_of_update digest_of_rows sha256 digest_bytes hash_after compress rounds schedule first_words u16_bytes u32_bytes u64_bytes
+executed_says = in_short it.setup (it.introduced ++ it.ordered) it.executed (refl, (refl, (refl, (refl, (refl, tt)))))
 
 all_says : EachSays it.setup [] it.history
 all_says =
@@ -72,11 +72,11 @@ unfolding numbers_below
 two_intruded = refl
 
 second_executed : executions it.setup it.history 2 ≡ update ∷ []
-unfolding known_of own heard known_at numbers_below has_quorum first_met greatest_to run_from numbers_from best_by last_below in_order each_once most_number window most_view mark_step facts_of rows_known chosen plan_of certified vector latest rows_of_frames eligible is_voted prepared offered ordered ordered_run stable last_certificate eligible_requests certified_run first_missing kept_after executed_of waiting_of view is_open turnaround acceptable own_bound executed waits digest_of_update digest_of_rows sha256 digest_bytes hash_after compress rounds schedule first_words u16_bytes u32_bytes u64_bytes
+unfolding known_of own heard_in known_at numbers_below has_quorum first_met run_from numbers_from best_by last_below in_order each_once most_number window most_view mark_step facts_of rows_known chosen plan_of certified vector latest rows_of_frames eligible is_voted prepared offered ordered ordered_run stable last_certificate eligible_requests certified_run first_missing kept_after executed_of waiting_of view is_open turnaround acceptable own_bound executed waits digest_of_update digest_of_rows sha256 digest_bytes hash_after compress rounds schedule first_words u16_bytes u32_bytes u64_bytes
 second_executed = refl
 
 third_executed : executions it.setup it.history 3 ≡ other_update ∷ []
-unfolding known_of own heard known_at numbers_below has_quorum first_met greatest_to run_from numbers_from best_by last_below in_order each_once most_number window most_view mark_step facts_of rows_known chosen plan_of certified vector latest rows_of_frames eligible is_voted prepared offered ordered ordered_run stable last_certificate eligible_requests certified_run first_missing kept_after executed_of waiting_of view is_open turnaround acceptable own_bound executed waits digest_of_update digest_of_rows sha256 digest_bytes hash_after compress rounds schedule first_words u16_bytes u32_bytes u64_bytes
+unfolding known_of own heard_in known_at numbers_below has_quorum first_met run_from numbers_from best_by last_below in_order each_once most_number window most_view mark_step facts_of rows_known chosen plan_of certified vector latest rows_of_frames eligible is_voted prepared offered ordered ordered_run stable last_certificate eligible_requests certified_run first_missing kept_after executed_of waiting_of view is_open turnaround acceptable own_bound executed waits digest_of_update digest_of_rows sha256 digest_bytes hash_after compress rounds schedule first_words u16_bytes u32_bytes u64_bytes
 third_executed = refl
 
 pub two_intruded_disagree : TwoIntrudedDisagree

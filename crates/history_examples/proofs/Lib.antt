@@ -1,7 +1,11 @@
 pub mod Short
+pub mod Minds
 pub mod Entries
 pub mod Apart
 pub mod Plain
 pub mod Relayed
 pub mod Disagreed
 pub mod Forged
+pub mod Changed
+pub mod Shared
+pub mod Halted

@@ -1,30 +1,25 @@
--- What a master answers, by a shorter way: the rows that go over all 4,096 numbers go only as far as the words known name
+-- Rows of a master's answers by a shorter way: those that go over all 4,096 numbers go only as far as the words known name
 -- numbers. So the answers of an example can be computed.
-use Rattle.std.proofs.Common.{◌≡◌, ℕ, zero, suc, ◌+◌, ◌<◌, ◌≤◌, Bool, true, false, ◌&&◌, ◌||◌, not, cond, List, [], ◌∷◌, ◌++◌, Some, None, map, refl, sym, ◌∙◌, ap, inl, inr, ◌⊎◌, length, nat_eq, nat_le, arith}
-use Rattle.std.proofs.lemmas.Bool.{ne_eqb, lt-leb, leb-true, cases_lt}
-use Rattle.std.specs.Prelude.{if◌then◌else◌, Option, take, nat_lt}
-use Rattle.std.specs.List.{list_any, filter_map, flat_map, cons_option}
+use Rattle.std.proofs.Common.{◌≡◌, ℕ, zero, suc, ◌+◌, ◌<◌, ◌≤◌, Bool, true, false, ◌&&◌, ◌||◌, not, cond, List, [], ◌∷◌, ◌++◌, Some, None, map, refl, ◌∙◌, ap, nat_eq, arith}
+use Rattle.std.proofs.lemmas.Bool.{ne_eqb}
+use Rattle.std.specs.Prelude.{if◌then◌else◌, Option, nat_lt}
+use Rattle.std.specs.Str.{bytes_eq}
+use Rattle.std.specs.List.{list_any, find, flat_map, cons_option}
 use Rattle.message_types.specs.declared.signed.Signed.{Signed}
 use Rattle.message_types.specs.declared.updates.Update.{Update}
-use Rattle.message_types.specs.declared.vouchers.Order.{Order}
 use Rattle.message_types.specs.declared.body.Body.{Body}
 use Rattle.message_types.specs.declared.body.Body.TheVariants as body
-use Rattle.message_types.specs.Digests.{digest_of_update}
+use Rattle.message_types.specs.Digests.{digest_of_update, digest_of_rows}
 use Rattle.quorum_sets.specs.Masters.{numbers_below}
 use Rattle.protocol_rules.specs.declared.facts.OrderFact.{OrderFact}
 use Rattle.protocol_rules.specs.declared.facts.OrderFact.TheVariants as fact
-use Rattle.protocol_rules.specs.Words.{greatest_of, greatest_to, numbers_from, first_of_list}
-use Rattle.protocol_rules.specs.Group.{Group, most_number, window}
-use Rattle.protocol_rules.specs.Facts.{facts_of}
-use Rattle.protocol_rules.specs.Preorder.{update_requested, updates_requested, acks, ack_due, requests_due, acks_due}
-use Rattle.protocol_rules.specs.Order.{is_voted, mark_by, stable, marks_for, certificates_below, prepare_due, commit_due, marks_due}
-use Rattle.protocol_rules.specs.Views.{view, is_open, report_due, new_view_due}
-use Rattle.protocol_rules.specs.Measures.{ticks_of, waited, pings_due, pongs_due, round_trips_due, tat_reports_due, tat_bounds_due, suspects_due}
-use Rattle.protocol_rules.specs.Reconcile.{asks_for_update, updates_given, give_due, gives_due, asks_for_order, orders_given, give_ordered_due, gives_ordered_due, ask_update_due, ask_order_due}
-use Rattle.history_rules.specs.Events.{Event, Entry, frame_taken, is_tick, is_silent}
-use Rattle.history_rules.specs.Setup.{Setup, room, own}
-use Rattle.history_rules.specs.Legal.{heard, says}
-use Rattle.protocol_rules.specs.Master.{Heard, known_at, taken_at, said_before, told_of, waiting_for, gap_of, summaries_due, preprepares_due, vouchers_due, answers}
+use Rattle.protocol_rules.specs.Words.{or_else, first_met, greatest_of, numbers_from}
+use Rattle.protocol_rules.specs.Group.{Group, most_number}
+use Rattle.protocol_rules.specs.Facts.{rows_known}
+use Rattle.protocol_rules.specs.Preorder.{update_requested, updates_requested, acks, ack_due, acks_due}
+use Rattle.protocol_rules.specs.Order.{is_voted, commit_by, commit_views, is_committed, ordered, gapless}
+use Rattle.protocol_rules.specs.Reconcile.{asks_for_update, updates_given, give_due, gives_due, asks_for_order, orders_given, give_ordered_due, gives_ordered_due}
+use Rattle.protocol_rules.specs.Master.{gap_of}
 
 -- the lesser of two numbers
 abbrev pub lesser : ℕ → ℕ → ℕ
@@ -102,7 +97,7 @@ no_ack : (known : List (Signed Body)) (said : List Body) (j k : ℕ) (b : Bool) 
 no_ack known said j k true e = refl
 no_ack known said j k false e = ap (ack_for j k) e
 
-acks_same : (g : Group) (known : List (Signed Body)) (said : List Body) → acks_due g known said ≡ short_acks g known said
+pub acks_same : (g : Group) (known : List (Signed Body)) (said : List Body) → acks_due g known said ≡ short_acks g known said
 acks_same g known said =
     same_each (λ j. flat_map (ack_due known said j) (numbers_from 1 most_number)) (λ j. flat_map (ack_due known said j) (numbers_from 1 (lesser most_number (highest requested known)))) (numbers_below g.n)
     (λ j. enough (ack_due known said j) 1 most_number (highest requested known)
@@ -134,141 +129,91 @@ none_asked_order me s (f ∷ known) low =
 nothing : {X : Type 0} (a b : Bool) (xs : List X) → a ≡ false → cond (a && b) xs [] ≡ []
 nothing a b xs e = ap (λ t. cond (t && b) xs []) e
 
-gives_same : (g : Group) (me : ℕ) (known : List (Signed Body)) (said : List Body) → gives_due g me known said ≡ short_gives g me known said
+pub gives_same : (g : Group) (me : ℕ) (known : List (Signed Body)) (said : List Body) → gives_due g me known said ≡ short_gives g me known said
 gives_same g me known said =
     same_each (λ j. flat_map (give_due g me known said j) (numbers_from 1 most_number)) (λ j. flat_map (give_due g me known said j) (numbers_from 1 (lesser most_number (highest update_asked known)))) (numbers_below g.n)
     (λ j. enough (give_due g me known said j) 1 most_number (highest update_asked known)
     (λ k h. nothing (list_any (asks_for_update me j k) known) (not (list_any (updates_given j k) said)) _ (none_asked me j k known (omega arith))))
 
-gives_ordered_same : (g : Group) (me : ℕ) (known : List (Signed Body)) (facts : List OrderFact) (said : List Body)
+pub gives_ordered_same : (g : Group) (me : ℕ) (known : List (Signed Body)) (facts : List OrderFact) (said : List Body)
     → gives_ordered_due g me known facts said ≡ short_gives_ordered g me known facts said
 gives_ordered_same g me known facts said =
     enough (give_ordered_due g me known facts said) 1 most_number (highest order_asked known)
     (λ s h. nothing (list_any (asks_for_order me s) known) (not (list_any (orders_given s) said)) _ (none_asked_order me s known (omega arith)))
 
-lesser_low : (a b : ℕ) → a ≤ b → lesser a b ≡ a
-lesser_low zero b h = refl
-lesser_low (suc a) zero h = absurd (omega arith)
-lesser_low (suc a) (suc b) h = ap (λ k. suc k) (lesser_low a b (omega arith))
+-- the number that a commit names
+abbrev committed : OrderFact → ℕ
+committed (fact.Commit f) = f.body.s
+committed _ = 0
 
-lesser_high : (a b : ℕ) → b ≤ a → lesser a b ≡ b
-lesser_high zero zero h = refl
-lesser_high zero (suc b) h = absurd (omega arith)
-lesser_high (suc a) zero h = refl
-lesser_high (suc a) (suc b) h = ap (λ k. suc k) (lesser_high a b (omega arith))
+abbrev committed_view : ℕ → List ℕ → OrderFact → Option ℕ
+committed_view s digest f = elim f [ fact.Commit c ↦ if nat_eq c.body.s s && bytes_eq c.body.digest digest then Some c.body.v else None | _ ↦ None ]
 
--- Where no number above m passes, the greatest is sought up to m.
-greatest_low : (passes : ℕ → Bool) (most m : ℕ) → ((k : ℕ) → m < k → passes k ≡ false) → greatest_to passes most ≡ greatest_to passes (lesser most m)
-unfolding greatest_to
-greatest_low passes zero m none = refl
-greatest_low passes (suc most) m none = by_place (cases_lt m (suc most)) (greatest_low passes most m none)
-  where
-    by_place : (m < suc most) ⊎ (suc most ≤ m) → greatest_to passes most ≡ greatest_to passes (lesser most m) → greatest_to passes (suc most) ≡ greatest_to passes (lesser (suc most) m)
-    by_place (inl above) deeper =
-        ap (λ b. cond b (suc most) (greatest_to passes most)) (none (suc most) above)
-        ∙ (deeper ∙ ap (greatest_to passes) (lesser_high most m (omega arith) ∙ sym (lesser_high (suc most) m (omega arith))))
-    by_place (inr within) deeper = ap (greatest_to passes) (sym (lesser_low (suc most) m within))
+abbrev highest_committed : List OrderFact → ℕ
+highest_committed facts = greatest_of (map committed facts)
 
--- the number that a mark names
-abbrev marked : OrderFact → ℕ
-marked (fact.Mark f) = f.body.s
-marked _ = 0
+no_commit : (s : ℕ) (digest : List ℕ) (f : OrderFact) → committed f < s → committed_view s digest f ≡ None
+no_commit s digest (fact.Commit c) low = ap (λ t. cond (t && bytes_eq c.body.digest digest) (Some c.body.v) None) (ne_eqb c.body.s s (λ is. absurd (omega arith)))
+no_commit s digest _ low = refl
 
-no_mark : (s master : ℕ) (f : OrderFact) → marked f < s → mark_by s master f ≡ None
-no_mark s master (fact.Mark f) low = ap (λ t. cond t (Some f) None) (second_false (nat_eq f.signer master) (nat_eq f.body.s s) (ne_eqb f.body.s s (λ is. absurd (omega arith))))
-no_mark s master _ low = refl
-
-no_marks : (s master : ℕ) (facts : List OrderFact) → greatest_of (map marked facts) < s → filter_map (mark_by s master) facts ≡ []
-no_marks s master [] low = refl
-no_marks s master (f ∷ facts) low =
-    let first : mark_by s master f ≡ None = no_mark s master f (omega arith) in
-    let rest : filter_map (mark_by s master) facts ≡ [] = no_marks s master facts (omega arith) in
+no_views : (facts : List OrderFact) (s : ℕ) (digest : List ℕ) → highest_committed facts < s → commit_views facts s digest ≡ []
+no_views [] s digest low = refl
+no_views (f ∷ facts) s digest low =
+    let first : committed_view s digest f ≡ None = no_commit s digest f (omega arith) in
+    let rest : commit_views facts s digest ≡ [] = no_views facts s digest (omega arith) in
     λ i. cons_option (first i) (rest i)
 
-no_first_marks : (s : ℕ) (facts : List OrderFact) (masters : List ℕ) → greatest_of (map marked facts) < s
-    → filter_map (λ master. first_of_list (filter_map (mark_by s master) facts)) masters ≡ []
-no_first_marks s facts [] low = refl
-no_first_marks s facts (m ∷ masters) low =
-    let first : first_of_list (filter_map (mark_by s m) facts) ≡ None = ap first_of_list (no_marks s m facts low) in
-    let rest : filter_map (λ master. first_of_list (filter_map (mark_by s master) facts)) masters ≡ [] = no_first_marks s facts masters low in
-    λ i. cons_option (first i) (rest i)
+none_found : {X : Type 0} (f : X → Bool) (xs : List X) → ((x : X) → f x ≡ false) → find f xs ≡ None
+none_found f [] none = refl
+none_found f (x ∷ xs) none = ap (λ b. cond b (Some x) (find f xs)) (none x) ∙ none_found f xs none
 
-not_marked : (g : Group) (s : ℕ) (facts : List OrderFact) → 1 ≤ g.q → greatest_of (map marked facts) < s → is_voted g (mark_by s) facts ≡ false
-unfolding is_voted
-not_marked g s facts some low = ap (λ votes. nat_le g.q (length votes)) (no_first_marks s facts (numbers_below g.n) low) ∙ lt-leb g.q 0 (omega arith)
+lower_all : (facts : List OrderFact) (f : OrderFact) (s : ℕ) → highest_committed facts < s → committed f < s → highest_committed (facts ++ f ∷ []) < s
+lower_all [] f s low last = omega arith
+lower_all (x ∷ facts) f s low last =
+    let later : highest_committed (facts ++ f ∷ []) < s = lower_all facts f s (omega arith) last in
+    omega arith
 
--- The stable number, sought up to the greatest mark known; a quorum of none would make each number stable.
-abbrev short_stable : Group → List OrderFact → ℕ
-short_stable g facts = if nat_le 1 g.q then greatest_to (λ s. is_voted g (mark_by s) facts) (lesser most_number (greatest_of (map marked facts))) else stable g facts
+abbrev ordered_in : Group → ℕ → List OrderFact → Option (List (List ℕ))
+ordered_in g s beginning = find (λ rows. is_committed g beginning s (digest_of_rows rows)) (rows_known beginning)
 
-stable_same : (g : Group) (facts : List OrderFact) → stable g facts ≡ short_stable g facts
-unfolding stable
-stable_same g facts = by_quorum (nat_le 1 g.q) refl
-  where
-    by_quorum : (b : Bool) → nat_le 1 g.q ≡ b → stable g facts ≡ cond b (greatest_to (λ s. is_voted g (mark_by s) facts) (lesser most_number (greatest_of (map marked facts)))) (stable g facts)
-    by_quorum true some =
-        greatest_low (λ s. is_voted g (mark_by s) facts) most_number (greatest_of (map marked facts)) (λ s low. not_marked g s facts (leb-true 1 g.q some) low)
-    by_quorum false none = refl
+none_ordered_in : (g : Group) (s : ℕ) (facts : List OrderFact) → highest_committed facts < s → ordered_in g s facts ≡ None
+none_ordered_in g s facts low =
+    none_found (λ rows. is_committed g facts s (digest_of_rows rows)) (rows_known facts)
+    (λ rows. ap (λ views. list_any (λ v. is_voted g (commit_by v s (digest_of_rows rows)) facts) views) (no_views facts s (digest_of_rows rows) low))
 
--- the answers with three rows and the stable number as given
-abbrev answers_with : Group → (List Update → ℕ → List Order) → ℕ → List Heard → Option (Signed Body) → Bool → List Body → List Body → List Body → ℕ → List Body
-answers_with g orders me before took at_tick ack_row give_row order_row base =
-    let known = known_at before took in
-    let facts = facts_of g known in
-    let said = said_before before in
-    let v = view g known in
-    let told = told_of g [] (before ++ record { took = took; is_tick = at_tick; said = [] } ∷ []) in
-    requests_due g me (taken_at before took) said (numbers_below g.clients)
-    ++ ack_row
-    ++ summaries_due g known said at_tick
-    ++ preprepares_due g me known facts said at_tick
-    ++ (if is_open g known then flat_map (prepare_due facts said v) (numbers_from 1 (base + window)) else [])
-    ++ flat_map (commit_due g facts said v) (numbers_from 1 (base + window))
-    ++ pings_due (ticks_of told) at_tick
-    ++ pongs_due g me known said
-    ++ round_trips_due g me known said (ticks_of told)
-    ++ tat_reports_due said v (waited v told) at_tick
-    ++ tat_bounds_due g me known said v at_tick
-    ++ suspects_due g known said v at_tick
-    ++ report_due g known said base (marks_for g facts base) (certificates_below g facts v)
-    ++ new_view_due g me known said
-    ++ ask_update_due said at_tick (waiting_for g known)
-    ++ give_row
-    ++ ask_order_due said at_tick (gap_of g facts)
-    ++ order_row
-    ++ vouchers_due g orders known said
-    ++ marks_due g facts said
+none_met : (g : Group) (s : ℕ) (seen facts : List OrderFact) → highest_committed seen < s → highest_committed facts < s → first_met (ordered_in g s) seen facts ≡ None
+unfolding first_met
+none_met g s seen [] low above = none_ordered_in g s seen low
+none_met g s seen (f ∷ facts) low above =
+    let now : ordered_in g s seen ≡ None = none_ordered_in g s seen low in
+    ap (λ o. or_else o (first_met (ordered_in g s) (seen ++ f ∷ []) facts)) now
+    ∙ none_met g s (seen ++ f ∷ []) facts (lower_all seen f s low (omega arith)) (omega arith)
 
-unfoldable pub short_answers : Group → (List Update → ℕ → List Order) → ℕ → List Heard → Option (Signed Body) → Bool → List Body
-short_answers g orders me before took at_tick =
-    let known = known_at before took in
-    let facts = facts_of g known in
-    let said = said_before before in
-    let base = short_stable g facts in
-    answers_with g orders me before took at_tick (short_acks g known said) (short_gives g me known said) (short_gives_ordered g me known facts said) base
+-- a number above all of which a commit is known isn't ordered
+none_ordered : (g : Group) (facts : List OrderFact) (s : ℕ) → highest_committed facts < s → ordered g facts s ≡ None
+unfolding ordered
+none_ordered g facts s low = none_met g s [] facts (omega arith) low
 
--- The answers are what the shorter way gives.
-pub answers_short : (g : Group) (orders : List Update → ℕ → List Order) (me : ℕ) (before : List Heard) (took : Option (Signed Body)) (at_tick : Bool)
-    → answers g orders me before took at_tick ≡ short_answers g orders me before took at_tick
-unfolding answers short_answers
-answers_short g orders me before took at_tick =
-    let known = known_at before took in
-    let facts = facts_of g known in
-    let said = said_before before in
-    λ i. answers_with g orders me before took at_tick (acks_same g known said i) (gives_same g me known said i) (gives_ordered_same g me known facts said i) (stable_same g facts i)
+any_none : (f : ℕ → Bool) (start count : ℕ) → ((k : ℕ) → start ≤ k → f k ≡ false) → list_any f (numbers_from start count) ≡ false
+unfolding numbers_from
+any_none f start zero none = refl
+any_none f start (suc count) none = or_none (f start) (list_any f (numbers_from (suc start) count)) (none start (omega arith)) (any_none f (suc start) count (λ k h. none k (omega arith)))
 
--- what an actor says at an event, by the shorter way
-unfoldable pub short_says : Setup → List Entry → ℕ → Event → List Body
-short_says w before actor event =
-    take (room w (own before actor)) (
-    if nat_lt actor w.group.n
-    then (if w.intruded actor then [] else (if is_silent event then [] else short_answers w.group w.orders actor (heard w before actor) (frame_taken event) (is_tick event)))
-    else w.client_says actor (own before actor) event)
+any_enough : (f : ℕ → Bool) (start count m : ℕ) → ((k : ℕ) → start + m ≤ k → f k ≡ false) → list_any f (numbers_from start count) ≡ list_any f (numbers_from start (lesser count m))
+unfolding numbers_from
+any_enough f start zero m none = refl
+any_enough f start (suc count) zero none = any_none f start (suc count) (λ k h. none k (omega arith))
+any_enough f start (suc count) (suc m) none = ap (λ b. f start || b) (any_enough f (suc start) count m (λ k h. none k (omega arith)))
 
-pub says_short : (w : Setup) (before : List Entry) (actor : ℕ) (event : Event) → says w before actor event ≡ short_says w before actor event
-unfolding says short_says
-says_short w before actor event = λ i.
-    take (room w (own before actor)) (
-    if nat_lt actor w.group.n
-    then (if w.intruded actor then [] else (if is_silent event then [] else answers_short w.group w.orders actor (heard w before actor) (frame_taken event) (is_tick event) i))
-    else w.client_says actor (own before actor) event)
+-- whether the number is ordered with one missing below it
+abbrev is_beyond : Group → List OrderFact → ℕ → Bool
+is_beyond g facts s = nat_lt (gapless g facts + 1) s && (elim (ordered g facts s) [ None ↦ false | Some rows ↦ true ])
+
+abbrev pub short_gap : Group → List OrderFact → Option ℕ
+short_gap g facts = if list_any (is_beyond g facts) (numbers_from 1 (lesser most_number (highest_committed facts))) then Some (gapless g facts + 1) else None
+
+pub gap_same : (g : Group) (facts : List OrderFact) → gap_of g facts ≡ short_gap g facts
+gap_same g facts =
+    ap (λ b. cond b (Some (gapless g facts + 1)) None)
+    (any_enough (is_beyond g facts) 1 most_number (highest_committed facts)
+    (λ s h. second_false (nat_lt (gapless g facts + 1) s) _ (ap (λ (o : Option (List (List ℕ))). elim o [ None ↦ false | Some rows ↦ true ]) (none_ordered g facts s (omega arith)))))

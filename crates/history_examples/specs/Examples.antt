@@ -1,10 +1,11 @@
 -- What the examples show of the laws of agreement: that their premises can be met, and that they are needed.
-use Rattle.std.specs.Prelude.{◌≡◌, ℕ, ◌⊎◌, ◌+◌, true, List, [], ◌∷◌}
+use Rattle.std.specs.Prelude.{◌≡◌, ℕ, ◌⊎◌, ◌+◌, true, false, List, [], ◌∷◌, length}
 use Rattle.message_types.specs.declared.updates.Update.{Update}
 use Rattle.protocol_rules.specs.Group.{leader_of}
 use Rattle.history_rules.specs.Events.{Entry}
-use Rattle.history_rules.specs.Setup.{Setup, is_correct_master}
-use Rattle.history_rules.specs.Legal.{IsLegal, executions}
+use Rattle.history_rules.specs.Setup.{Setup, is_correct_master, own, leaves_used}
+use Rattle.history_rules.specs.Keeping.{is_halted}
+use Rattle.history_rules.specs.Legal.{IsLegalEntry, IsLegal, executions, view_by}
 use Rattle.history_rules.specs.Audit.{NothingForged, NoSharedDigest}
 use Rattle.history_rules.specs.Counts.{forged, intruded_masters}
 use Rattle.agreement.specs.Laws.{HasSizes, IsSound, Begins}
@@ -13,6 +14,9 @@ use Rattle.history_examples.specs.Plain as plain
 use Rattle.history_examples.specs.Relayed as relayed
 use Rattle.history_examples.specs.Disagreed as disagreed
 use Rattle.history_examples.specs.Forged as forging
+use Rattle.history_examples.specs.Changed as changed
+use Rattle.history_examples.specs.Shared as shared
+use Rattle.history_examples.specs.Halted as halting
 
 -- There is a sound history in which a correct master has executed an update, and no master is intruded: the laws' premises
 -- can be met together, by a plain run.
@@ -56,3 +60,33 @@ pub record ForgedWordsDisagree : Type 0 where
   pub forged_words : forged forging.setup forging.history ≡ 18
   pub alike : NoSharedDigest forging.group forging.history
   pub disagree : Disagree forging.setup forging.history 2 3 (update ∷ []) (other_update ∷ [])
+
+-- There is a sound history with a change of view: correct masters suspect an intruded leader, a correct one opens the next
+-- view, and executes there what was prepared in the view before.
+pub record ExecutedAfterChangeOfView : Type 0 where
+  pub sound : IsSound changed.setup changed.history
+  pub intruded : changed.setup.intruded (leader_of changed.group 0) ≡ true
+  pub correct : is_correct_master changed.setup 1 ≡ true
+  pub leads : leader_of changed.group 1 ≡ 1
+  pub none_before : executions changed.setup changed.in_first_view 1 ≡ []
+  pub view : view_by changed.setup changed.history 1 ≡ 1
+  pub executed : executions changed.setup changed.history 1 ≡ update ∷ []
+
+-- There is one of a group with a master away, whose bodies of one entry share leaves: of 40 orders that a master executes, it
+-- vouches for the 32 that its last leaf can sign.
+pub record ExecutedWithSharedLeaves : Type 0 where
+  pub sound : IsSound shared.setup shared.history
+  pub away : shared.group.k ≡ 1
+  pub correct : is_correct_master shared.setup 1 ≡ true
+  pub executed : executions shared.setup shared.history 1 ≡ update ∷ []
+  pub orders : length (shared.setup.orders (executions shared.setup shared.history 1) 0) ≡ 40
+  pub used : leaves_used shared.setup (own shared.history 1) ≡ shared.setup.leaves
+
+-- There is one in which an actor is halted, by the failure of a call at its restart: it has no entry more, and others execute.
+pub record ExecutedWithoutHalted : Type 0 where
+  pub sound : IsSound halting.setup halting.history
+  pub correct : is_correct_master halting.setup 3 ≡ true
+  pub runs : is_halted halting.setup 3 (own halting.introduced 3) ≡ false
+  pub halted : is_halted halting.setup 3 (own halting.history 3) ≡ true
+  pub ends : (e : Entry) → e.actor ≡ 3 → IsLegalEntry halting.setup halting.history e → ⊥
+  pub executed : executions halting.setup halting.history 1 ≡ update ∷ []

@@ -4,4 +4,7 @@ pub mod Plain
 pub mod Relayed
 pub mod Disagreed
 pub mod Forged
+pub mod Changed
+pub mod Shared
+pub mod Halted
 pub mod Examples

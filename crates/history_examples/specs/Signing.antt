@@ -1,7 +1,7 @@
 -- How the actors of the examples sign, what their clients say, and which events are of whose role. (This project's own, for
 -- these examples alone: a signature that is the signer's number and the text itself. Nothing in the laws of agreement
 -- looks into signatures.)
-use Rattle.std.specs.Prelude.{ℕ, ◌+◌, ◌-◌, Bool, true, false, List, [], ◌∷◌, Some, None, length, slice_get, nat_lt, if◌then◌else◌}
+use Rattle.std.specs.Prelude.{ℕ, zero, suc, ◌+◌, ◌-◌, Bool, true, false, List, [], ◌∷◌, Some, None, length, slice_get, nat_lt, if◌then◌else◌}
 use Rattle.std.specs.List.{flat_map}
 use Rattle.std.specs.Str.{bytes_eq}
 use Rattle.message_types.specs.declared.signed.Signed.{Signed}
@@ -86,3 +86,11 @@ takes stamp actor from by b said = record { stamp = stamp; actor = actor; event 
 
 abbrev pub ticks : ℕ → ℕ → List Body → Entry
 ticks stamp actor said = record { stamp = stamp; actor = actor; event = Tick; said = said }
+
+abbrev pub restarts : ℕ → ℕ → Entry
+restarts stamp actor = record { stamp = stamp; actor = actor; event = Restart; said = [] }
+
+-- so many ticks of one actor, at which it says nothing
+abbrev pub quiet_ticks : ℕ → ℕ → ℕ → List Entry
+quiet_ticks stamp actor zero = []
+quiet_ticks stamp actor (suc count) = ticks stamp actor [] ∷ quiet_ticks (suc stamp) actor count

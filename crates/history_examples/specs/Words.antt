@@ -1,6 +1,6 @@
 -- The words of the examples: how an update of screen 0 is introduced, certified, proposed, prepared and committed by masters
--- 0, 1 and 2, and how an update of screen 1 is introduced and certified as that same request. (Digests are written out; that they are those of the update and the rows comes out where the examples'
--- entries are computed.)
+-- 0, 1 and 2, and how an update of screen 1 is introduced and certified as that same request. (Digests are written out; that
+-- they are those of the update and the rows comes out where the examples' entries are computed.)
 use Rattle.std.specs.Prelude.{ℕ, List, [], ◌∷◌}
 use Rattle.message_types.specs.declared.signed.Signed.{Signed}
 use Rattle.message_types.specs.declared.updates.Op.TheVariants as op
@@ -10,6 +10,7 @@ use Rattle.message_types.specs.declared.preordering.PoAck.{PoAck}
 use Rattle.message_types.specs.declared.preordering.PoSummary.{PoSummary}
 use Rattle.message_types.specs.declared.ordering.Prepare.{Prepare}
 use Rattle.message_types.specs.declared.ordering.Commit.{Commit}
+use Rattle.message_types.specs.declared.views.Report.{Report}
 use Rattle.message_types.specs.declared.body.Body.{Body}
 use Rattle.message_types.specs.declared.body.Body.TheVariants as body
 use Rattle.history_examples.specs.Signing.{sealed}
@@ -65,13 +66,16 @@ certificate = body.Give record { request = sealed body.PoRequest 0 request; acks
 abbrev pub proposal : Body
 proposal = body.PrePrepare record { v = 0; s = 1; frames = by_three body.PoSummary summary }
 
-abbrev pub report : Body
-report = body.Report record {
+abbrev pub prepared_report : Report
+prepared_report = record {
   v = 1;
   base = 0;
   marks = [];
   certificates = record { s = 1; v = 0; rows = rows; prepares = by_three body.Prepare prepare } ∷ [];
 }
+
+abbrev pub report : Body
+report = body.Report prepared_report
 
 abbrev pub order : Body
 order = body.GiveOrdered record { s = 1; v = 0; rows = rows; commits = by_three body.Commit commit }

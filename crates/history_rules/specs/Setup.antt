@@ -1,7 +1,7 @@
 -- What stays the same over a whole history: the group, which masters are intruded, the rules of the plant, the clients'
 -- behaviour, and how words are signed and signatures checked. The theorems hold of every setup whose group is one.
-use Rattle.std.specs.Prelude.{ℕ, ◌+◌, ◌-◌, ◌*◌, ◌/◌, suc, Bool, ◌&&◌, not, List, [], ◌∷◌, length, filter, nat_eq, nat_lt, nat_le, if◌then◌else◌}
-use Rattle.std.specs.List.{list_all, list_any}
+use Rattle.std.specs.Prelude.{ℕ, ◌+◌, ◌-◌, suc, Bool, ◌&&◌, not, List, [], ◌∷◌, length, map, filter, nat_eq, nat_lt, if◌then◌else◌}
+use Rattle.std.specs.List.{list_all}
 use Rattle.message_types.specs.declared.signed.Signed.{Signed}
 use Rattle.message_types.specs.declared.updates.Update.{Update}
 use Rattle.message_types.specs.declared.vouchers.Order.{Order}
@@ -12,7 +12,8 @@ use Rattle.message_types.specs.Parts.{parts}
 use Rattle.protocol_rules.specs.Group.{Group}
 use Rattle.protocol_rules.specs.Places.{in_place}
 use Rattle.protocol_rules.specs.Master.{Heard}
-use Rattle.history_rules.specs.Events.{Event, Entry, frame_taken, is_tick, is_silent, is_restart}
+use Rattle.history_rules.specs.Events.{Event, Entry, frame_taken, is_tick, is_silent}
+use Rattle.history_rules.specs.Leaves.{leaves_for, leaves_of, room_of}
 
 pub record Setup : Type 0 where
   pub group : Group
@@ -47,18 +48,13 @@ stands w frame =
     has_spelling frame
     && list_all (λ p. nat_lt p.signer (w.group.n + w.group.clients) && w.signs p.signer (body_text p.body) p.sig && in_place w.group p) (parts frame)
 
--- how many leaves the bodies of one entry use
-abbrev pub leaves_for : Setup → List Body → ℕ
-leaves_for w said = if w.shared_leaves then (length said + 31) / 32 else length said
-
 -- how many leaves an actor's entries used
 abbrev pub leaves_used : Setup → List Entry → ℕ
-leaves_used w [] = 0
-leaves_used w (e ∷ rest) = leaves_for w e.said + leaves_used w rest
+leaves_used w own = leaves_of w.shared_leaves (map (λ e. length e.said) own)
 
--- how many bodies can still be signed
+-- how many bodies of one entry can still be signed
 abbrev pub room : Setup → List Entry → ℕ
-room w own = if w.shared_leaves then 32 * (w.leaves - leaves_used w own) else w.leaves - leaves_used w own
+room w own = room_of w.shared_leaves (w.leaves - leaves_used w own)
 
 -- the frames of an entry's bodies
 abbrev pub signed_from : Setup → ℕ → ℕ → List Body → ℕ → List Body → List (Signed Body)
@@ -71,19 +67,10 @@ abbrev pub heard_from : Setup → ℕ → ℕ → List Entry → List Heard
 heard_from w actor used [] = []
 heard_from w actor used (e ∷ rest) =
     if is_silent e.event
-    then heard_from w actor (used + leaves_for w e.said) rest
+    then heard_from w actor (used + leaves_for w.shared_leaves (length e.said)) rest
     else record { took = frame_taken e.event; is_tick = is_tick e.event; said = signed_from w actor used e.said 0 e.said }
-    ∷ heard_from w actor (used + leaves_for w e.said) rest
+    ∷ heard_from w actor (used + leaves_for w.shared_leaves (length e.said)) rest
 
 -- the entries of one actor, in order
 unfoldable pub own : List Entry → ℕ → List Entry
 own history actor = filter (λ e. nat_eq e.actor actor) history
-
--- Keeper calls: each entry is an append, a restart also a reading before it.
-abbrev pub keeper_calls : List Entry → ℕ
-keeper_calls [] = 0
-keeper_calls (e ∷ rest) = (if is_restart e.event then 2 else 1) + keeper_calls rest
-
--- one of the actor's keeper calls so far was to fail
-abbrev pub is_halted : Setup → ℕ → List Entry → Bool
-is_halted w actor entries = list_any (λ x. nat_le x (keeper_calls entries)) (w.failing actor)

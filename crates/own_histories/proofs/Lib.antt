@@ -1,0 +1,4 @@
+pub mod Building
+pub mod Owning
+pub mod Stamps
+pub mod Merging
