@@ -1,10 +1,9 @@
 -- What a client has done was vouched for.
 use Rattle.std.proofs.Common.{◌≡◌, ℕ, ◌+◌, ◌*◌, ◌-◌, ◌<◌, ◌≤◌, zero, suc, Bool, true, false, cond, ◌&&◌, List, [], ◌∷◌, ◌++◌, Option, Some, None, length, filter, nat_eq, nat_lt, refl, sym, ◌∙◌, ap, subst, inl, inr, ◌⊎◌, arith, eqb-true, if◌then◌else◌}
-use Rattle.std.proofs.lemmas.Bool.{false≢true, and_parts, ltb-true, false_from_ne_true}
+use Rattle.std.proofs.lemmas.Bool.{false≢true, and_parts, ltb-true}
 use Rattle.std.specs.Prelude.{slice_get}
 use Rattle.std.specs.List.{flat_map, list_any}
 use Rattle.quorum_sets.specs.Masters.{voters}
-use Rattle.quorum_sets.proofs.MastersLemmas.{length-voters-suc}
 use Rattle.message_types.specs.Texts.{notice_number}
 use Rattle.message_types.specs.declared.signed.Signed.{Signed}
 use Rattle.message_types.specs.declared.vouchers.Notice.{Notice}
@@ -24,7 +23,6 @@ use Rattle.history_rules.specs.Audit.{IsIn, parts_taken}
 use Rattle.agreement.specs.Laws.{IsSound, IsTaken, IsVouched, DoneBegins, votes_taken}
 use Rattle.agreement.proofs.Lists.{none_in, in_left, in_cons_cases, in_flat_map_from, in_filter_from, any_from, none_some, Within}
 use Rattle.agreement.proofs.Spoken.{if_some}
-use Rattle.agreement.proofs.Good.{GoodFrame, good_event}
 use Rattle.agreement.proofs.Vouched.{vouched_begin}
 
 abbrev kind_of_number : ℕ → NoticeKind
@@ -71,35 +69,25 @@ run_at f start (suc most) x o e = by_first (f start) refl x e (λ y later. run_a
     by_first (Some z) is (suc y) e later = let same : start + suc y ≡ suc start + y = omega arith in ap f same ∙ later y e
 
 -- an order chosen has more than f supporters among the votes
-chosen_from : (f : ℕ) (seen rest : List Vote) (x : ℕ) (o : Order) → chosen_after f seen rest x ≡ Some o
-    → (votes : List Vote) × Within votes (seen ++ rest) × (f < length (supporters votes x o))
+chosen_from : (n f : ℕ) (seen rest : List Vote) (x : ℕ) (o : Order) → chosen_after n f seen rest x ≡ Some o
+    → (votes : List Vote) × Within votes (seen ++ rest) × (f < length (supporters n votes x o))
 unfolding chosen_after
-chosen_from f seen [] x o e = absurd (none_some e)
-chosen_from f seen (vote ∷ rest) x o e = by_first (settled_by f (seen ++ vote ∷ []) vote x) refl e (λ later. chosen_from f (seen ++ vote ∷ []) rest x o later)
+chosen_from n f seen [] x o e = absurd (none_some e)
+chosen_from n f seen (vote ∷ rest) x o e = by_first (settled_by n f (seen ++ vote ∷ []) vote x) refl e (λ later. chosen_from n f (seen ++ vote ∷ []) rest x o later)
   where
-    by_first : (p : Option Order) → settled_by f (seen ++ vote ∷ []) vote x ≡ p → or_else p (chosen_after f (seen ++ vote ∷ []) rest x) ≡ Some o
-        → (chosen_after f (seen ++ vote ∷ []) rest x ≡ Some o → (votes : List Vote) × Within votes ((seen ++ vote ∷ []) ++ rest) × (f < length (supporters votes x o)))
-        → (votes : List Vote) × Within votes (seen ++ vote ∷ rest) × (f < length (supporters votes x o))
+    by_first : (p : Option Order) → settled_by n f (seen ++ vote ∷ []) vote x ≡ p → or_else p (chosen_after n f (seen ++ vote ∷ []) rest x) ≡ Some o
+        → (chosen_after n f (seen ++ vote ∷ []) rest x ≡ Some o → (votes : List Vote) × Within votes ((seen ++ vote ∷ []) ++ rest) × (f < length (supporters n votes x o)))
+        → (votes : List Vote) × Within votes (seen ++ vote ∷ rest) × (f < length (supporters n votes x o))
     by_first None is e later =
         let found = later e in
         (found.0, (λ z h. subst (λ (zs : List Vote). IsIn z zs) (Rattle.std.proofs.Common.append_assoc seen (vote ∷ []) rest) (found.1 z h)), found.2)
     by_first (Some p) is e later =
-        let held = if_some (nat_eq vote.voucher.number x && nat_lt f (length (supporters (seen ++ vote ∷ []) x vote.voucher.order))) (is ∙ e) in
-        let many : f < length (supporters (seen ++ vote ∷ []) x vote.voucher.order) = ltb-true f (length (supporters (seen ++ vote ∷ []) x vote.voucher.order)) (and_parts _ _ held.0).1 in (
+        let held = if_some (nat_eq vote.voucher.number x && nat_lt f (length (supporters n (seen ++ vote ∷ []) x vote.voucher.order))) (is ∙ e) in
+        let many : f < length (supporters n (seen ++ vote ∷ []) x vote.voucher.order) = ltb-true f (length (supporters n (seen ++ vote ∷ []) x vote.voucher.order)) (and_parts _ _ held.0).1 in (
           seen ++ vote ∷ [],
           (λ z h. subst (λ (zs : List Vote). IsIn z zs) (Rattle.std.proofs.Common.append_assoc seen (vote ∷ []) rest) (in_left rest h)),
-          subst (λ (q : Order). f < length (supporters (seen ++ vote ∷ []) x q)) held.1 many,
+          subst (λ (q : Order). f < length (supporters n (seen ++ vote ∷ []) x q)) held.1 many,
         )
-
--- voters that are all below n are no more than those below n
-voters_below : (t : ℕ → Bool) (n more : ℕ) → ((m : ℕ) → t m ≡ true → m < n) → length (voters t (n + more)) ≤ length (voters t n)
-voters_below t n zero below = let same : length (voters t (n + 0)) ≡ length (voters t n) = ap (λ k. length (voters t k)) (omega arith) in omega arith
-voters_below t n (suc more) below =
-    let less : length (voters t (n + more)) ≤ length (voters t n) = voters_below t n more below in
-    let none : t (n + more) ≡ false = false_from_ne_true (t (n + more)) (λ e. let lt : n + more < n = below (n + more) e in absurd (omega arith)) in
-    let same : length (voters t (n + suc more)) ≡ length (voters t (suc (n + more))) = ap (λ k. length (voters t k)) (omega arith) in
-    let one : length (voters t (suc (n + more))) ≡ length (voters t (n + more)) + 0 = length-voters-suc t (n + more) ∙ ap (λ b. length (voters t (n + more)) + cond b 1 0) none in
-    omega arith
 
 vote_of : (signer : ℕ) (word : Body) (sig : List ℕ) (vote : Vote) → IsIn vote (votes_in (record { signer = signer; body = word; sig = sig } ∷ [])) → (vote.signer ≡ signer) × (word ≡ body.Voucher vote.voucher)
 unfolding votes_in
@@ -138,61 +126,42 @@ supported votes x o m e =
 voucher_same : (v : Voucher) (client number : ℕ) (o : Order) → v.client ≡ client → v.number ≡ number → v.order ≡ o → body.Voucher v ≡ body.Voucher record { client = client; number = number; order = o }
 voucher_same v client number o a b c = λ x. body.Voucher record { client = a x; number = b x; order = c x }
 
-many_supporters : (votes : List Vote) (x f : ℕ) (o : Order) → f < length (supporters votes x o) → f < length (voters (λ m. list_any (λ vote. nat_eq vote.signer m && is_for x o vote) votes) 14)
+many_supporters : (n : ℕ) (votes : List Vote) (x f : ℕ) (o : Order) → f < length (supporters n votes x o) → f < length (voters (λ m. list_any (λ vote. nat_eq vote.signer m && is_for x o vote) votes) n)
 unfolding supporters
-many_supporters votes x f o h = h
+many_supporters n votes x f o h = h
 
 module _ (w : Setup) (history : List Entry) (client : ℕ) (can_act : Order → Bool) (sound : IsSound w history) where
-  -- a vote that counts was in a frame taken, and its signer is a master
+  -- a vote that counts was in a frame taken
   vote_taken : (vote : Vote) → IsIn vote (counted can_act client (votes_taken history (w.group.n + client)))
-      → (vote.signer < w.group.n) × (vote.voucher.client ≡ client) × IsTaken history vote.signer (body.Voucher vote.voucher)
+      → (vote.voucher.client ≡ client) × IsTaken history vote.signer (body.Voucher vote.voucher)
   vote_taken vote h =
       let kept = in_filter_from (counts can_act client) (votes_taken history (w.group.n + client)) h in
       let frame = votes_from (flat_map parts_taken (own history (w.group.n + client))) vote kept.0 in
       let entry = in_flat_map_from parts_taken (own history (w.group.n + client)) frame.1 in
       let place = own_stands history (w.group.n + client) entry.0 entry.1 in
-      let is = vote_of frame.0.signer frame.0.body frame.0.sig vote frame.2 in
-      let good : GoodFrame w.group frame.0 = good_event w (length place.0) sound.sizes entry.0.event (sound.legal.entries place.0 entry.0 place.1).taken frame.0 entry.2 in
-      let below : frame.0.signer < w.group.n = subst (λ (b : Body). Rattle.agreement.proofs.Good.SignedWell w.group frame.0.signer b) is.1 good.0 in
-      let at : vote.signer ≡ frame.0.signer = is.0 in (
-        omega arith,
+      let is = vote_of frame.0.signer frame.0.body frame.0.sig vote frame.2 in (
         eqb-true vote.voucher.client client (and_parts _ _ kept.1).0,
         record { before = place.0; entry = entry.0; place = place.1; part = frame.0; among = entry.2; by = sym is.0; word = is.1 },
       )
 
-  done_vouched : (x : ℕ) (o : Order) → slice_get (orders_done can_act client w.group.f (votes_taken history (w.group.n + client))) x ≡ Some o → IsVouched w history client (x + 1) o
+  done_vouched : (x : ℕ) (o : Order) → slice_get (orders_done can_act client w.group.n w.group.f (votes_taken history (w.group.n + client))) x ≡ Some o
+      → IsVouched w history client (x + 1) o
   unfolding done
   done_vouched x o e =
-      let all : List Vote = counted can_act client (votes_taken history (w.group.n + client)) in
-      let at : chosen w.group.f (counted can_act client (votes_taken history (w.group.n + client))) (1 + x) ≡ Some o =
-      run_at (chosen w.group.f (counted can_act client (votes_taken history (w.group.n + client)))) 1 (greatest_number (counted can_act client (votes_taken history (w.group.n + client)))) x o e in
-      let from = chosen_from w.group.f [] (counted can_act client (votes_taken history (w.group.n + client))) (1 + x) o at in
-      let test : ℕ → Bool = λ m. list_any (λ vote. nat_eq vote.signer m && is_for (1 + x) o vote) from.0 in
-      let many : w.group.f < length (voters (λ m. list_any (λ vote. nat_eq vote.signer m && is_for (1 + x) o vote) from.0) 14) = many_supporters from.0 (1 + x) w.group.f o from.2 in
-      let size : w.group.n ≡ 3 * w.group.f + 2 * w.group.k + 1 = sound.sizes.all in
-      let f_few : w.group.f ≤ 3 = sound.sizes.group.at_most_three_intruded in
-      let k_few : w.group.k ≤ 2 = sound.sizes.group.at_most_two_away in
-      let within : length (voters (λ m. list_any (λ vote. nat_eq vote.signer m && is_for (1 + x) o vote) from.0) (w.group.n + (14 - w.group.n)))
-      ≤ length (voters (λ m. list_any (λ vote. nat_eq vote.signer m && is_for (1 + x) o vote) from.0) w.group.n) =
-      voters_below (λ m. list_any (λ vote. nat_eq vote.signer m && is_for (1 + x) o vote) from.0) w.group.n (14 - w.group.n) (λ m has.
-      let vote = supported from.0 (1 + x) o m has in
-      let below : vote.0.signer < w.group.n = (vote_taken vote.0 (from.1 vote.0 vote.1)).0 in
-      let is : vote.0.signer ≡ m = vote.2 in
-      omega arith) in
-      let all_masters : w.group.n + (14 - w.group.n) ≡ 14 = omega arith in
-      let same : length (voters (λ m. list_any (λ vote. nat_eq vote.signer m && is_for (1 + x) o vote) from.0) (w.group.n + (14 - w.group.n))) ≡ length (voters (λ m. list_any (λ vote. nat_eq vote.signer m && is_for (1 + x) o vote) from.0) 14) =
-      ap (λ k. length (voters (λ m. list_any (λ vote. nat_eq vote.signer m && is_for (1 + x) o vote) from.0) k)) all_masters in
+      let at : chosen w.group.n w.group.f (counted can_act client (votes_taken history (w.group.n + client))) (1 + x) ≡ Some o =
+      run_at (chosen w.group.n w.group.f (counted can_act client (votes_taken history (w.group.n + client)))) 1 (greatest_number (counted can_act client (votes_taken history (w.group.n + client)))) x o e in
+      let from = chosen_from w.group.n w.group.f [] (counted can_act client (votes_taken history (w.group.n + client))) (1 + x) o at in
       record {
         masters = λ m. list_any (λ vote. nat_eq vote.signer m && is_for (1 + x) o vote) from.0;
-        enough = omega arith;
+        enough = many_supporters w.group.n from.0 (1 + x) w.group.f o from.2;
         taken = λ m lt has.
             let vote = supported from.0 (1 + x) o m has in
             let took = vote_taken vote.0 (from.1 vote.0 vote.1) in
             let number : vote.0.voucher.number ≡ x + 1 = vote.3 ∙ omega arith in
-            subst (λ (b : Body). IsTaken history m b) (voucher_same vote.0.voucher client (x + 1) o took.1 number vote.4)
-            (subst (λ (s : ℕ). IsTaken history s (body.Voucher vote.0.voucher)) vote.2 took.2);
+            subst (λ (b : Body). IsTaken history m b) (voucher_same vote.0.voucher client (x + 1) o took.0 number vote.4)
+            (subst (λ (s : ℕ). IsTaken history s (body.Voucher vote.0.voucher)) vote.2 took.1);
       }
 
 pub done_begins : DoneBegins
 done_begins w history client can_act sound appends =
-    vouched_begin w history client sound appends (orders_done can_act client w.group.f (votes_taken history (w.group.n + client))) (done_vouched w history client can_act sound)
+    vouched_begin w history client sound appends (orders_done can_act client w.group.n w.group.f (votes_taken history (w.group.n + client))) (done_vouched w history client can_act sound)

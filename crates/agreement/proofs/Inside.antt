@@ -327,7 +327,7 @@ acks_known g known j k digest = each_map _ (as_frame body.PoAck) (quorum_of_acks
 pub due_inside : (g : Group) (orders : List Update → ℕ → List Order) (known taken : List (Signed Body)) (said : List Body) → Within taken known → Closed known → (b : Body) → Due g orders known taken said b → Each (λ p. IsIn p known) (inside b)
 due_inside g orders known taken said frames closed (body.Update b) due = absurd due
 due_inside g orders known taken said frames closed (body.PoRequest b) due = each_one _ (as_frame body.Update b.update) (frames (as_frame body.Update b.update) due)
-due_inside g orders known taken said frames closed (body.PrePrepare b) due = subst (λ (fs : List (Signed PoSummary)). Each (λ p. IsIn p known) (frames_of body.PoSummary fs)) (sym due) (latest_known g known)
+due_inside g orders known taken said frames closed (body.PrePrepare b) due = subst (λ (fs : List (Signed PoSummary)). Each (λ p. IsIn p known) (frames_of body.PoSummary fs)) (sym due.0) (latest_known g known)
 due_inside g orders known taken said frames closed (body.Report b) due = each_append _ (frames_of body.Mark b.marks) (flat_map (λ c. frames_of body.Prepare c.prepares) b.certificates)
     (subst (λ (ms : List (Signed Mark)). Each (λ p. IsIn p known) (frames_of body.Mark ms)) (sym due.2) (marks_for_known g known (stable g (facts_of g known))))
     (subst (λ (cs : List Certificate). Each (λ p. IsIn p known) (flat_map (λ c. frames_of body.Prepare c.prepares) cs)) (sym due.3) (certificates_known g known (Rattle.protocol_rules.specs.Views.view g known)))

@@ -1,5 +1,5 @@
 -- What a master knows as a history grows, and where it comes from.
-use Rattle.std.proofs.Common.{◌≡◌, ℕ, ◌+◌, suc, Bool, true, false, cond, ◌&&◌, not, List, [], ◌∷◌, ◌++◌, take, map, filter, nat_eq, nat_lt, refl, sym, ◌∙◌, ap, subst, inl, inr, ◌⊎◌, arith}
+use Rattle.std.proofs.Common.{◌≡◌, ℕ, ◌+◌, suc, Bool, true, false, cond, ◌&&◌, not, List, [], ◌∷◌, ◌++◌, length, take, map, filter, nat_eq, nat_lt, refl, sym, ◌∙◌, ap, subst, inl, inr, ◌⊎◌, arith}
 use Rattle.std.proofs.lemmas.List.{append-nil}
 use Rattle.std.proofs.lemmas.List.Elements.{filter-append}
 use Rattle.std.proofs.lemmas.Grind.{flat_map-append}
@@ -10,8 +10,9 @@ use Rattle.message_types.specs.declared.body.Body.{Body}
 use Rattle.message_types.specs.Parts.{parts, inside}
 use Rattle.protocol_rules.specs.Master.{Heard, learned, known_at, said_before, answers}
 use Rattle.history_rules.specs.Events.{Entry, frame_taken, is_tick, is_silent}
-use Rattle.history_rules.specs.Setup.{Setup, is_correct_master, heard_from, leaves_for, leaves_used, own, signed_from, room}
-use Rattle.history_rules.specs.Legal.{Stands, IsLegal, heard, says, known_of}
+use Rattle.history_rules.specs.Setup.{Setup, is_correct_master, heard_from, leaves_used, own, signed_from, room}
+use Rattle.history_rules.specs.Leaves.{leaves_for}
+use Rattle.history_rules.specs.Legal.{Stands, IsLegal, heard_in, heard, says_in, says, known_of}
 use Rattle.history_rules.specs.Audit.{IsIn, here, there, parts_taken}
 use Rattle.agreement.proofs.Lists.{none_in, in_left, in_right, in_cons_cases, in_cases, in_first, Within, in_flat_map, in_flat_map_from, in_take}
 
@@ -36,31 +37,31 @@ heard_from-append : (w : Setup) (i used : ℕ) (xs ys : List Entry)
     → heard_from w i used (xs ++ ys) ≡ heard_from w i used xs ++ heard_from w i (used + leaves_used w xs) ys
 heard_from-append w i used [] ys = ap (λ k. heard_from w i k ys) (omega arith)
 heard_from-append w i used (e ∷ xs) ys =
-    let deeper : heard_from w i (used + leaves_for w e.said) (xs ++ ys) ≡ heard_from w i (used + leaves_for w e.said) xs ++ heard_from w i (used + leaves_for w e.said + leaves_used w xs) ys =
-    heard_from-append w i (used + leaves_for w e.said) xs ys in
-    let same : used + leaves_for w e.said + leaves_used w xs ≡ used + (leaves_for w e.said + leaves_used w xs) = omega arith in
-    ap (λ (zs : List Heard). cond (is_silent e.event) zs (hears w i used e ∷ zs)) (deeper ∙ ap (λ k. heard_from w i (used + leaves_for w e.said) xs ++ heard_from w i k ys) same)
-    ∙ heard_step w i used e (is_silent e.event) (heard_from w i (used + leaves_for w e.said) xs) (heard_from w i (used + (leaves_for w e.said + leaves_used w xs)) ys) refl
+    let deeper : heard_from w i (used + leaves_for w.shared_leaves (length e.said)) (xs ++ ys) ≡ heard_from w i (used + leaves_for w.shared_leaves (length e.said)) xs ++ heard_from w i (used + leaves_for w.shared_leaves (length e.said) + leaves_used w xs) ys =
+    heard_from-append w i (used + leaves_for w.shared_leaves (length e.said)) xs ys in
+    let same : used + leaves_for w.shared_leaves (length e.said) + leaves_used w xs ≡ used + (leaves_for w.shared_leaves (length e.said) + leaves_used w xs) = omega arith in
+    ap (λ (zs : List Heard). cond (is_silent e.event) zs (hears w i used e ∷ zs)) (deeper ∙ ap (λ k. heard_from w i (used + leaves_for w.shared_leaves (length e.said)) xs ++ heard_from w i k ys) same)
+    ∙ heard_step w i used e (is_silent e.event) (heard_from w i (used + leaves_for w.shared_leaves (length e.said)) xs) (heard_from w i (used + (leaves_for w.shared_leaves (length e.said) + leaves_used w xs)) ys) refl
 
-own-append : (xs ys : List Entry) (i : ℕ) → own (xs ++ ys) i ≡ own xs i ++ own ys i
+pub own-append : (xs ys : List Entry) (i : ℕ) → own (xs ++ ys) i ≡ own xs i ++ own ys i
 unfolding own
 own-append xs ys i = filter-append (λ e. nat_eq e.actor i) xs ys
 
-own_first : (e : Entry) (rest : List Entry) (i : ℕ) → e.actor ≡ i → own (e ∷ rest) i ≡ e ∷ own rest i
+pub own_first : (e : Entry) (rest : List Entry) (i : ℕ) → e.actor ≡ i → own (e ∷ rest) i ≡ e ∷ own rest i
 unfolding own
 own_first e rest i by = ap (λ b. cond b (e ∷ filter (λ e. nat_eq e.actor i) rest) (filter (λ e. nat_eq e.actor i) rest)) (eq-eqb e.actor i by)
 
-own_other : (e : Entry) (rest : List Entry) (i : ℕ) → (e.actor ≡ i → ⊥) → own (e ∷ rest) i ≡ own rest i
+pub own_other : (e : Entry) (rest : List Entry) (i : ℕ) → (e.actor ≡ i → ⊥) → own (e ∷ rest) i ≡ own rest i
 unfolding own
 own_other e rest i ne = ap (λ b. cond b (e ∷ filter (λ e. nat_eq e.actor i) rest) (filter (λ e. nat_eq e.actor i) rest)) (ne_eqb e.actor i ne)
 
-own_none : (i : ℕ) → own [] i ≡ []
+pub own_none : (i : ℕ) → own [] i ≡ []
 unfolding own
 own_none i = refl
 
 -- a longer history only adds to what was heard
 pub heard_more : (w : Setup) (before more : List Entry) (i : ℕ) → (rest : List Heard) × (heard w (before ++ more) i ≡ heard w before i ++ rest)
-unfolding heard
+unfolding heard_in
 heard_more w before more i = (
   heard_from w i (0 + leaves_used w (own before i)) (own more i),
   ap (heard_from w i 0) (own-append before more i) ∙ heard_from-append w i 0 (own before i) (own more i),
@@ -69,35 +70,39 @@ heard_more w before more i = (
 -- an entry at which its master hears something
 pub heard_at : (w : Setup) (before after : List Entry) (e : Entry) (i : ℕ) → e.actor ≡ i → is_silent e.event ≡ false
     → (used : ℕ) × (rest : List Heard) × (heard w (before ++ e ∷ after) i ≡ heard w before i ++ hears w i used e ∷ rest)
-unfolding heard
+unfolding heard_in
 heard_at w before after e i by loud =
     let used = 0 + leaves_used w (own before i) in (
       used,
-      heard_from w i (used + leaves_for w e.said) (own after i),
+      heard_from w i (used + leaves_for w.shared_leaves (length e.said)) (own after i),
       ap (heard_from w i 0) (own-append before (e ∷ after) i) ∙ heard_from-append w i 0 (own before i) (own (e ∷ after) i)
           ∙ ap (λ (zs : List Entry). heard_from w i 0 (own before i) ++ heard_from w i used zs) (own_first e after i by)
-          ∙ ap (λ b. heard_from w i 0 (own before i) ++ cond b (heard_from w i (used + leaves_for w e.said) (own after i)) (hears w i used e ∷ heard_from w i (used + leaves_for w e.said) (own after i))) loud,
+          ∙ ap (λ b. heard_from w i 0 (own before i) ++ cond b (heard_from w i (used + leaves_for w.shared_leaves (length e.said)) (own after i)) (hears w i used e ∷ heard_from w i (used + leaves_for w.shared_leaves (length e.said)) (own after i))) loud,
     )
 
--- the last entry
+-- the last entry, before which its master used the leaves of its own entries before
+pub heard_then : (w : Setup) (before : List Entry) (e : Entry) (i : ℕ) → e.actor ≡ i → is_silent e.event ≡ false
+    → heard w (before ++ e ∷ []) i ≡ heard w before i ++ hears w i (leaves_used w (own before i)) e ∷ []
+unfolding heard_in
+heard_then w before e i by loud =
+    let used = leaves_used w (own before i) in
+    let none : 0 + used ≡ used = omega arith in
+    ap (heard_from w i 0) (own-append before (e ∷ []) i) ∙ heard_from-append w i 0 (own before i) (own (e ∷ []) i)
+    ∙ ap (λ (zs : List Entry). heard_from w i 0 (own before i) ++ heard_from w i (0 + used) zs) (own_first e [] i by ∙ ap (λ (zs : List Entry). e ∷ zs) (own_none i))
+    ∙ ap (λ b. heard_from w i 0 (own before i) ++ cond b [] (hears w i (0 + used) e ∷ [])) loud
+    ∙ ap (λ k. heard_from w i 0 (own before i) ++ hears w i k e ∷ []) none
+
 pub heard_last : (w : Setup) (before : List Entry) (e : Entry) (i : ℕ) → e.actor ≡ i → is_silent e.event ≡ false
     → (used : ℕ) × (heard w (before ++ e ∷ []) i ≡ heard w before i ++ hears w i used e ∷ [])
-unfolding heard
-heard_last w before e i by loud =
-    let used = 0 + leaves_used w (own before i) in (
-      used,
-      ap (heard_from w i 0) (own-append before (e ∷ []) i) ∙ heard_from-append w i 0 (own before i) (own (e ∷ []) i)
-          ∙ ap (λ (zs : List Entry). heard_from w i 0 (own before i) ++ heard_from w i used zs) (own_first e [] i by ∙ ap (λ (zs : List Entry). e ∷ zs) (own_none i))
-          ∙ ap (λ b. heard_from w i 0 (own before i) ++ cond b [] (hears w i used e ∷ [])) loud,
-    )
+heard_last w before e i by loud = (leaves_used w (own before i), heard_then w before e i by loud)
 
 -- an entry of another, or a silent one, adds nothing
 pub heard_other : (w : Setup) (before : List Entry) (e : Entry) (i : ℕ) → (e.actor ≡ i → ⊥) → heard w (before ++ e ∷ []) i ≡ heard w before i
-unfolding heard
+unfolding heard_in
 heard_other w before e i ne = ap (heard_from w i 0) (own-append before (e ∷ []) i ∙ ap (λ (zs : List Entry). own before i ++ zs) (own_other e [] i ne ∙ own_none i) ∙ append-nil (own before i))
 
 pub heard_silent : (w : Setup) (before : List Entry) (e : Entry) (i : ℕ) → e.actor ≡ i → is_silent e.event ≡ true → heard w (before ++ e ∷ []) i ≡ heard w before i
-unfolding heard
+unfolding heard_in
 heard_silent w before e i by silent =
     let used = 0 + leaves_used w (own before i) in
     ap (heard_from w i 0) (own-append before (e ∷ []) i) ∙ heard_from-append w i 0 (own before i) (own (e ∷ []) i)
@@ -208,7 +213,7 @@ said_by_rule r true false false due other bs b e correct h = (refl, in_take r du
 -- what a correct master said at an entry
 pub correct_said : (w : Setup) {history before : List Entry} {e : Entry} (i : ℕ) (b : Body) → IsLegal w history → Stands history before e → e.actor ≡ i → is_correct_master w i ≡ true → IsIn b e.said
     → (is_silent e.event ≡ false) × IsIn b (answers w.group w.orders i (heard w before i) (frame_taken e.event) (is_tick e.event))
-unfolding says
+unfolding says_in
 correct_said w {before = before} {e} i b legal s by correct h =
     let rule : e.said ≡ says w before e.actor e.event = (legal.entries before e s).said in
     let rule_i : e.said ≡ says w before i e.event = rule ∙ ap (λ k. says w before k e.event) by in

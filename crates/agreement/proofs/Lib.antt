@@ -12,7 +12,12 @@ pub mod Requests
 pub mod Executed
 pub mod Grows
 pub mod Planned
+pub mod Induction
+pub mod Committed
+pub mod Spread
 pub mod Agreed
 pub mod Executions
+pub mod Taking
+pub mod Blame
 pub mod Vouched
 pub mod Done

@@ -98,7 +98,7 @@ prepare_same p v s digest a b c = λ x. body.Prepare record { v = a x; s = b x; 
 pub commit_same : (p : Commit) (v s : ℕ) (digest : List ℕ) → p.v ≡ v → p.s ≡ s → p.digest ≡ digest → IsCommit v s digest (body.Commit p)
 commit_same p v s digest a b c = λ x. body.Commit record { v = a x; s = b x; digest = c x }
 
-ack_same : (p : PoAck) (j k : ℕ) (digest : List ℕ) → p.j ≡ j → p.k ≡ k → p.digest ≡ digest → IsAck j k digest (body.PoAck p)
+pub ack_same : (p : PoAck) (j k : ℕ) (digest : List ℕ) → p.j ≡ j → p.k ≡ k → p.digest ≡ digest → IsAck j k digest (body.PoAck p)
 ack_same p j k digest a b c = λ x. body.PoAck record { j = a x; k = b x; digest = c x }
 
 ack_from_body : (j k : ℕ) (digest : List ℕ) (m signer : ℕ) (word : Body) (sig : List ℕ) → is_ack j k digest m record { signer = signer; body = word; sig = sig } ≡ true
@@ -159,7 +159,7 @@ said_once w history m t b c legal correct is_b is_c fresh_b fresh_c alike one ot
       ]
     ]
 
-self_eq : (x y : ℕ) → (nat_eq x x && nat_eq y y) ≡ true
+pub self_eq : (x y : ℕ) → (nat_eq x x && nat_eq y y) ≡ true
 self_eq x y = and_from (nat_eq x x) (nat_eq y y) (eq-eqb x x refl) (eq-eqb y y refl)
 
 digest_of_ack : {a b : PoAck} → body.PoAck a ≡ body.PoAck b → a.digest ≡ b.digest

@@ -9,7 +9,7 @@ use Rattle.message_types.specs.Parts.{parts, inside}
 use Rattle.protocol_rules.specs.Master.{Heard, learned, taken_frames, known_at, said_before, taken_at}
 use Rattle.history_rules.specs.Events.{Entry, frame_taken, is_tick, is_silent}
 use Rattle.history_rules.specs.Setup.{Setup, is_correct, is_correct_master, own}
-use Rattle.history_rules.specs.Legal.{Stands, IsLegal, heard}
+use Rattle.history_rules.specs.Legal.{Stands, IsLegal, heard_in, heard}
 use Rattle.history_rules.specs.Audit.{IsIn, here, HasSaid, NothingForged, parts_taken, bodies_of}
 use Rattle.agreement.proofs.Lists.{none_in, in_left, in_right, in_cases, Within, Each, in_map, in_flat_map, in_flat_map_from}
 use Rattle.agreement.proofs.Places.{by_growth, said_whole}
@@ -37,7 +37,7 @@ taken_known before took f h = elim (in_cases (flat_map (λ e. taken_frames e.too
 ]
 
 pub heard_none : (w : Setup) (i : ℕ) → heard w [] i ≡ []
-unfolding heard own
+unfolding heard_in own
 heard_none w i = refl
 
 -- what a correct master said was due

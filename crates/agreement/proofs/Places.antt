@@ -15,10 +15,10 @@ grow P step before (x ∷ rest) p = subst P (append_assoc before (x ∷ []) rest
 pub by_growth : {X : Type 0} (P : List X → Type 0) → P [] → ((before : List X) (x : X) → P before → P (before ++ x ∷ [])) → (xs : List X) → P xs
 by_growth P none step xs = grow P step [] xs none
 
-heads_same : {X : Type 0} {x y : X} {xs ys : List X} → x ∷ xs ≡ y ∷ ys → x ≡ y
+pub heads_same : {X : Type 0} {x y : X} {xs ys : List X} → x ∷ xs ≡ y ∷ ys → x ≡ y
 heads_same e = cc
 
-tails_same : {X : Type 0} {x y : X} {xs ys : List X} → x ∷ xs ≡ y ∷ ys → xs ≡ ys
+pub tails_same : {X : Type 0} {x y : X} {xs ys : List X} → x ∷ xs ≡ y ∷ ys → xs ≡ ys
 tails_same e = cc
 
 -- the place comes no later than the end of this beginning
@@ -28,7 +28,7 @@ stands_on {history} {before} {e} more s = record {
   whole = ap (λ (xs : List Entry). xs ++ more) s.whole ∙ append_assoc before (e ∷ s.after) more;
 }
 
-stands_behind : (x : Entry) {history before : List Entry} {e : Entry} → Stands history before e → Stands (x ∷ history) (x ∷ before) e
+pub stands_behind : (x : Entry) {history before : List Entry} {e : Entry} → Stands history before e → Stands (x ∷ history) (x ∷ before) e
 stands_behind x s = record { after = s.after; whole = ap (λ (xs : List Entry). x ∷ xs) s.whole }
 
 pub stands_last : (before : List Entry) (e : Entry) → Stands (before ++ e ∷ []) before e

@@ -1,6 +1,5 @@
--- Certified requests agree, and what is certified was said by its client.
-use Rattle.std.proofs.Common.{◌≡◌, ℕ, ◌+◌, true, ◌&&◌, List, [], Some, nat_eq, nat_lt, sym, ◌∙◌, ap, subst, arith}
-use Rattle.std.proofs.lemmas.Bool.{not_from_false, and_left, le-ltb}
+-- Certified requests agree.
+use Rattle.std.proofs.Common.{◌≡◌, ℕ, true, ◌&&◌, List, [], Some, nat_eq, sym, ◌∙◌, ap, subst}
 use Rattle.std.specs.List.{flat_map, find}
 use Rattle.sha2.specs.Sha256.{sha256}
 use Rattle.message_types.specs.declared.signed.Signed.{Signed}
@@ -13,15 +12,15 @@ use Rattle.message_types.specs.Digests.{digest_of_update}
 use Rattle.protocol_rules.specs.Group.{Group}
 use Rattle.protocol_rules.specs.Preorder.{certified, is_acked, update_requested, updates_requested}
 use Rattle.history_rules.specs.Events.{Entry}
-use Rattle.history_rules.specs.Setup.{Setup, is_correct, is_correct_master}
+use Rattle.history_rules.specs.Setup.{Setup, is_correct_master}
 use Rattle.history_rules.specs.Legal.{IsLegal, heard}
-use Rattle.history_rules.specs.Audit.{IsIn, here, HasSaid, NothingForged, bodies_of, texts_of, history_texts}
-use Rattle.agreement.specs.Laws.{HasSizes, IsSound, Begins, known_by}
+use Rattle.history_rules.specs.Audit.{IsIn, here, bodies_of, texts_of, history_texts}
+use Rattle.agreement.specs.Laws.{IsSound, Begins, known_by}
 use Rattle.agreement.proofs.Lists.{Within, in_first, in_flat_map, in_filter_map_from, first_met_from, find_some, none_some}
 use Rattle.agreement.proofs.Known.{learned_by, learned_more, known_of_within}
 use Rattle.agreement.proofs.Spoken.{if_some}
 use Rattle.agreement.proofs.Inside.{Closed}
-use Rattle.agreement.proofs.Origin.{learned_closed, learned_said, learned_stands}
+use Rattle.agreement.proofs.Origin.{learned_closed, learned_stands}
 use Rattle.agreement.proofs.Good.{learned_good}
 use Rattle.agreement.proofs.Texts.{update_text-same}
 use Rattle.agreement.proofs.Once.{IsBacked, IsAck, meet, acks_backed, ack_once}
@@ -96,16 +95,3 @@ module _ (w : Setup) (history : List Entry) (sound : IsSound w history) where
       let digests : digest_of_update a ≡ digest_of_update b =
       ack_once w history met.0 sound.legal met.1 x k (digest_of_update a) (digest_of_update b) met.3.0 met.4.0 met.3.2 met.4.2 met.3.1 met.4.1 in
       sym first.1.2 ∙ updates_same i j right_i right_j first.1.0 second.1.0 first.1.1 second.1.1 (ap digest_of_update first.1.2 ∙ digests ∙ ap digest_of_update (sym second.1.2)) ∙ second.1.2
-
-client_correct : (w : Setup) (actor c : ℕ) → actor ≡ w.group.n + c → is_correct w actor ≡ true
-client_correct w actor c e = not_from_false (nat_lt actor w.group.n && w.intruded actor) (and_left (nat_lt actor w.group.n) (w.intruded actor) (le-ltb actor w.group.n (omega arith)))
-
--- what a correct master has certified was said by its client
-pub certified_said : (w : Setup) (history : List Entry) (i : ℕ) → IsLegal w history → HasSizes w.group → NothingForged w history → is_correct_master w i ≡ true
-    → (known : List (Signed Body)) → Within known (learned_by w history i) → (x k : ℕ) (u : Update) → certified w.group known x k ≡ Some u → HasSaid history (w.group.n + u.client) (body.Update u)
-certified_said w history i legal sizes unforged correct known within x k u e =
-    let found = certified_from w.group known x k u e in
-    let update = requested_known (learned_by w history i) found.0 (learned_closed w history i) (λ p h. within p (found.1 p h)) x k u found.2 in
-    let signed = (learned_good w i history legal sizes correct (as_frame body.Update update.0) update.1).0 in
-    let said = learned_said w i history legal unforged correct (as_frame body.Update update.0) update.1 (client_correct w update.0.signer update.0.body.client signed) in
-    subst (λ (v : Update). HasSaid history (w.group.n + v.client) (body.Update v)) update.2 (subst (λ (x : ℕ). HasSaid history x (body.Update update.0.body)) signed said)

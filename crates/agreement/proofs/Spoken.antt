@@ -9,6 +9,7 @@ use Rattle.message_types.specs.declared.signed.Signed.{Signed}
 use Rattle.message_types.specs.declared.updates.Update.{Update}
 use Rattle.message_types.specs.declared.preordering.PoRequest.{PoRequest}
 use Rattle.message_types.specs.declared.vouchers.Order.{Order}
+use Rattle.message_types.specs.declared.views.Plan.{Plan}
 use Rattle.message_types.specs.declared.body.Body.{Body}
 use Rattle.message_types.specs.declared.body.Body.TheVariants as body
 use Rattle.message_types.specs.Parts.{as_frame}
@@ -40,7 +41,7 @@ Due g orders known taken said (body.PoRequest b) = IsIn (as_frame body.Update b.
 Due g orders known taken said (body.PoAck b) =
     (u : Update) × (first_of_list (updates_requested known b.j b.k) ≡ Some u) × (b.digest ≡ digest_of_update u) × (list_any (acks b.j b.k) said ≡ false)
 Due g orders known taken said (body.PoSummary b) = b.numbers ≡ map (vector g known) (numbers_below g.n)
-Due g orders known taken said (body.PrePrepare b) = b.frames ≡ latest_frames g known
+Due g orders known taken said (body.PrePrepare b) = (b.frames ≡ latest_frames g known) × (plan : Plan) × (b.s ≡ next_number said b.v plan)
 Due g orders known taken said (body.Prepare b) =
     (rows : List (List ℕ)) × (offered (facts_of g known) b.v b.s ≡ Some rows) × (b.digest ≡ digest_of_rows rows) × (b.v ≡ view g known)
     × (is_open g known ≡ true) × (list_any (prepares_said b.v b.s) said ≡ false)
@@ -123,7 +124,7 @@ module _ (g : Group) (orders : List Update → ℕ → List Order) (me : ℕ) (k
 
   preprepares_are_due : (facts : List OrderFact) (at_tick : Bool) → Each IsDue (preprepares_due g me known facts said at_tick)
   preprepares_are_due facts at_tick = each_elim IsDue (plan_known facts (view g known)) _ (λ plan _.
-      each_if IsDue _ _ [] (λ _. each_one IsDue (body.PrePrepare record { v = view g known; s = next_number said (view g known) plan; frames = latest_frames g known }) refl) (λ _. each_none IsDue))
+      each_if IsDue _ _ [] (λ _. each_one IsDue (body.PrePrepare record { v = view g known; s = next_number said (view g known) plan; frames = latest_frames g known }) (refl, plan, refl)) (λ _. each_none IsDue))
 
   prepares_are_due : Each IsDue (prepares_due g (facts_of g known) said (view g known) (is_open g known))
   prepares_are_due = each_if IsDue (is_open g known) _ [] (λ opened. each_flat_map IsDue _ (in_window g (facts_of g known)) (λ s _.

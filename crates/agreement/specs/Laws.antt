@@ -1,6 +1,6 @@
 -- The laws of agreement, as statements over every setup and history. (What the correct masters of a group keep while at
 -- most f of it are intruded: Prime's and PBFT's safety, here of whole legal histories.)
-use Rattle.std.specs.Prelude.{◌≡◌, ℕ, ◌+◌, ◌<◌, ◌≤◌, ◌⊎◌, Bool, true, false, List, [], ◌∷◌, ◌++◌, Some, length}
+use Rattle.std.specs.Prelude.{◌≡◌, ℕ, ◌+◌, ◌<◌, ◌≤◌, ◌⊎◌, Bool, true, false, List, ◌++◌, ◌∷◌, Some, length, map}
 use Rattle.std.specs.Prelude.{slice_get}
 use Rattle.quorum_sets.specs.Quorum.{IsGroup, group_size, quorum_size}
 use Rattle.quorum_sets.specs.Masters.{voters}
@@ -17,6 +17,7 @@ use Rattle.protocol_rules.specs.Preorder.{certified}
 use Rattle.protocol_rules.specs.Facts.{facts_of}
 use Rattle.protocol_rules.specs.Plans.{certificates_of, planned, base_of}
 use Rattle.protocol_rules.specs.Order.{ordered, is_voted, prepare_by, commit_by}
+use Rattle.protocol_rules.specs.Master.{learned}
 use Rattle.std.specs.List.{flat_map}
 use Rattle.vouched_orders.specs.declared.vote.Vote.{Vote}
 use Rattle.vouched_orders.specs.Vouching.{votes_in, orders_done}
@@ -81,14 +82,39 @@ CertifiedAgree =
     → is_correct_master w i ≡ true → is_correct_master w j ≡ true
     → (master number : ℕ) (a b : Update) → certified w.group (known_by w first i) master number ≡ Some a → certified w.group (known_by w second j) master number ≡ Some b → a ≡ b
 
--- Where a correct master knows a quorum's commits of a number in view v, each quorum of prepares for it in view v or later
--- that a correct master knows is for the same digest.
+-- some correct master, at some time of the history, knows the body in the signer's name
+pub record IsKnown (w : Setup) (history : List Entry) (signer : ℕ) (b : Body) : Type 0 where
+  pub upto : List Entry
+  pub begins : Begins upto history
+  pub master : ℕ
+  pub correct : is_correct_master w master ≡ true
+  pub part : Signed Body
+  pub among : IsIn part (known_by w upto master)
+  pub by : part.signer ≡ signer
+  pub word : part.body ≡ b
+
+-- A quorum said the body, as far as correct masters know: each of the quorum's words is known to some correct master at some
+-- time, and no one master need know them all.
+pub record IsQuorumKnown (w : Setup) (history : List Entry) (b : Body) : Type 0 where
+  pub masters : ℕ → Bool
+  pub enough : w.group.q ≤ length (voters masters w.group.n)
+  pub known : (m : ℕ) → m < w.group.n → masters m ≡ true → IsKnown w history m b
+
+-- The votes of a quorum that one correct master knows are such.
+abbrev pub VotesAreKnown : Type 0
+VotesAreKnown =
+    (w : Setup) (history upto : List Entry) (i : ℕ) → Begins upto history → is_correct_master w i ≡ true → (v s : ℕ) (digest : List ℕ)
+    → (is_voted w.group (prepare_by v s digest) (facts_of w.group (known_by w upto i)) ≡ true
+    → IsQuorumKnown w history (body.Prepare record { v = v; s = s; digest = digest }))
+    × (is_voted w.group (commit_by v s digest) (facts_of w.group (known_by w upto i)) ≡ true
+    → IsQuorumKnown w history (body.Commit record { v = v; s = s; digest = digest }))
+
+-- Where a quorum committed a number in view v, each quorum that prepared it in view v or later prepared the same digest.
 abbrev pub CommittedStays : Type 0
 CommittedStays =
-    (w : Setup) (history first second : List Entry) (i j : ℕ) → IsSound w history → Begins first history → Begins second history
-    → is_correct_master w i ≡ true → is_correct_master w j ≡ true
-    → (v u s : ℕ) (a b : List ℕ) → v ≤ u → is_voted w.group (commit_by v s a) (facts_of w.group (known_by w first i)) ≡ true
-    → is_voted w.group (prepare_by u s b) (facts_of w.group (known_by w second j)) ≡ true → a ≡ b
+    (w : Setup) (history : List Entry) → IsSound w history → (v u s : ℕ) (a b : List ℕ) → v ≤ u
+    → IsQuorumKnown w history (body.Commit record { v = v; s = s; digest = a })
+    → IsQuorumKnown w history (body.Prepare record { v = u; s = s; digest = b }) → a ≡ b
 
 -- What any two correct masters, at any two times, have ordered as one number is the same.
 abbrev pub OrderedAgree : Type 0
@@ -108,11 +134,28 @@ ExecutionsAgree =
 abbrev pub ExecutionsGrow : Type 0
 ExecutionsGrow = (w : Setup) (history first : List Entry) (i : ℕ) → Begins first history → Begins (executions w first i) (executions w history i)
 
--- Each update that a correct master has executed, its client said at an entry before.
+-- the update is among the parts of the frame that the entry took
+abbrev pub TakesUpdate : Entry → Update → Type 0
+TakesUpdate e u = IsIn (body.Update u) (map (λ p. p.body) (parts_taken e))
+
+-- The entry at which a master came to know an update: it took a frame with the update among its parts, took none before, and
+-- had learned no such word before, its own words included.
+pub record FirstTaking (w : Setup) (history : List Entry) (master : ℕ) (u : Update) : Type 0 where
+  pub before : List Entry
+  pub entry : Entry
+  pub place : Stands history before entry
+  pub by : entry.actor ≡ master
+  pub taken : TakesUpdate entry u
+  pub first : (earlier : List Entry) (d : Entry) → Stands before earlier d → d.actor ≡ master → TakesUpdate d u → ⊥
+  pub unknown : IsIn (body.Update u) (map (λ p. p.body) (flat_map learned (heard w before master))) → ⊥
+
+-- Each update that a correct master has executed came to it in a frame taken, and its client said it at an entry before the
+-- first such.
 abbrev pub ExecutedWereSaid : Type 0
 ExecutedWereSaid =
-    (w : Setup) (history before : List Entry) (e : Entry) → IsLegal w history → HasSizes w.group → NothingForged w history → Stands history before e
-    → is_correct_master w e.actor ≡ true → (u : Update) → IsIn u (executions w (before ++ e ∷ []) e.actor) → HasSaid before (w.group.n + u.client) (body.Update u)
+    (w : Setup) (history : List Entry) (i : ℕ) → IsLegal w history → HasSizes w.group → NothingForged w history
+    → is_correct_master w i ≡ true → (u : Update) → IsIn u (executions w history i)
+    → (came : FirstTaking w history i u) × HasSaid came.before (w.group.n + u.client) (body.Update u)
 
 -- No client and number stand twice in what a master has executed.
 abbrev pub NoneExecutedTwice : Type 0
@@ -155,4 +198,4 @@ DoneBegins =
     (w : Setup) (history : List Entry) (client : ℕ) (can_act : Order → Bool) → IsSound w history
     → ((xs ys : List Update) → Begins xs ys → Begins (w.orders xs client) (w.orders ys client))
     → (i : ℕ) × (is_correct_master w i ≡ true)
-    × Begins (orders_done can_act client w.group.f (votes_taken history (w.group.n + client))) (w.orders (executions w history i) client)
+    × Begins (orders_done can_act client w.group.n w.group.f (votes_taken history (w.group.n + client))) (w.orders (executions w history i) client)

@@ -1,4 +1,5 @@
-ghost use Rattle.agreement.specs.Laws.{QuorumsMeet, ViewInduction, CertifiedAgree, CommittedStays, OrderedAgree, ExecutionsAgree, ExecutionsGrow, ExecutedWereSaid, NoneExecutedTwice, VouchedBegin, DoneBegins};
+ghost use Rattle.agreement.specs.Laws.{QuorumsMeet, ViewInduction, CertifiedAgree, VotesAreKnown, CommittedStays, OrderedAgree, ExecutionsAgree, ExecutionsGrow, ExecutedWereSaid, NoneExecutedTwice, VouchedBegin, DoneBegins};
+ghost use Rattle.agreement.specs.Blame.{AcknowledgesOnce, ProposesOnce, PreparesOnce, CommitsOnce};
 
 /// Two quorums of a group share a master that isn't intruded.
 pub fn quorums_meet()
@@ -16,7 +17,13 @@ pub fn certified_agree()
     ensures { CertifiedAgree }
 {}
 
-/// What a quorum committed, no quorum prepares otherwise in its view or a later one.
+/// Votes of a quorum that one correct master knows are a quorum's words as far as correct masters know.
+pub fn votes_are_known()
+    ensures { VotesAreKnown }
+{}
+
+/// What a quorum committed, no quorum prepares otherwise in its view or a later one, whichever correct masters know of
+/// either.
 pub fn committed_stays()
     ensures { CommittedStays }
 {}
@@ -36,7 +43,7 @@ pub fn executions_grow()
     ensures { ExecutionsGrow }
 {}
 
-/// Each update that a correct master executed was said by its client before.
+/// Each update that a correct master executed was said by its client before that master first took a frame with it.
 pub fn executed_were_said()
     ensures { ExecutedWereSaid }
 {}
@@ -54,4 +61,24 @@ pub fn vouched_begin()
 /// What a proxy or a screen has done begins the orders of some correct master.
 pub fn done_begins()
     ensures { DoneBegins }
+{}
+
+/// A correct master acknowledges one update for each request.
+pub fn acknowledges_once()
+    ensures { AcknowledgesOnce }
+{}
+
+/// A correct leader proposes once for each number of a view.
+pub fn proposes_once()
+    ensures { ProposesOnce }
+{}
+
+/// A correct master prepares once for each number of a view.
+pub fn prepares_once()
+    ensures { PreparesOnce }
+{}
+
+/// A correct master commits once for each number of a view.
+pub fn commits_once()
+    ensures { CommitsOnce }
 {}

@@ -2,7 +2,7 @@
 use Rattle.std.proofs.Common.{◌≡◌, ℕ, ◌-◌, ◌<◌, Bool, true, false, List, length, take, inl, inr, sym, ◌∙◌, ap, arith, length-take-le}
 use Rattle.std.proofs.lemmas.List.{take_all}
 use Rattle.std.proofs.lemmas.Bool.{cases_lt}
-use Rattle.master_node.specs.Charge.{leaves_for, room_of}
+use Rattle.history_rules.specs.Leaves.{leaves_for, room_of}
 
 all_used : (shared : Bool) (leaves : ℕ) → leaves_for shared (room_of shared leaves) ≡ leaves
 all_used true leaves = omega arith

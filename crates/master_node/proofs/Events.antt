@@ -10,7 +10,8 @@ use Rattle.protocol_rules.specs.Measures.{Told}
 use Rattle.protocol_rules.specs.Views.{view}
 use Rattle.protocol_rules.specs.Master.{Heard, learned, taken_frames, known_at, taken_at, said_before, told_of, waits}
 use Rattle.words_by_part.specs.Laws.{told_at}
-use Rattle.master_node.specs.Charge.{leaves_for, leaves_used, taken_by}
+use Rattle.history_rules.specs.Leaves.{leaves_for}
+use Rattle.master_node.specs.Charge.{leaves_used, taken_by}
 
 abbrev pub told_event : Bool → ℕ → Bool → Told
 told_event is_tick view waits = record { is_tick = is_tick; view = view; waits = waits }

@@ -6,15 +6,16 @@ use Rattle.message_types.specs.declared.signed.Signed.{Signed}
 use Rattle.message_types.specs.declared.body.Body.{Body}
 use Rattle.protocol_rules.specs.Master.{Heard, answers}
 use Rattle.history_rules.specs.Events.{Entry, frame_taken, is_tick, is_silent}
+use Rattle.history_rules.specs.Leaves.{leaves_for, room_of}
 use Rattle.history_rules.specs.Setup as setup
-use Rattle.history_rules.specs.Setup.{Setup, is_correct_master, heard_from, signed_from, own, room}
-use Rattle.history_rules.specs.Legal.{Stands, IsLegal, heard, says}
+use Rattle.history_rules.specs.Setup.{Setup, heard_from, signed_from, own, room}
+use Rattle.history_rules.specs.Legal.{Stands, heard_in, says_in}
 use Rattle.history_rules.specs.Audit.{IsIn, here, there}
-use Rattle.agreement.proofs.Lists.{Each, none_in, in_cons_cases, in_filter_from}
+use Rattle.agreement.proofs.Lists.{none_in, in_cons_cases, in_filter_from}
 use Rattle.agreement.proofs.Known.{hears, signed_from_bodies, correct_said}
-use Rattle.master_node.specs.Charge.{leaves_for, leaves_used, room_of, says_at}
+use Rattle.master_node.specs.Charge.{leaves_used, says_at}
 use Rattle.master_node.specs.Running.{IsRunning}
-use Rattle.master_node.specs.Laws.{SaysAsHistoriesDo, TicksAreHeard, NothingToSign}
+use Rattle.master_node.specs.Laws.{SilentSayNothing, SaysAsHistoriesDo, SilentSayNothingInHistories, TicksAreHeard, NothingToSign, KeepsItsCharge}
 use Rattle.own_words.proofs.Measuring.{ticks_told}
 use Rattle.master_node.proofs.Steps.{handed_so}
 
@@ -29,23 +30,19 @@ empty_from : {X : Type 0} (xs : List X) → ((x : X) → IsIn x xs → ⊥) → 
 empty_from [] none = refl
 empty_from (x ∷ xs) none = absurd (none x (here xs))
 
--- at the entries where nothing is heard nothing is said
-abbrev SaysNothing : Entry → Type 0
-SaysNothing e = is_silent e.event ≡ true → e.said ≡ []
-
-silent_says_nothing : (w : Setup) (history : List Entry) (i : ℕ) → IsLegal w history → is_correct_master w i ≡ true → Each SaysNothing (own history i)
+pub silent_say_nothing : SilentSayNothingInHistories
 unfolding own
-silent_says_nothing w history i legal correct e h silent =
+silent_say_nothing w history i legal correct e h silent =
     let from = in_filter_from (λ (x : Entry). nat_eq x.actor i) history h in
     let place = stands_in history from.0 in
     empty_from e.said (λ b k. false≢true (sym (correct_said w i b legal place.1 (eqb-true e.actor i from.1) correct k).0 ∙ silent))
 
-used_alike : (w : Setup) (i used : ℕ) (es : List Entry) → Each SaysNothing es → leaves_used w.shared_leaves (heard_from w i used es) ≡ setup.leaves_used w es
+used_alike : (w : Setup) (i used : ℕ) (es : List Entry) → SilentSayNothing es → leaves_used w.shared_leaves (heard_from w i used es) ≡ setup.leaves_used w es
 used_alike w i used [] each = refl
-used_alike w i used (e ∷ rest) each = by (is_silent e.event) refl (used_alike w i (used + setup.leaves_for w e.said) rest (λ x h. each x (there e rest h)))
+used_alike w i used (e ∷ rest) each = by (is_silent e.event) refl (used_alike w i (used + leaves_for w.shared_leaves (length e.said)) rest (λ x h. each x (there e rest h)))
   where
     later : List Heard
-    later = heard_from w i (used + setup.leaves_for w e.said) rest
+    later = heard_from w i (used + leaves_for w.shared_leaves (length e.said)) rest
 
     many : length (signed_from w i used e.said 0 e.said) ≡ length e.said
     many = sym (length-map (signed_from w i used e.said 0 e.said) (λ (f : Signed Body). f.body)) ∙ ap length (signed_from_bodies w i used 0 e.said e.said)
@@ -54,9 +51,9 @@ used_alike w i used (e ∷ rest) each = by (is_silent e.event) refl (used_alike 
     none_used true = refl
     none_used false = refl
 
-    by : (b : Bool) → is_silent e.event ≡ b → leaves_used w.shared_leaves later ≡ setup.leaves_used w rest → leaves_used w.shared_leaves (cond (is_silent e.event) later (hears w i used e ∷ later)) ≡ setup.leaves_for w e.said + setup.leaves_used w rest
+    by : (b : Bool) → is_silent e.event ≡ b → leaves_used w.shared_leaves later ≡ setup.leaves_used w rest → leaves_used w.shared_leaves (cond (is_silent e.event) later (hears w i used e ∷ later)) ≡ leaves_for w.shared_leaves (length e.said) + setup.leaves_used w rest
     by true silent same =
-        let none : setup.leaves_for w e.said ≡ 0 = ap (λ (bs : List Body). leaves_for w.shared_leaves (length bs)) (each e (here rest) silent) ∙ none_used w.shared_leaves in
+        let none : leaves_for w.shared_leaves (length e.said) ≡ 0 = ap (λ (bs : List Body). leaves_for w.shared_leaves (length bs)) (each e (here rest) silent) ∙ none_used w.shared_leaves in
         ap (λ b. leaves_used w.shared_leaves (cond b later (hears w i used e ∷ later))) silent ∙ same ∙ (omega arith)
     by false loud same =
         ap (λ b. leaves_used w.shared_leaves (cond b later (hears w i used e ∷ later))) loud
@@ -70,12 +67,12 @@ rule_of r true true s due other correct loud = absurd (false≢true correct)
 rule_of r false x s due other correct loud = absurd (false≢true correct)
 
 pub says_as_histories_do : SaysAsHistoriesDo
-unfolding says says_at heard
-says_as_histories_do w history i event legal correct loud =
-    ap (λ n. take (room_of w.shared_leaves (w.leaves - n)) (answers w.group w.orders i (heard w history i) (frame_taken event) (is_tick event)))
-    (used_alike w i 0 (own history i) (silent_says_nothing w history i legal correct))
-    ∙ rule_of (room w (own history i)) (nat_lt i w.group.n) (w.intruded i) (is_silent event)
-    (answers w.group w.orders i (heard w history i) (frame_taken event) (is_tick event)) (w.client_says i (own history i) event) correct loud
+unfolding says_in heard_in says_at
+says_as_histories_do w i own event correct quiet loud =
+    ap (λ n. take (room_of w.shared_leaves (w.leaves - n)) (answers w.group w.orders i (heard_in w i own) (frame_taken event) (is_tick event)))
+    (used_alike w i 0 own quiet)
+    ∙ rule_of (room w own) (nat_lt i w.group.n) (w.intruded i) (is_silent event)
+    (answers w.group w.orders i (heard_in w i own) (frame_taken event) (is_tick event)) (w.client_says i own event) correct loud
 
 pub ticks_are_heard : TicksAreHeard
 ticks_are_heard c kept before is = is.keeps.speaks.knows.measure.ticks ∙ ticks_told c.group [] before
@@ -84,3 +81,6 @@ pub nothing_to_sign : NothingToSign
 nothing_to_sign c kept before took at_tick h none =
     subst (λ (own : List (Signed Body)). IsRunning c (record kept { unheard = own }) (before ++ record { took = took; is_tick = at_tick; said = [] } ∷ [])) (sym h.unheard)
     (handed_so c kept before took at_tick [] h (record { own = refl; words = sym none }))
+
+pub keeps_its_charge : KeepsItsCharge
+keeps_its_charge c kept before is = (is.keeps.speaks.knows.preorder.group, is.keeps.speaks.own, is.leaves)

@@ -5,3 +5,4 @@ pub mod Cutting
 pub mod Steps
 pub mod Histories
 pub mod Starting
+pub mod Threads

@@ -36,7 +36,8 @@ use Rattle.master_answers.specs.declared.speaker.Speaker.{Speaker}
 use Rattle.master_answers.specs.Speaks.{Speaks, clients_of}
 use Rattle.master_answers.proofs.Growing.{knowledge_may_grow, events_may_grow}
 use Rattle.master_node.specs.declared.running.Running.{Running}
-use Rattle.master_node.specs.Charge.{Charge, leaves_for, room_of, leaves_left, says_at, taken_by}
+use Rattle.history_rules.specs.Leaves.{leaves_for, room_of}
+use Rattle.master_node.specs.Charge.{Charge, leaves_left, says_at, taken_by}
 use Rattle.master_node.specs.Running.{HoldsPlant, group_in, ticks_in, IsRunning, HasLearned, IsReady, HasSpoken, AreItsFrames}
 use Rattle.master_node.proofs.Events.{told_now, told_at_end, told_with, taken_more, said_more, learned_more, used_more}
 use Rattle.master_node.proofs.Plants.{clients_are, plant_grows, orders_grow, some_done, rest_passes, executed_there}

@@ -1,6 +1,5 @@
 -- What a master is made with, and what it says at an event: all that the rules make it say, cut to what its leaves can sign.
--- (Leaves are one-time keys, RFC 8554 section 5; that up to 32 bodies of one event share one is this project's own.)
-use Rattle.std.specs.Prelude.{◌≡◌, ℕ, ◌+◌, ◌-◌, ◌*◌, ◌/◌, Bool, List, [], ◌∷◌, Option, length, nat_eq, take, if◌then◌else◌}
+use Rattle.std.specs.Prelude.{◌≡◌, ℕ, ◌+◌, ◌-◌, Bool, List, Option, length, map, nat_eq, take}
 use Rattle.std.specs.List.{flat_map}
 use Rattle.message_types.specs.declared.signed.Signed.{Signed}
 use Rattle.message_types.specs.declared.updates.Update.{Update}
@@ -10,6 +9,7 @@ use Rattle.protocol_rules.specs.Group.{Group, group_of}
 use Rattle.master_points.specs.Orders.{orders}
 use Rattle.scenario_file.specs.declared.scenario.Scenario.{Scenario}
 use Rattle.protocol_rules.specs.Master.{Heard, taken_frames, answers}
+use Rattle.history_rules.specs.Leaves.{leaves_of, room_of}
 
 -- the group and the master's number in it, the orders that the plant's rules make of executed updates, how many leaves the
 -- master has, and whether up to 32 bodies of one event share a leaf
@@ -20,18 +20,9 @@ pub record Charge : Type 0 where
   pub leaves : ℕ
   pub shared_leaves : Bool
 
--- how many leaves so many bodies of one event use
-abbrev pub leaves_for : Bool → ℕ → ℕ
-leaves_for shared count = if shared then (count + 31) / 32 else count
-
--- how many bodies of one event so many leaves can sign
-abbrev pub room_of : Bool → ℕ → ℕ
-room_of shared leaves = if shared then 32 * leaves else leaves
-
 -- how many leaves these events used
 abbrev pub leaves_used : Bool → List Heard → ℕ
-leaves_used shared [] = 0
-leaves_used shared (e ∷ rest) = leaves_for shared (length e.said) + leaves_used shared rest
+leaves_used shared before = leaves_of shared (map (λ e. length e.said) before)
 
 abbrev pub leaves_left : Charge → List Heard → ℕ
 leaves_left c before = c.leaves - leaves_used c.shared_leaves before

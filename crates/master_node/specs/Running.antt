@@ -17,7 +17,8 @@ use Rattle.master_points.specs.declared.plant.Plant.{Plant}
 use Rattle.master_points.specs.Orders.{Held, IsPlant, fresh, held_after, orders}
 use Rattle.master_knowledge.specs.Knows.{IsCaughtUp}
 use Rattle.master_answers.specs.Speaks.{Speaks, clients_of}
-use Rattle.master_node.specs.Charge.{Charge, leaves_for, leaves_left, says_at, taken_by}
+use Rattle.history_rules.specs.Leaves.{leaves_for}
+use Rattle.master_node.specs.Charge.{Charge, leaves_left, says_at, taken_by}
 use Rattle.master_node.specs.declared.running.Running.{Running}
 
 -- The points are the plant after all updates that are executed where these words are known.
@@ -121,3 +122,11 @@ group_in kept = kept.speaker.knowledge.preorder.group
 -- the ticks so far
 abbrev pub ticks_in : Running → ℕ
 ticks_in kept = kept.speaker.knowledge.measure.ticks
+
+-- the master's number
+abbrev pub number_in : Running → ℕ
+number_in kept = kept.speaker.me
+
+-- how many leaves it has left
+abbrev pub leaves_in : Running → ℕ
+leaves_in kept = kept.leaves

@@ -1,5 +1,5 @@
 ghost use Rattle.std.specs.Prelude.{◌≡◌, ◌+◌, ◌≤◌, ℕ, length, take};
-ghost use Rattle.master_node.specs.Charge.{leaves_for, room_of};
+ghost use Rattle.history_rules.specs.Leaves.{leaves_for, room_of};
 
 use message_types::Body;
 

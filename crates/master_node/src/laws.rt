@@ -1,10 +1,21 @@
 //! What joins a master as an object to histories. The functions do nothing; their contracts are the laws.
 
-ghost use Rattle.master_node.specs.Laws.{SaysAsHistoriesDo, TicksAreHeard, NothingToSign};
+ghost use Rattle.master_node.specs.Laws.{SaysAsHistoriesDo, SilentSayNothingInHistories, TicksAreHeard, NothingToSign, KeepsItsCharge};
 
-/// What a correct master says by its own events is what the rules of a legal history make it say.
+/// What a correct master says by its own events is what the rules of histories make it say after any own list whose silent
+/// entries said nothing.
 pub fn says_as_histories_do()
     ensures { SaysAsHistoriesDo }
+{}
+
+/// The own lists of correct masters in legal histories are such lists.
+pub fn silent_say_nothing()
+    ensures { SilentSayNothingInHistories }
+{}
+
+/// A master's state keeps what it is charged with.
+pub fn keeps_its_charge()
+    ensures { KeepsItsCharge }
 {}
 
 /// A master counts its ticks.

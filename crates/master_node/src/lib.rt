@@ -1,6 +1,7 @@
 //! One correct master: what it says and executes at each event is what its own list of events defines.
 #![tactic(auto)]
 
+pub mod crossing;
 mod cut;
 mod execute;
 pub mod laws;

@@ -7,12 +7,13 @@ ghost use Rattle.protocol_rules.specs.Preorder.{certified};
 ghost use Rattle.protocol_rules.specs.Views as rules;
 ghost use Rattle.protocol_rules.specs.Master.{Heard, executed};
 ghost use Rattle.history_rules.specs.Legal.{known_of};
+ghost use Rattle.own_words.specs.Laws.{ticks_heard};
 ghost use Rattle.master_points.specs.Orders.{orders};
 ghost use Rattle.scenario_file.specs.Reading.{contents};
 ghost use Rattle.scenario_file.specs.Valid.{IsScenario};
 ghost use Rattle.master_knowledge.specs.Whole.{is_whole};
-ghost use Rattle.master_node.specs.Charge.{Charge, IsChargeOf, says_at};
-ghost use Rattle.master_node.specs.Running.{IsRunning, HasSpoken, AreItsFrames, group_in, ticks_in};
+ghost use Rattle.master_node.specs.Charge.{Charge, IsChargeOf, leaves_left, says_at};
+ghost use Rattle.master_node.specs.Running.{IsRunning, HasSpoken, AreItsFrames, group_in, ticks_in, leaves_in};
 ghost use Rattle.master_node.specs.Node.{NodeState, IsWorking};
 
 use crate::running::Running;
@@ -131,6 +132,22 @@ impl Node {
         ensures { (c : Charge) (before : List Heard) → IsRunning c self.now.running before → result ≡ rules.view c.group (known_of before) }
     {
         self.running.speaker.knowledge.views.view()
+    }
+
+    /// How many ticks the master has had.
+    pub fn ticks(&self) -> u64
+        ensures told { result ≡ ticks_in self.now.running }
+        ensures heard { (c : Charge) (before : List Heard) → IsRunning c self.now.running before → result ≡ ticks_heard before }
+    {
+        self.running.speaker.knowledge.measure.ticks()
+    }
+
+    /// How many leaves it has left to sign with.
+    pub fn leaves(&self) -> u64
+        ensures told { result ≡ leaves_in self.now.running }
+        ensures left { (c : Charge) (before : List Heard) → IsRunning c self.now.running before → result ≡ leaves_left c before }
+    {
+        self.running.leaves
     }
 
     /// The update that is certified as request `k` of master `j`.

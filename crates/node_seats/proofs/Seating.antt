@@ -13,21 +13,21 @@ use Rattle.own_words.specs.Laws.{ticks_heard}
 use Rattle.own_words.proofs.Limits.{filter_more}
 use Rattle.master_node.specs.declared.running.Running.{Running}
 use Rattle.master_node.specs.Charge.{Charge, says_at}
-use Rattle.master_node.specs.Running.{IsRunning, IsSomeRunning, HasSpoken, AreItsFrames, group_in, ticks_in}
+use Rattle.master_node.specs.Running.{IsRunning, IsSomeRunning, HasSpoken, AreItsFrames, group_in, ticks_in, number_in}
 use Rattle.master_node.specs.Node.{NodeState}
-use Rattle.master_node.proofs.Histories.{ticks_are_heard}
+use Rattle.master_node.proofs.Histories.{ticks_are_heard, keeps_its_charge}
 use Rattle.scenario_file.specs.Valid.{IsHeight}
 use Rattle.node_seats.specs.Seated.{IsSeated, IsAnswer}
 
 -- the group by which a seated master looks at places is its own
 pub group_seated : {g : Group} {me ticks : ℕ} {node : NodeState} → IsSeated g me ticks node → group_in node.running ≡ g
-group_seated seated = seated.is.keeps.speaks.knows.preorder.group ∙ seated.same
+group_seated {node = node} seated = (keeps_its_charge seated.charge node.running seated.before seated.is).0 ∙ seated.same
 
 pub ticks_seated : {g : Group} {me ticks : ℕ} {node : NodeState} → IsSeated g me ticks node → ticks_in node.running ≡ ticks
 ticks_seated {g} {me} {ticks} {node} seated = ticks_are_heard seated.charge node.running seated.before seated.is ∙ seated.many
 
-pub number_seated : {g : Group} {me ticks : ℕ} {node : NodeState} → IsSeated g me ticks node → node.running.speaker.me ≡ me
-number_seated seated = seated.is.keeps.speaks.own ∙ seated.master
+pub number_seated : {g : Group} {me ticks : ℕ} {node : NodeState} → IsSeated g me ticks node → number_in node.running ≡ me
+number_seated {node = node} seated = (keeps_its_charge seated.charge node.running seated.before seated.is).1 ∙ seated.master
 
 pub works : {g : Group} {me ticks : ℕ} {node : NodeState} → IsSeated g me ticks node → IsSomeRunning node.running
 works seated = record { charge = seated.charge; before = seated.before; is = seated.is }
@@ -41,7 +41,7 @@ pub answered : (old spoken new : NodeState) (number : ℕ) (took : Option (Signe
     → list ≡ frames
     → ((c : Charge) (before : List Heard) (took : Option (Signed Body)) (at_tick : Bool) → HasSpoken c spoken.running before took at_tick → AreItsFrames c before took at_tick list
     → IsRunning c new.running (before ++ record { took = took; is_tick = at_tick; said = list } ∷ []))
-    → old.running.speaker.me ≡ number
+    → number_in old.running ≡ number
     → IsAnswer old new took at_tick frames
 answered old spoken new number took at_tick bodies frames list said has_spoken own words same signed mine =
     subst (λ l. IsAnswer old new took at_tick l) same (record {
@@ -51,7 +51,7 @@ answered old spoken new number took at_tick bodies frames list said has_spoken o
   where
     its : (c : Charge) (before : List Heard) → IsRunning c old.running before → AreItsFrames c before took at_tick list
     its c before is = record {
-      own = ap (λ m. list_all (λ f. nat_eq f.signer m) list) (sym is.keeps.speaks.own ∙ mine) ∙ ap (list_all (λ f. nat_eq f.signer number)) same ∙ own;
+      own = ap (λ m. list_all (λ f. nat_eq f.signer m) list) (sym (keeps_its_charge c old.running before is).1 ∙ mine) ∙ ap (list_all (λ f. nat_eq f.signer number)) same ∙ own;
       words = ap (map (λ (f : Signed Body). f.body)) same ∙ words ∙ said c before is;
     }
 

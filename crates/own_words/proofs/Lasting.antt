@@ -32,7 +32,7 @@ taken_placed w now (Took stamp place frame) well = (λ p h. elim (in_cases (part
 ])
 taken_placed w now _ well = each_none _
 
-ticks_more : (xs ys : List Heard) → ticks_heard xs ≤ ticks_heard (xs ++ ys)
+pub ticks_more : (xs ys : List Heard) → ticks_heard xs ≤ ticks_heard (xs ++ ys)
 ticks_more xs ys =
     let both : ticks_heard (xs ++ ys) ≡ ticks_heard xs + ticks_heard ys = ap length (filter-append (λ e. e.is_tick) xs ys) ∙ length-append (filter (λ e. e.is_tick) xs) (filter (λ e. e.is_tick) ys) in
     omega arith
@@ -42,14 +42,14 @@ module _ (w : Setup) (i : ℕ) (sizes : HasSizes w.group) (correct : is_correct_
   abbrev StaysPlaced : List Entry → Type 0
   StaysPlaced history = IsLegal w history → ticks_heard (heard w history i) ≤ 2 ^ 32 → Each (λ p. in_place w.group p ≡ true) (learned_by w history i)
 
-  ticks_before : (before : List Entry) (e : Entry) → ticks_heard (heard w (before ++ e ∷ []) i) ≤ 2 ^ 32 → ticks_heard (heard w before i) ≤ 2 ^ 32
+  pub ticks_before : (before : List Entry) (e : Entry) → ticks_heard (heard w (before ++ e ∷ []) i) ≤ 2 ^ 32 → ticks_heard (heard w before i) ≤ 2 ^ 32
   ticks_before before e few =
       let grown = heard_more w before (e ∷ []) i in
       let less : ticks_heard (heard w before i) ≤ ticks_heard (heard w before i ++ grown.0) = ticks_more (heard w before i) grown.0 in
       let same : ticks_heard (heard w (before ++ e ∷ []) i) ≡ ticks_heard (heard w before i ++ grown.0) = ap ticks_heard grown.1 in
       omega arith
 
-  ticks_now : (before : List Entry) (e : Entry) → e.actor ≡ i → is_silent e.event ≡ false → ticks_heard (heard w (before ++ e ∷ []) i) ≤ 2 ^ 32
+  pub ticks_now : (before : List Entry) (e : Entry) → e.actor ≡ i → is_silent e.event ≡ false → ticks_heard (heard w (before ++ e ∷ []) i) ≤ 2 ^ 32
       → ticks_heard (heard w before i) + cond (is_tick e.event) 1 0 ≤ 2 ^ 32
   ticks_now before e by loud few =
       let last = heard_last w before e i by loud in

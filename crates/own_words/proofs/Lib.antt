@@ -8,3 +8,4 @@ pub mod Speaking
 pub mod Lasting
 pub mod Spelled
 pub mod Standing
+pub mod Signing

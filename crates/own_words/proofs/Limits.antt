@@ -1,21 +1,24 @@
 -- Bounds of what the rules count: numbers in lists, greatest numbers, runs, members of sorted lists.
 use Rattle.std.proofs.Common.{◌≡◌, ℕ, ◌+◌, ◌*◌, ◌<◌, ◌≤◌, zero, suc, max, Bool, true, false, cond, List, [], ◌∷◌, ◌++◌, Option, Some, None, length, length-append, filter, reverse, nat_le, refl, sym, ◌∙◌, ap, subst, inl, inr, ◌⊎◌, arith}
-use Rattle.std.specs.Prelude.{slice_get, slice_index}
+use Rattle.std.specs.Prelude.{nat_lt, slice_get, slice_index}
 use Rattle.std.specs.List.{list_all}
 use Rattle.std.specs.Str.{bytes_eq}
-use Rattle.std.proofs.lemmas.Bool.{and_from, and_parts, leb-true, le-leb, cases_lt}
+use Rattle.std.proofs.lemmas.Bool.{and_from, and_parts, leb-true, ltb-true, le-leb, cases_lt}
 use Rattle.std.proofs.lemmas.List.{reverse-append}
 use Rattle.std.proofs.lemmas.List.Elements.{filter-append}
 use Rattle.std.proofs.lemmas.Slice.Eq.{bytes_eq-Decides}
-use Rattle.protocol_rules.specs.Words.{greatest_to, greatest_of, run_from, numbers_from, in_order, put_in_order}
+use Rattle.protocol_rules.specs.Words.{greatest_of, run_from, numbers_from, in_order, put_in_order}
 use Rattle.protocol_rules.specs.Group.{Group, most_number, most_view}
-use Rattle.protocol_rules.specs.Places.{is_number, is_view}
-use Rattle.protocol_rules.specs.Views.{view}
+use Rattle.protocol_rules.specs.Places.{is_number, is_view, in_place, word_in_place}
+use Rattle.protocol_rules.specs.Views.{view, view_shown, is_suspected}
+use Rattle.protocol_rules.proofs.Greatest.{or_zero}
 use Rattle.message_types.specs.declared.signed.Signed.{Signed}
 use Rattle.message_types.specs.declared.body.Body.{Body}
+use Rattle.message_types.specs.declared.body.Body.TheVariants as body
 use Rattle.history_rules.specs.Audit.{IsIn, here, there}
 use Rattle.agreement.specs.Laws.{HasSizes}
-use Rattle.agreement.proofs.Lists.{none_in, in_cons_cases, Each, each_one, each_append, each_if, all_at, none_some, some_same}
+use Rattle.agreement.proofs.Grows.{each_below}
+use Rattle.agreement.proofs.Lists.{none_in, in_cons_cases, Each, each_none, each_one, each_append, each_if, all_at, none_some, some_same}
 
 -- a test that holds of each member, as a test and as a fact
 pub all_from : {X : Type 0} (f : X → Bool) (xs : List X) → Each (λ x. f x ≡ true) xs → list_all f xs ≡ true
@@ -61,29 +64,25 @@ number_in most s few h =
     let high : s < 1 + most = bounds.1 in
     number_from s low (omega arith)
 
-pub greatest_within : (t : ℕ → Bool) (most : ℕ) → greatest_to t most ≤ most
-unfolding greatest_to
-greatest_within t zero = omega arith
-greatest_within t (suc most) = by_test (t (suc most)) (greatest_within t most)
-  where
-    by_test : (b : Bool) → greatest_to t most ≤ most → cond b (suc most) (greatest_to t most) ≤ suc most
-    by_test true less = omega arith
-    by_test false less = omega arith
+-- what is shown where a test holds is low where the number is
+pub shown_low : (b : Bool) (s most : ℕ) → s ≤ most → or_zero (cond b (Some s) None) ≤ most
+shown_low true s most low = low
+shown_low false s most low = omega arith
 
--- the greatest number that passes does so, or is 0
-pub greatest_passes : (t : ℕ → Bool) (most : ℕ) → (greatest_to t most ≡ 0) ⊎ (t (greatest_to t most) ≡ true)
-unfolding greatest_to
-greatest_passes t zero = inl refl
-greatest_passes t (suc most) = by_test (t (suc most)) refl (greatest_passes t most)
-  where
-    by_test : (b : Bool) → t (suc most) ≡ b → (greatest_to t most ≡ 0) ⊎ (t (greatest_to t most) ≡ true)
-        → (cond b (suc most) (greatest_to t most) ≡ 0) ⊎ (t (cond b (suc most) (greatest_to t most)) ≡ true)
-    by_test true e deeper = inr e
-    by_test false e deeper = deeper
+-- a frame in its place shows a view that there is
+shown_within : (g : Group) (known : List (Signed Body)) (signer : ℕ) (word : Body) (sig : List ℕ) → in_place g record { signer = signer; body = word; sig = sig } ≡ true
+    → or_zero (view_shown g known record { signer = signer; body = word; sig = sig }) ≤ most_view
+shown_within g known signer (body.Suspect b) sig placed =
+    let low : b.v < most_view = ltb-true b.v most_view (and_parts (nat_lt signer g.n) (nat_lt b.v most_view) placed).1 in
+    shown_low (is_suspected g known b.v) (b.v + 1) most_view (omega arith)
+shown_within g known signer (body.NewView b) sig placed =
+    let word = (and_parts (nat_lt signer g.n) (word_in_place g signer (body.NewView b)) placed).1 in
+    leb-true b.v most_view (and_parts _ _ (and_parts _ _ (and_parts _ _ (and_parts _ _ word).0).0).0).1
+shown_within g known signer _ sig placed = omega arith
 
-pub view_within : (g : Group) (known : List (Signed Body)) → is_view (view g known) ≡ true
+pub view_within : (g : Group) (known : List (Signed Body)) → Each (λ p. in_place g p ≡ true) known → is_view (view g known) ≡ true
 unfolding view
-view_within g known = le-leb _ most_view (greatest_within _ most_view)
+view_within g known placed = le-leb _ most_view (each_below (view_shown g known) most_view known (λ f h. shown_within g known f.signer f.body f.sig (placed f h)))
 
 pub run_within : {X : Type 0} (f : ℕ → Option X) (start most : ℕ) → length (run_from f start most) ≤ most
 unfolding run_from
@@ -93,6 +92,16 @@ run_within {X} f start (suc most) = by_found (f start) (run_within f (suc start)
     by_found : (o : Option X) → length (run_from f (suc start) most) ≤ most → length {A = X} (elim o [ None ↦ [] | Some x ↦ x ∷ run_from f (suc start) most ]) ≤ suc most
     by_found None less = omega arith
     by_found (Some x) less = omega arith
+
+-- each member of a run is what the function gives of a number
+pub each_run : {X : Type 0} (P : X → Type 0) (f : ℕ → Option X) → ((s : ℕ) (x : X) → f s ≡ Some x → P x) → (start most : ℕ) → Each P (run_from f start most)
+unfolding run_from
+each_run P f given start zero = each_none P
+each_run {X} P f given start (suc most) = by_found (f start) refl (each_run P f given (suc start) most)
+  where
+    by_found : (o : Option X) → f start ≡ o → Each P (run_from f (suc start) most) → Each P (elim o [ None ↦ [] | Some x ↦ x ∷ run_from f (suc start) most ])
+    by_found None e later = each_none P
+    by_found (Some y) e later = each_append P (y ∷ []) (run_from f (suc start) most) (each_one P y (given start y e)) later
 
 pub greatest_in : {x : ℕ} (xs : List ℕ) → IsIn x xs → IsIn (greatest_of xs) xs
 greatest_in [] h = absurd (none_in h)

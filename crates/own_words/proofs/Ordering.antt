@@ -25,7 +25,7 @@ use Rattle.agreement.proofs.Spoken.{each_elim, if_some}
 use Rattle.agreement.proofs.Inside.{vote_from, prepare_by_from, commit_by_from}
 use Rattle.agreement.proofs.Good.{ordered_from}
 use Rattle.agreement.proofs.Grows.{voted_more}
-use Rattle.own_words.proofs.Limits.{all_from, same_bytes, number_from, from_bounds, number_in, run_within, greatest_in, one_of, view_within}
+use Rattle.own_words.proofs.Limits.{all_from, same_bytes, number_from, from_bounds, number_in, run_within, greatest_in, one_of}
 use Rattle.own_words.proofs.Facts.{FactPlaced, ordered_placed, offered_placed}
 
 -- the word is in its place in the master's name
@@ -151,14 +151,14 @@ module _ (g : Group) (some : 1 ≤ g.q) (facts : List OrderFact) (placed : Each 
         each_if (WordPlaced g me) _ _ [] (λ holds. each_one (WordPlaced g me) (body.Mark record { s = s })
         (and_from _ _ (number_in (gapless g facts) s (run_within (ordered g facts) 1 most_number) h) (and_parts _ _ holds).0)) (λ _. each_none (WordPlaced g me)))
 
-    pub preprepares_placed : (known : List (Signed Body)) (at_tick : Bool) → Each (WordPlaced g me) (preprepares_due g me known facts said at_tick)
-    preprepares_placed known at_tick = each_elim (WordPlaced g me) (plan_known facts (view g known)) _ (λ plan _.
+    pub preprepares_placed : (known : List (Signed Body)) → is_view (view g known) ≡ true → (at_tick : Bool) → Each (WordPlaced g me) (preprepares_due g me known facts said at_tick)
+    preprepares_placed known within at_tick = each_elim (WordPlaced g me) (plan_known facts (view g known)) _ (λ plan _.
         each_if (WordPlaced g me) _ _ [] (λ holds.
         let small = and_parts _ _ (and_parts _ _ (and_parts _ _ holds).0).0 in
         let leads = and_parts _ _ (and_parts _ _ small.0).0 in
         let s : ℕ = next_number said (view g known) plan in
         each_one (WordPlaced g me) (body.PrePrepare record { v = view g known; s = next_number said (view g known) plan; frames = latest_frames g known })
-        (and_from _ _ (and_from _ _ (view_within g known) (number_from s (one_more _) (leb-true s most_number small.1))) leads.1)) (λ _. each_none (WordPlaced g me)))
+        (and_from _ _ (and_from _ _ within (number_from s (one_more _) (leb-true s most_number small.1))) leads.1)) (λ _. each_none (WordPlaced g me)))
 
     pub ask_order_placed : (at_tick : Bool) → Each (WordPlaced g me) (ask_order_due said at_tick (gap_of g facts))
     ask_order_placed at_tick = by_gap (gap_of g facts) gap_number

@@ -1,6 +1,7 @@
 -- Words on requests that a master says: their numbers are within the limits, and what it gives has a quorum's acknowledgements.
-use Rattle.std.proofs.Common.{◌≡◌, ℕ, ◌+◌, ◌-◌, ◌<◌, ◌≤◌, Bool, true, cond, ◌&&◌, List, [], ◌∷◌, ◌++◌, Option, Some, None, length, length-take-le, map, nat_eq, nat_lt, nat_le, refl, sym, ◌∙◌, ap, subst, arith}
-use Rattle.std.specs.List.{list_any, filter_map}
+use Rattle.std.proofs.Common.{◌≡◌, ℕ, ◌+◌, ◌-◌, ◌<◌, ◌≤◌, Bool, true, false, cond, ◌&&◌, List, [], ◌∷◌, ◌++◌, Option, Some, None, length, length-take-le, map, nat_eq, nat_lt, nat_le, refl, sym, ◌∙◌, ap, subst, arith}
+use Rattle.std.specs.Prelude.{slice_index}
+use Rattle.std.specs.List.{list_all, list_any, filter_map}
 use Rattle.std.specs.Option.{is_some}
 use Rattle.std.specs.Str.{bytes_eq}
 use Rattle.std.proofs.lemmas.Bool.{false≢true, and_from, and_parts, leb-true, ltb-true, le-leb, lt-ltb, eq-eqb, eqb-true}
@@ -16,16 +17,18 @@ use Rattle.message_types.specs.declared.body.Body.{Body}
 use Rattle.message_types.specs.declared.body.Body.TheVariants as body
 use Rattle.message_types.specs.Digests.{digest_of_update}
 use Rattle.message_types.specs.Texts.{update_text}
-use Rattle.protocol_rules.specs.Words.{numbers_from, first_of_list}
+use Rattle.protocol_rules.specs.Words.{numbers_from, run_from, first_of_list}
 use Rattle.protocol_rules.specs.Group.{Group, most_number, is_door}
-use Rattle.protocol_rules.specs.Places.{is_number}
+use Rattle.protocol_rules.specs.Places.{is_number, is_row, are_rows}
+use Rattle.protocol_rules.specs.Facts.{facts_of}
+use Rattle.protocol_rules.specs.Order.{ordered, ordered_run}
 use Rattle.protocol_rules.specs.Preorder.{certified, vector, updates_requested, update_of, is_ack, is_acked, requests_said, requests_said_for, next_request, requests_due, acks, acks_due}
-use Rattle.protocol_rules.specs.Matrix.{eligible, reach}
+use Rattle.protocol_rules.specs.Matrix.{eligible, reach, column}
 use Rattle.protocol_rules.specs.Execution.{Request, requests_between, newly_eligible, eligible_requests, first_missing, waiting_of}
 use Rattle.protocol_rules.specs.Reconcile.{ask_update_due, request_of, ack_of, quorum_of_acks, gives_due}
 use Rattle.protocol_rules.specs.Master.{summaries_due, waiting_for}
 use Rattle.history_rules.specs.Audit.{IsIn, here, there}
-use Rattle.agreement.proofs.Lists.{Each, each_none, each_one, each_append, each_if, each_map, each_flat_map, in_filter_map, in_filter_map_from, in_take, first_in, first_there, any_from, any_in, none_some, some_same}
+use Rattle.agreement.proofs.Lists.{Each, each_none, each_one, each_append, each_if, each_map, each_flat_map, in_map_from, in_filter_from, in_filter_map, in_filter_map_from, in_take, first_in, first_there, any_from, any_in, none_some, some_same}
 use Rattle.agreement.proofs.Quorums.{below_from}
 use Rattle.agreement.proofs.Spoken.{each_elim, if_some}
 use Rattle.agreement.proofs.Inside.{bytes_same}
@@ -33,7 +36,7 @@ use Rattle.agreement.proofs.Good.{length-numbers_below}
 use Rattle.agreement.proofs.Once.{length-filter_map}
 use Rattle.agreement.proofs.Grows.{filter_more, quorum_more}
 use Rattle.agreement.proofs.Requests.{certified_from}
-use Rattle.own_words.proofs.Limits.{all_from, same_bytes, number_from, from_bounds, number_in, run_within, greatest_within}
+use Rattle.own_words.proofs.Limits.{all_from, all_each, same_bytes, number_from, from_bounds, number_in, run_within, each_run, greatest_of-within, index_within}
 use Rattle.own_words.proofs.Ordering.{WordPlaced}
 
 next_in_limits : (x : ℕ) → x < most_number → is_number (x + 1) ≡ true
@@ -43,30 +46,48 @@ vector_within : (g : Group) (known : List (Signed Body)) (j : ℕ) → nat_le (v
 unfolding vector
 vector_within g known j = le-leb _ most_number (run_within (λ k. certified g known j k) 1 most_number)
 
-eligible_within : (g : Group) (rows : List (List ℕ)) (j : ℕ) → eligible g rows j ≤ most_number
+-- of rows in their place no number is greater than there is
+row_within : (g : Group) (row : List ℕ) (j : ℕ) → is_row g row ≡ true → slice_index row j ≤ most_number
+row_within g row j = by_length (nat_eq (length row) 0) refl
+  where
+    by_length : (b : Bool) → nat_eq (length row) 0 ≡ b → cond b true (nat_eq (length row) g.n && list_all (λ x. nat_le x most_number) row) ≡ true → slice_index row j ≤ most_number
+    by_length true e placed = by_row row (eqb-true (length row) 0 e)
+      where
+        by_row : (xs : List ℕ) → length xs ≡ 0 → slice_index xs j ≤ most_number
+        by_row [] none = omega arith
+        by_row (x ∷ xs) none = absurd (omega arith)
+    by_length false e placed = index_within most_number row j (λ x h.
+        leb-true x most_number (all_each (λ x. nat_le x most_number) row (and_parts (nat_eq (length row) g.n) (list_all (λ x. nat_le x most_number) row) placed).1 x h))
+
+eligible_within : (g : Group) (rows : List (List ℕ)) (j : ℕ) → are_rows g rows ≡ true → eligible g rows j ≤ most_number
 unfolding eligible
-eligible_within g rows j = greatest_within _ most_number
+eligible_within g rows j placed = greatest_of-within most_number _ (λ x h.
+    let column_member = (in_filter_from _ (column rows j) h).0 in
+    let found = in_map_from (λ row. slice_index row j) rows column_member in
+    let row = all_each (is_row g) rows (and_parts (nat_eq (length rows) g.n) (list_all (is_row g) rows) placed).1 found.0 found.1 in
+    subst (λ (y : ℕ). y ≤ most_number) (sym found.2) (row_within g found.0 j row))
 
 -- a request of a master below n, with a number within the limits
-abbrev RequestPlaced : Group → Request → Type 0
+abbrev pub RequestPlaced : Group → Request → Type 0
 RequestPlaced g r = (r.j < g.n) × (is_number r.k ≡ true)
 
 abbrev request_at : ℕ → ℕ → Request
 request_at j k = record { j = j; k = k }
 
-newly_placed : (g : Group) (before : List (List (List ℕ))) (rows : List (List ℕ)) → Each (RequestPlaced g) (newly_eligible g before rows)
-newly_placed g before rows = each_flat_map (RequestPlaced g) (λ j. requests_between j (reach g before j) (eligible g rows j)) (numbers_below g.n) (λ j h.
+newly_placed : (g : Group) (before : List (List (List ℕ))) (rows : List (List ℕ)) → are_rows g rows ≡ true → Each (RequestPlaced g) (newly_eligible g before rows)
+newly_placed g before rows placed = each_flat_map (RequestPlaced g) (λ j. requests_between j (reach g before j) (eligible g rows j)) (numbers_below g.n) (λ j h.
     each_map (RequestPlaced g) (request_at j) (numbers_from (reach g before j + 1) (eligible g rows j - reach g before j)) (λ k within.
     let bounds = from_bounds (reach g before j + 1) (eligible g rows j - reach g before j) k within in
     let low : reach g before j + 1 ≤ k = bounds.0 in
     let high : k < reach g before j + 1 + (eligible g rows j - reach g before j) = bounds.1 in
-    let most : eligible g rows j ≤ most_number = eligible_within g rows j in
+    let most : eligible g rows j ≤ most_number = eligible_within g rows j placed in
     (below_from g.n j h, number_from k (omega arith) (omega arith))))
 
-eligible_placed : (g : Group) (before runs : List (List (List ℕ))) → Each (RequestPlaced g) (eligible_requests g before runs)
+eligible_placed : (g : Group) (before runs : List (List (List ℕ))) → Each (λ rows. are_rows g rows ≡ true) runs → Each (RequestPlaced g) (eligible_requests g before runs)
 unfolding eligible_requests
-eligible_placed g before [] = each_none (RequestPlaced g)
-eligible_placed g before (rows ∷ rest) = each_append (RequestPlaced g) (newly_eligible g before rows) _ (newly_placed g before rows) (eligible_placed g (before ++ rows ∷ []) rest)
+eligible_placed g before [] placed = each_none (RequestPlaced g)
+eligible_placed g before (rows ∷ rest) placed = each_append (RequestPlaced g) (newly_eligible g before rows) _ (newly_placed g before rows (placed rows (here rest)))
+    (eligible_placed g (before ++ rows ∷ []) rest (λ r h. placed r (there rows rest h)))
 
 missing_in : (certified : Request → Option Update) (rs : List Request) (r : Request) → first_missing certified rs ≡ Some r → IsIn r rs
 unfolding first_missing
@@ -77,9 +98,11 @@ missing_in certified (x ∷ rest) r e = by_first (certified x) e (λ later. miss
     by_first None e later = subst (λ (z : Request). IsIn z (x ∷ rest)) (some_same e) (here rest)
     by_first (Some u) e later = there x rest (later e)
 
-waiting_placed : (g : Group) (known : List (Signed Body)) (r : Request) → waiting_for g known ≡ Some r → RequestPlaced g r
-unfolding waiting_of
-waiting_placed g known r e = eligible_placed g [] _ r (missing_in _ _ r e)
+pub waiting_placed : (g : Group) (known : List (Signed Body)) → ((s : ℕ) (rows : List (List ℕ)) → ordered g (facts_of g known) s ≡ Some rows → are_rows g rows ≡ true)
+    → (r : Request) → waiting_for g known ≡ Some r → RequestPlaced g r
+unfolding waiting_of ordered_run
+waiting_placed g known placed r e =
+    eligible_placed g [] (run_from (ordered g (facts_of g known)) 1 most_number) (each_run (λ rows. are_rows g rows ≡ true) (ordered g (facts_of g known)) placed 1 most_number) r (missing_in _ _ r e)
 
 -- what an acknowledgement tells that is counted
 pub ack_from_word : (j k : ℕ) (digest : List ℕ) (m signer : ℕ) (word : Body) (sig : List ℕ) (u : Signed PoAck) → ack_of j k digest m record { signer = signer; body = word; sig = sig } ≡ Some u
@@ -175,8 +198,8 @@ module _ (g : Group) (me : ℕ) (known taken : List (Signed Body)) (said : List 
       (all_from (λ x. nat_le x most_number) _ (each_map (λ (x : ℕ). nat_le x most_number ≡ true) (vector g known) (numbers_below g.n) (λ j _. vector_within g known j)))))
       (λ _. each_none (WordPlaced g me))
 
-  pub ask_update_placed : (at_tick : Bool) → Each (WordPlaced g me) (ask_update_due said at_tick (waiting_for g known))
-  ask_update_placed at_tick = by_request (waiting_for g known) (waiting_placed g known)
+  pub ask_update_placed : ((r : Request) → waiting_for g known ≡ Some r → RequestPlaced g r) → (at_tick : Bool) → Each (WordPlaced g me) (ask_update_due said at_tick (waiting_for g known))
+  ask_update_placed placed at_tick = by_request (waiting_for g known) placed
     where
       by_request : (o : Option Request) → ((r : Request) → o ≡ Some r → RequestPlaced g r) → Each (WordPlaced g me) (ask_update_due said at_tick o)
       by_request None bound = each_none (WordPlaced g me)

@@ -26,7 +26,7 @@ use Rattle.own_words.specs.Laws.{KnownIsClosed, PartsAreClosed, KnowsPlaced, Row
 use Rattle.own_words.proofs.Limits.{all_from, all_each, filter_more, view_within, some_in_quorum}
 use Rattle.own_words.proofs.Facts.{FactPlaced, facts_placed, rows_placed, ordered_placed, offered_placed, plan_known_placed}
 use Rattle.own_words.proofs.Ordering.{WordPlaced, prepares_placed, commits_placed, marks_placed, preprepares_placed, ask_order_placed, gives_ordered_placed}
-use Rattle.own_words.proofs.Requesting.{requests_placed, acks_placed, summaries_placed, ask_update_placed, gives_placed}
+use Rattle.own_words.proofs.Requesting.{requests_placed, acks_placed, summaries_placed, waiting_placed, ask_update_placed, gives_placed}
 use Rattle.own_words.proofs.Reporting.{report_placed, new_view_placed}
 use Rattle.own_words.proofs.Measuring.{ticks_told, waited_within, tat_bounds_placed, pings_placed, pongs_placed, round_trips_placed, tat_reports_placed, suspects_placed}
 
@@ -130,7 +130,7 @@ module _ (g : Group) (orders : List Update → ℕ → List Order) (me : ℕ) (b
       let P = λ (b : Body). WordPlaced g me b in
       let some : 1 ≤ g.q = some_in_quorum g speaks.sizes in
       let placed = facts_placed g known (known_closed before took) known_placed in
-      let within : is_view v ≡ true = view_within g known in
+      let within : is_view v ≡ true = view_within g known known_placed in
       let few : ticks_of told ≤ 2 ^ 32 = few_ticks in
       let waiting : waited v told ≤ ticks_of told = waited_within v told in
       each_append P _ _ (each_append P _ _ (each_append P _ _ (each_append P _ _ (each_append P _ _
@@ -140,7 +140,7 @@ module _ (g : Group) (orders : List Update → ℕ → List Order) (me : ℕ) (b
       (requests_placed g me known taken said said (numbers_below g.clients))
       (acks_placed g me known taken said))
       (summaries_placed g me known taken said at_tick))
-      (preprepares_placed g some facts placed me said known at_tick))
+      (preprepares_placed g some facts placed me said known within at_tick))
       (prepares_placed g some facts placed me said v within (is_open g known)))
       (commits_placed g some facts placed me said v within))
       (pings_placed g me known said (ticks_of told) at_tick))
@@ -149,9 +149,9 @@ module _ (g : Group) (orders : List Update → ℕ → List Order) (me : ℕ) (b
       (tat_reports_placed g me known said v (waited v told) at_tick within (omega arith)))
       (tat_bounds_placed g me known known_placed said v at_tick within))
       (suspects_placed g me known said v at_tick))
-      (report_placed g some facts placed me known said))
-      (new_view_placed g me known said))
-      (ask_update_placed g me known taken said at_tick))
+      (report_placed g some facts placed me known said within))
+      (new_view_placed g me known said within))
+      (ask_update_placed g me known taken said (waiting_placed g known (λ s rows e. ordered_placed g facts placed s rows e)) at_tick))
       (gives_placed g me known taken said))
       (ask_order_placed g some facts placed me said at_tick))
       (gives_ordered_placed g some facts placed me said known))

@@ -334,7 +334,7 @@ module _ (g : Group) (orders : List Update → ℕ → List Order) (sizes : HasS
   by_kind (body.PoRequest b) due among = spelled_to (as_frame body.Update b.update) (spelled (as_frame body.Update b.update) (among (as_frame body.Update b.update) (here [])))
   by_kind (body.PoSummary b) due among = vector_fits b.numbers due
   by_kind (body.PrePrepare b) due among =
-      subst (λ (fs : List (Signed PoSummary)). Each (λ x. (summary_fits x.body && signature_fits x) ≡ true) fs → frames_fit summary_fits fs ≡ true) (sym due) summaries_fit (known_fit body.PoSummary b.frames among)
+      subst (λ (fs : List (Signed PoSummary)). Each (λ x. (summary_fits x.body && signature_fits x) ≡ true) fs → frames_fit summary_fits fs ≡ true) (sym due.0) summaries_fit (known_fit body.PoSummary b.frames among)
   by_kind (body.Report b) due among = report_due_fits b among due.2 due.3
   by_kind (body.NewView b) due among = new_view_fits b among due.1
   by_kind (body.Give b) due among = give_fits b due.0 due.1 due.2 among due.4

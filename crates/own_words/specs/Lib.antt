@@ -1,2 +1,3 @@
 pub mod Laws
 pub mod Spellings
+pub mod Signing

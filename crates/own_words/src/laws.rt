@@ -1,4 +1,5 @@
 ghost use Rattle.own_words.specs.Laws.{KnownIsClosed, PartsAreClosed, RowsAreInPlace, OrderedAreInPlace, OfferedAreInPlace, PlansAreInPlace, AnswersAreInPlace, OwnPartsAreInPlace, KnownStaysInPlace, LearnedIsInPlace};
+ghost use Rattle.own_words.specs.Signing.{LearnedIsSpelled, LearnedIsSigned, SaidFramesStand};
 ghost use Rattle.own_words.specs.Spellings.{RowsInPlaceFit, NewViewsFit, CertifiedAreInPlace, PartsAreSpelled, AnswersAreSpelled, OwnPartsAreSpelled, OwnFramesStand};
 
 /// With each word that a master knows it knows the frames inside it.
@@ -84,4 +85,19 @@ pub fn own_parts_are_spelled()
 /// The frames that it says stand once they are signed, where all that it knows is signed.
 pub fn own_frames_stand()
     ensures { OwnFramesStand }
+{}
+
+/// In every legal history whose setup's signatures sign, all that a correct master has learned has a spelling.
+pub fn learned_is_spelled()
+    ensures { LearnedIsSpelled }
+{}
+
+/// All of it is signed.
+pub fn learned_is_signed()
+    ensures { LearnedIsSigned }
+{}
+
+/// The frames of what it says stand.
+pub fn said_frames_stand()
+    ensures { SaidFramesStand }
 {}

@@ -24,19 +24,19 @@ counted_shown client (vote ∷ rest) = by_count (counts is_notice client vote) r
     by_count false e later = later
     by_count true e later = ap (λ z. z && list_all is_shown (counted is_notice client rest)) (and_parts (nat_eq vote.voucher.client client) (is_shown vote) e).1 ∙ later
 
-chosen_shown : (f : ℕ) (seen rest : List Vote) (x : ℕ) (o : Order) → list_all is_shown rest ≡ true → chosen_after f seen rest x ≡ Some o → is_notice o ≡ true
+chosen_shown : (n f : ℕ) (seen rest : List Vote) (x : ℕ) (o : Order) → list_all is_shown rest ≡ true → chosen_after n f seen rest x ≡ Some o → is_notice o ≡ true
 unfolding chosen_after
-chosen_shown f seen [] x o all e = absurd (none_some e)
-chosen_shown f seen (vote ∷ rest) x o all e = by_first (settled_by f (seen ++ vote ∷ []) vote x) refl e (λ later. chosen_shown f (seen ++ vote ∷ []) rest x o (and_parts (is_shown vote) (list_all is_shown rest) all).1 later)
+chosen_shown n f seen [] x o all e = absurd (none_some e)
+chosen_shown n f seen (vote ∷ rest) x o all e = by_first (settled_by n f (seen ++ vote ∷ []) vote x) refl e (λ later. chosen_shown n f (seen ++ vote ∷ []) rest x o (and_parts (is_shown vote) (list_all is_shown rest) all).1 later)
   where
     both : (is_shown vote ≡ true) × (list_all is_shown rest ≡ true)
     both = and_parts (is_shown vote) (list_all is_shown rest) all
 
-    by_first : (p : Option Order) → settled_by f (seen ++ vote ∷ []) vote x ≡ p → or_else p (chosen_after f (seen ++ vote ∷ []) rest x) ≡ Some o
-        → (chosen_after f (seen ++ vote ∷ []) rest x ≡ Some o → is_notice o ≡ true) → is_notice o ≡ true
+    by_first : (p : Option Order) → settled_by n f (seen ++ vote ∷ []) vote x ≡ p → or_else p (chosen_after n f (seen ++ vote ∷ []) rest x) ≡ Some o
+        → (chosen_after n f (seen ++ vote ∷ []) rest x ≡ Some o → is_notice o ≡ true) → is_notice o ≡ true
     by_first None is later deeper = deeper later
     by_first (Some p) is found deeper =
-        let held = if_some (nat_eq vote.voucher.number x && nat_lt f (length (supporters (seen ++ vote ∷ []) x vote.voucher.order))) (is ∙ found) in
+        let held = if_some (nat_eq vote.voucher.number x && nat_lt f (length (supporters n (seen ++ vote ∷ []) x vote.voucher.order))) (is ∙ found) in
         subst (λ (q : Order). is_notice q ≡ true) held.1 both.0
 
 -- notices that are taken out of orders and made orders again, where each order of the run is one
@@ -55,7 +55,7 @@ run_shown f shown start (suc most) = by_first (f start) refl (run_shown f shown 
     by_first None is later = refl
     by_first (Some o) is later = one o (run_from f (suc start) most) (shown start o is) later
 
-pub board_keeps_all : (client f : ℕ) (votes : List Vote) → map (λ n. order.Notice n) (notices (orders_done is_notice client f votes)) ≡ orders_done is_notice client f votes
+pub board_keeps_all : (client n f : ℕ) (votes : List Vote) → map (λ n. order.Notice n) (notices (orders_done is_notice client n f votes)) ≡ orders_done is_notice client n f votes
 unfolding done
-board_keeps_all client f votes =
-    run_shown (chosen f (counted is_notice client votes)) (λ x o e. chosen_shown f [] (counted is_notice client votes) x o (counted_shown client votes) e) 1 (greatest_number (counted is_notice client votes))
+board_keeps_all client n f votes =
+    run_shown (chosen n f (counted is_notice client votes)) (λ x o e. chosen_shown n f [] (counted is_notice client votes) x o (counted_shown client votes) e) 1 (greatest_number (counted is_notice client votes))

@@ -2,6 +2,7 @@
 -- sound history: what a proxy wrote and what a screen shows begin the orders that some correct master's executions make.
 -- (In the manner of Spire, whose field and screens act on what its masters agreed on; the plant's rules are this project's own.)
 use Rattle.std.specs.Prelude.{◌≡◌, ℕ, ◌+◌, true, List, Some, map, slice_get}
+use Rattle.std.specs.List.{enumerate_from}
 use Rattle.message_types.specs.declared.updates.Update.{Update}
 use Rattle.message_types.specs.declared.vouchers.Order.{Order}
 use Rattle.message_types.specs.declared.vouchers.Order.TheVariants as order
@@ -11,6 +12,7 @@ use Rattle.history_rules.specs.Setup.{Setup, is_correct_master}
 use Rattle.history_rules.specs.Legal.{executions}
 use Rattle.master_points.specs.declared.plant.Plant.{Plant}
 use Rattle.master_points.specs.Orders.{orders}
+use Rattle.field_proxy.specs.declared.writes.Write.{Write}
 use Rattle.field_proxy.specs.Front.{fresh}
 use Rattle.field_proxy.specs.Writes.{order_of}
 use Rattle.field_proxy.specs.Happenings.{Happening, front_after, votes_of}
@@ -33,15 +35,23 @@ VouchedFollow =
     → (done : List Order) → ((x : ℕ) (o : Order) → slice_get done x ≡ Some o → IsVouched w history client (x + 1) o)
     → BeginOrders w plant screens history client done
 
--- What a proxy wrote, whatever happened in its field, where the vouchers that it took are those of its entries.
+-- a write under its number, as the order that it was: of this raw value to this point
+abbrev pub numbered_order : Write → ℕ × Order
+numbered_order w = (w.number, order_of w)
+
+-- What a proxy wrote, whatever happened in its field, where the vouchers that it took are those of its entries: its writes,
+-- each under its number, begin the orders that some correct master's executions at the end of the history make for it,
+-- numbered from 1 on. So write number x is the order that is number x of the proxy's.
 abbrev pub WritesFollow : Type 0
 WritesFollow =
     (w : Setup) (plant : Plant) (screens : ℕ) (history : List Entry) (proxy : ℕ) (sizes : DeviceSizes) (happenings : List Happening)
     → IsSound w history → GoesByPlant w plant screens → votes_of happenings ≡ votes_taken history (w.group.n + proxy)
-    → BeginOrders w plant screens history proxy (map order_of (front_after (fresh proxy w.group.n w.group.f plant.points sizes) happenings).writes)
+    → (i : ℕ) × (is_correct_master w i ≡ true)
+    × Begins (map numbered_order (front_after (fresh proxy w.group.n w.group.f plant.points sizes) happenings).writes)
+    (enumerate_from 1 (orders plant screens (executions w history i) proxy))
 
 -- What a screen shows, where the vouchers that it took are those of its entries.
 abbrev pub BoardFollows : Type 0
 BoardFollows =
     (w : Setup) (plant : Plant) (screens : ℕ) (history : List Entry) (screen : ℕ) → IsSound w history → GoesByPlant w plant screens
-    → BeginOrders w plant screens history screen (map (λ n. order.Notice n) (board_of screen w.group.f (votes_taken history (w.group.n + screen))))
+    → BeginOrders w plant screens history screen (map (λ n. order.Notice n) (board_of screen w.group.n w.group.f (votes_taken history (w.group.n + screen))))

@@ -6,7 +6,8 @@ pub fn vouched_follow()
     ensures { VouchedFollow }
 {}
 
-/// What a proxy wrote begins what a correct master's executions make of orders for it by the plant's rules.
+/// What a proxy wrote, each write under its number, begins what a correct master's executions make of orders for it by
+/// the plant's rules, numbered from 1 on.
 pub fn writes_follow()
     ensures { WritesFollow }
 {}

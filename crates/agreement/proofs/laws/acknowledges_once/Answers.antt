@@ -1,0 +1,5 @@
+use Rattle.agreement.proofs.Blame.{acknowledges_once}
+use Rattle.agreement.proofs.laws.acknowledges_once.Goals as goal
+
+pub returns : goal.returns
+returns c = acknowledges_once

@@ -1,0 +1,5 @@
+use Rattle.agreement.proofs.Blame.{commits_once}
+use Rattle.agreement.proofs.laws.commits_once.Goals as goal
+
+pub returns : goal.returns
+returns c = commits_once

@@ -1,0 +1,5 @@
+use Rattle.agreement.proofs.Blame.{prepares_once}
+use Rattle.agreement.proofs.laws.prepares_once.Goals as goal
+
+pub returns : goal.returns
+returns c = prepares_once

@@ -1,0 +1,5 @@
+use Rattle.agreement.proofs.Blame.{proposes_once}
+use Rattle.agreement.proofs.laws.proposes_once.Goals as goal
+
+pub returns : goal.returns
+returns c = proposes_once

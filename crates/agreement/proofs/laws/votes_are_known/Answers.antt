@@ -1,0 +1,5 @@
+use Rattle.agreement.proofs.Spread.{votes_are_known}
+use Rattle.agreement.proofs.laws.votes_are_known.Goals as goal
+
+pub returns : goal.returns
+returns c = votes_are_known
