@@ -1,5 +1,6 @@
 pub mod PlaceLaws
 pub mod ExchangeLaws
+pub mod LineLaws
 pub mod ReadingLaws
 pub mod OrderLaws
 pub mod VoteLaws

@@ -19,15 +19,15 @@ module _ (p : Order → Bool) where
   either (Some q) rest o one two is = one is
   either None rest o one two is = two is
 
-  chosen_passes : (f : ℕ) (seen rest : List Vote) (x : ℕ) (o : Order) → list_all (λ vote. p vote.voucher.order) rest ≡ true
-      → chosen_after f seen rest x ≡ Some o → p o ≡ true
+  chosen_passes : (n f : ℕ) (seen rest : List Vote) (x : ℕ) (o : Order) → list_all (λ vote. p vote.voucher.order) rest ≡ true
+      → chosen_after n f seen rest x ≡ Some o → p o ≡ true
   unfolding chosen_after
-  chosen_passes f seen [] x o all is = absurd (cc)
-  chosen_passes f seen (vote ∷ rest) x o all is =
+  chosen_passes n f seen [] x o all is = absurd (cc)
+  chosen_passes n f seen (vote ∷ rest) x o all is =
       let parts = and_parts (p vote.voucher.order) (list_all (λ vote. p vote.voucher.order) rest) all in
-      either (settled_by f (seen ++ vote ∷ []) vote x) (chosen_after f (seen ++ vote ∷ []) rest x) o
-      (settled_passes (nat_eq vote.voucher.number x && nat_lt f (length (supporters (seen ++ vote ∷ []) x vote.voucher.order))) vote.voucher.order o parts.0)
-      (chosen_passes f (seen ++ vote ∷ []) rest x o parts.1) is
+      either (settled_by n f (seen ++ vote ∷ []) vote x) (chosen_after n f (seen ++ vote ∷ []) rest x) o
+      (settled_passes (nat_eq vote.voucher.number x && nat_lt f (length (supporters n (seen ++ vote ∷ []) x vote.voucher.order))) vote.voucher.order o parts.0)
+      (chosen_passes n f (seen ++ vote ∷ []) rest x o parts.1) is
 
   from_here : (found : Option Order) (rest : List Order) → ((o : Order) → found ≡ Some o → p o ≡ true) → list_all p rest ≡ true
       → list_all p (elim found [ None ↦ [] | Some o ↦ o ∷ rest ]) ≡ true
@@ -41,6 +41,6 @@ module _ (p : Order → Bool) where
   run_passes order_for passes start (suc most) =
       from_here (order_for start) (run_from order_for (suc start) most) (λ o is. passes start o is) (run_passes order_for passes (suc start) most)
 
-  pub done_passes : (f : ℕ) (votes : List Vote) → list_all (λ vote. p vote.voucher.order) votes ≡ true → list_all p (done f votes) ≡ true
+  pub done_passes : (n f : ℕ) (votes : List Vote) → list_all (λ vote. p vote.voucher.order) votes ≡ true → list_all p (done n f votes) ≡ true
   unfolding done
-  done_passes f votes all = run_passes (chosen f votes) (λ x o is. chosen_passes f [] votes x o all is) 1 (greatest_number votes)
+  done_passes n f votes all = run_passes (chosen n f votes) (λ x o is. chosen_passes n f [] votes x o all is) 1 (greatest_number votes)

@@ -9,18 +9,22 @@ use Rattle.point_table.specs.declared.point.DeviceSizes.{DeviceSizes}
 use Rattle.field_device.specs.Places.{Places, zeros, changed}
 use Rattle.vouched_orders.specs.declared.vote.Vote.{Vote}
 use Rattle.vouched_orders.specs.Vouching.{counted, done}
+use Rattle.field_proxy.specs.declared.line.Line.{Line}
 use Rattle.field_proxy.specs.declared.writes.Write.{Write}
-use Rattle.field_proxy.specs.Readings.{readings, last_in, told, numbered}
-use Rattle.field_proxy.specs.Writes.{can_write, after_orders, kept_orders}
+use Rattle.field_proxy.specs.Exchanges.{asked}
+use Rattle.field_proxy.specs.Readings.{poll_requests, readings, last_in, told, numbered}
+use Rattle.field_proxy.specs.Writes.{can_write, order_requests, after_orders, kept_orders}
 
 -- its number among the clients, the masters' number, how many of them may be intruded, all points of the plant, what the
--- device holds, the value last said of each point, how many updates were said, the votes taken that count, the writes made
+-- device holds, the line to it, the value last said of each point, how many updates were said, the votes taken that count,
+-- the writes made
 pub record Front : Type 0 where
   pub client : ℕ
   pub n : ℕ
   pub f : ℕ
   pub points : List Point
   pub places : Places
+  pub line : Line
   pub lasts : List (Option ℤ)
   pub updates : ℕ
   pub votes : List Vote
@@ -34,6 +38,7 @@ fresh client n f points sizes = record {
   f = f;
   points = points;
   places = zeros sizes;
+  line = record { last = 0; passed = [] };
   lasts = replicate (length points) None;
   updates = 0;
   votes = [];
@@ -53,7 +58,11 @@ abbrev pub poll_says : Front → ℕ → List Update
 poll_says s room = numbered s.client (s.updates + 1) (polled s room)
 
 abbrev pub after_poll : Front → ℕ → Front
-after_poll s room = record s { lasts = told s.lasts (polled s room); updates = s.updates + length (polled s room) }
+after_poll s room = record s {
+  line = asked s.line s.places (poll_requests s.client s.points);
+  lasts = told s.lasts (polled s room);
+  updates = s.updates + length (polled s room);
+}
 
 -- the votes taken once this one is: it counts for this client, and where the order is one that it can carry out
 abbrev pub votes_with : Front → Vote → List Vote
@@ -64,8 +73,9 @@ abbrev pub after_orders_done : Front → List Vote → List Order → Front
 after_orders_done s votes orders = record s {
   votes = votes;
   places = after_orders s.points s.places orders;
+  line = asked s.line s.places (order_requests s.points orders);
   writes = s.writes ++ kept_orders s.points s.places (length s.writes + 1) orders;
 }
 
 abbrev pub after_vote : Front → Vote → Front
-after_vote s vote = after_orders_done s (votes_with s vote) (drop (length s.writes) (done s.f (votes_with s vote)))
+after_vote s vote = after_orders_done s (votes_with s vote) (drop (length s.writes) (done s.n s.f (votes_with s vote)))

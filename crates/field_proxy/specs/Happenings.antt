@@ -51,7 +51,7 @@ votes_of (Vouched vote ∷ rest) = vote ∷ votes_of rest
 -- the writes of a proxy are the orders done on the votes that it took, whatever else happened
 abbrev pub WritesAreDone : Type 0
 WritesAreDone = (client n f : ℕ) (points : List Point) (sizes : DeviceSizes) (happenings : List Happening)
-    → map order_of (front_after (fresh client n f points sizes) happenings).writes ≡ orders_done (can_write points client) client f (votes_of happenings)
+    → map order_of (front_after (fresh client n f points sizes) happenings).writes ≡ orders_done (can_write points client) client n f (votes_of happenings)
 
 -- all that it said
 abbrev pub all_said : Front → List Happening → List Update

@@ -1,5 +1,5 @@
 -- What a proxy reads of its points, and which readings it has to say. (This project's own.)
-use Rattle.std.specs.Prelude.{ℕ, suc, ◌+◌, Bool, true, false, ◌&&◌, not, nat_eq, if◌then◌else◌, List, [], ◌∷◌, ◌++◌, length, Option, Some, None, slice_get, slice_set, ℤ}
+use Rattle.std.specs.Prelude.{ℕ, suc, ◌+◌, Bool, true, false, ◌&&◌, not, nat_eq, if◌then◌else◌, List, [], ◌∷◌, ◌++◌, length, filter, map, Option, Some, None, slice_get, slice_set, ℤ}
 use Rattle.std.specs.Option.{option_and_then}
 use Rattle.std.specs.Ordering.{int_eq}
 use Rattle.std.specs.Prelude.{int_le, pos, negsuc, ◌-◌, ◌^◌}
@@ -9,9 +9,14 @@ use Rattle.message_types.specs.declared.updates.Op.TheVariants as op
 use Rattle.message_types.specs.declared.updates.Update.{Update}
 use Rattle.point_table.specs.declared.point.Point.{Point}
 use Rattle.point_table.specs.Point.{scaled}
+use Rattle.modbus_forms.specs.declared.request.RequestPdu.{RequestPdu}
 use Rattle.field_device.specs.Places.{Places}
 use Rattle.field_device.specs.Table.{reply_pdu}
 use Rattle.field_proxy.specs.Exchanges.{read_pdu, raw_in}
+
+-- the requests of a poll: one for each of the client's own points, in the order of their numbers
+abbrev pub poll_requests : ℕ → List Point → List RequestPdu
+poll_requests client points = map (λ p. read_pdu p.area p.place) (filter (λ p. nat_eq p.proxy client) points)
 
 -- a value as an update can hold it, in 64 bits
 abbrev pub is_i64 : ℤ → Bool

@@ -39,6 +39,20 @@ written_area area.Input = area.Holding
 abbrev pub write_request : Point → ℕ → RequestPdu
 write_request p raw = write_pdu p.area p.place raw
 
+-- the requests of one order: one, where there is such a point
+abbrev pub requests_to : Option Point → ℕ → List RequestPdu
+requests_to None raw = []
+requests_to (Some p) raw = write_request p raw ∷ []
+
+abbrev pub requests_of : List Point → Order → List RequestPdu
+requests_of points (order.Notice n) = []
+requests_of points (order.Write number raw) = requests_to (slice_get points number) raw
+
+-- the requests of orders, in turn
+abbrev pub order_requests : List Point → List Order → List RequestPdu
+order_requests points [] = []
+order_requests points (o ∷ rest) = requests_of points o ++ order_requests points rest
+
 -- the device after one order
 abbrev pub after_write : Places → Option Point → ℕ → Places
 after_write d None raw = d

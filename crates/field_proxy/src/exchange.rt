@@ -1,67 +1,78 @@
 //! One request and its reply, by Modbus bytes as with a real device.
 ghost use Rattle.std.specs.Prelude.{◌≡◌, ◌⊎◌, ◌<◌, IsTrue, IfOk, OnOk, OnErr, Some, None, FitsSigned};
 ghost use Rattle.std.specs.Int.{w128};
-ghost use Rattle.modbus_forms.specs.Requests.{request_pdu_fits, request_fits};
-ghost use Rattle.modbus_forms.specs.Replies.{reply_fits};
+ghost use Rattle.modbus_forms.specs.Requests.{request_pdu_fits, request_fits, request_text};
+ghost use Rattle.modbus_forms.specs.Replies.{reply_fits, reply_text};
 ghost use Rattle.modbus_forms.specs.Widths.{FitsRequestPdu, FitsRequest, FitsReply};
 ghost use Rattle.field_device.specs.Table.{reply_pdu, reply_to, after, exception_for};
-ghost use Rattle.field_proxy.specs.Exchanges.{read_pdu, raw_in, exception_in};
+ghost use Rattle.field_proxy.specs.Exchanges.{read_pdu, raw_in, exception_in, line_with};
 ghost use Rattle.field_proxy.specs.Readings.{is_i64, in_64_bits, given};
 ghost use Rattle.field_proxy.specs.Writes.{write_pdu, write_request};
 ghost use Rattle.point_table.specs.Point.{scaled};
 
+use crate::line::{Exchange, Line};
 use byteorder::{BigEndian, ByteOrder};
 use field_device::Device;
 use modbus_forms::{
     ModbusRefusal, Reply, ReplyPdu, Request, RequestPdu, read_reply, read_request, write_reply,
     write_request,
 };
-use plain_lists::Want;
+use plain_lists::{Bytes, Want};
 use point_table::{Area, Point};
 use std::alloc::Global;
 
 /// The unit behind the device's address.
 const UNIT: u8 = 1;
 
-/// The request as the device reads it.
-fn heard_request(alloc: Global, request: &Request) -> Result<Request, Want>
+/// The bytes of a request, and the request as the device reads it from them.
+fn heard_request(alloc: Global, request: &Request) -> Result<(Bytes, Request), Want>
     requires fits { IsTrue (request_fits request.now) }
     requires wide { FitsRequest request.now }
-    ensures { IfOk result (λ heard. heard ≡ request.now) }
+    ensures bytes { IfOk result (λ heard. heard.0 ≡ request_text request.now) }
+    ensures same { IfOk result (λ heard. heard.1 ≡ request.now) }
 {
     let bytes = write_request(alloc, request)?;
     match read_request(alloc, &bytes) {
-        Ok(heard) => Ok(heard),
+        Ok(heard) => Ok((Bytes::from_vec(alloc, bytes)?, heard)),
         Err(ModbusRefusal::Want) => Err(Want),
         Err(_) => unreachable!(),
     }
 }
 
-/// The reply as the proxy reads it.
-fn heard_reply(alloc: Global, reply: &Reply) -> Result<Reply, Want>
+/// The bytes of a reply, and the reply as the proxy reads it from them.
+fn heard_reply(alloc: Global, reply: &Reply) -> Result<(Bytes, Reply), Want>
     requires fits { IsTrue (reply_fits reply.now) }
     requires wide { FitsReply reply.now }
-    ensures { IfOk result (λ heard. heard ≡ reply.now) }
+    ensures bytes { IfOk result (λ heard. heard.0 ≡ reply_text reply.now) }
+    ensures same { IfOk result (λ heard. heard.1 ≡ reply.now) }
 {
     let bytes = write_reply(alloc, reply)?;
     match read_reply(alloc, &bytes) {
-        Ok(heard) => Ok(heard),
+        Ok(heard) => Ok((Bytes::from_vec(alloc, bytes)?, heard)),
         Err(ModbusRefusal::Want) => Err(Want),
         Err(_) => unreachable!(),
     }
 }
 
-/// Asks the device. After want of memory it may have carried the request out, and its reply is lost.
-fn ask(alloc: Global, device: &mut Device, request: &Request) -> Result<Reply, Want>
+/// Asks the device, and gives the reply with the bytes that passed. After want of memory the device may have carried the
+/// request out, and its reply is lost.
+fn exchange(
+    alloc: Global,
+    device: &mut Device,
+    request: &Request,
+) -> Result<(Exchange, Reply), Want>
     requires fits { IsTrue (request_fits request.now) }
     requires wide { FitsRequest request.now }
-    ensures reply { IfOk result (λ reply. reply ≡ reply_to device.old request.now) }
+    ensures sent { IfOk result (λ made. made.0.request ≡ request_text request.now) }
+    ensures heard { IfOk result (λ made. made.0.reply ≡ reply_text (reply_to device.old request.now)) }
+    ensures reply { IfOk result (λ made. made.1 ≡ reply_to device.old request.now) }
     ensures after { OnOk result (device.new ≡ after device.old request.now.pdu) }
     ensures err { OnErr result ((device.new ≡ device.old) ⊎ (device.new ≡ after device.old request.now.pdu)) }
 {
-    let heard = heard_request(alloc, request)?;
-    let reply = device.answer(&heard)?;
-    heard_reply(alloc, &reply)
+    let (request, heard) = heard_request(alloc, request)?;
+    let answer = device.answer(&heard)?;
+    let (reply, read) = heard_reply(alloc, &answer)?;
+    Ok((Exchange { request, reply }, read))
 }
 
 fn read_pdu(area: Area, place: u16) -> RequestPdu
@@ -158,25 +169,29 @@ fn in_64_bits(value: i128) -> Option<i64>
     Some(value as i64)
 }
 
-/// Asks the device for a reply to a request, under a transaction.
-fn reply_to(
+/// Asks the device on the line for a reply to a request, under the next transaction.
+#[tactic(auto, unfolding(crate::specs::Exchanges::line_with))]
+fn ask(
     alloc: Global,
     device: &mut Device,
-    transaction: u16,
+    line: &mut Line,
     pdu: RequestPdu,
 ) -> Result<ReplyPdu, Want>
     requires fits { IsTrue (request_pdu_fits pdu) }
     requires wide { FitsRequestPdu pdu }
     ensures reply { IfOk result (λ reply. reply ≡ reply_pdu device.old pdu) }
     ensures after { OnOk result (device.new ≡ after device.old pdu) }
+    ensures line { OnOk result (line.new ≡ line_with line.old device.old pdu) }
     ensures err { OnErr result ((device.new ≡ device.old) ⊎ (device.new ≡ after device.old pdu)) }
 {
+    let transaction = line.next();
     let request = Request {
         transaction,
         unit: UNIT,
         pdu,
     };
-    let reply = ask(alloc, device, &request)?;
+    let (passed, reply) = exchange(alloc, device, &request)?;
+    line.passed.push(passed)?;
     Ok(reply.pdu)
 }
 
@@ -184,14 +199,15 @@ fn reply_to(
 fn read_raw(
     alloc: Global,
     device: &mut Device,
-    transaction: u16,
+    line: &mut Line,
     point: &Point,
 ) -> Result<Option<u16>, Want>
     ensures raw { IfOk result (λ raw. raw ≡ raw_in (reply_pdu device.old (read_pdu point.now.area point.now.place))) }
+    ensures line { OnOk result (line.new ≡ line_with line.old device.old (read_pdu point.now.area point.now.place)) }
     ensures same { device.new ≡ device.old }
 {
     let pdu = read_pdu(point.area, point.place);
-    let reply = reply_to(alloc, device, transaction, pdu)?;
+    let reply = ask(alloc, device, line, pdu)?;
     Ok(raw_in(&reply))
 }
 
@@ -199,13 +215,14 @@ fn read_raw(
 pub fn read_point(
     alloc: Global,
     device: &mut Device,
-    transaction: u16,
+    line: &mut Line,
     point: &Point,
 ) -> Result<Option<i64>, Want>
     ensures value { IfOk result (λ value. value ≡ given device.old point.now) }
+    ensures line { OnOk result (line.new ≡ line_with line.old device.old (read_pdu point.now.area point.now.place)) }
     ensures same { device.new ≡ device.old }
 {
-    let raw = read_raw(alloc, device, transaction, point)?;
+    let raw = read_raw(alloc, device, line, point)?;
     match raw {
         Some(raw) => Ok(in_64_bits(scaled(point, raw))),
         None => Ok(None),
@@ -217,15 +234,16 @@ pub fn read_point(
 pub fn write_point(
     alloc: Global,
     device: &mut Device,
-    transaction: u16,
+    line: &mut Line,
     point: &Point,
     raw: u16,
 ) -> Result<Option<u8>, Want>
     ensures exception { IfOk result (λ code. code ≡ exception_for device.old (write_request point.now raw)) }
     ensures after { OnOk result (device.new ≡ after device.old (write_request point.now raw)) }
+    ensures line { OnOk result (line.new ≡ line_with line.old device.old (write_request point.now raw)) }
     ensures err { OnErr result ((device.new ≡ device.old) ⊎ (device.new ≡ after device.old (write_request point.now raw))) }
 {
     let pdu = write_pdu(point.area, point.place, raw);
-    let reply = reply_to(alloc, device, transaction, pdu)?;
+    let reply = ask(alloc, device, line, pdu)?;
     Ok(exception_in(&reply))
 }

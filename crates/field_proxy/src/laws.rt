@@ -1,5 +1,7 @@
-//! What holds of a proxy after any list of happenings.
+//! What holds of a proxy after any list of happenings, and beyond its calls.
 ghost use Rattle.field_proxy.specs.Happenings.{LastsAreSaid, WritesAreDone};
+
+use crate::proxy::Proxy;
 
 /// The writes are the orders that more than f masters vouched for, number after number.
 pub fn writes_are_done()
@@ -10,3 +12,13 @@ pub fn writes_are_done()
 pub fn lasts_are_said()
     ensures { LastsAreSaid }
 {}
+
+fn moves<T: Send>(_value: &T) {}
+
+fn lends<T: Sync>(_value: &T) {}
+
+/// A proxy may be handed to another thread, and lent to several.
+pub fn crosses_threads(proxy: &Proxy) {
+    moves(proxy);
+    lends(proxy);
+}

@@ -4,7 +4,7 @@
 
 mod exchange;
 pub mod laws;
-mod line;
+pub mod line;
 mod orders;
 pub mod proxy;
 mod readings;
@@ -13,5 +13,6 @@ mod tests;
 mod undo;
 pub mod writes;
 
+pub use line::Exchange;
 pub use proxy::Proxy;
 pub use writes::Write;

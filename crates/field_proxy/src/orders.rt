@@ -1,7 +1,8 @@
 //! Orders carried out in turn, all or none.
 ghost use Rattle.std.specs.Prelude.{◌≡◌, ◌++◌, ◌∷◌, [], ◌+◌, ◌<◌, ◌^◌, take, length, OnOk, OnErr, option_copied, slice_get};
 ghost use Rattle.field_proxy.specs.Undoing.{undone};
-ghost use Rattle.field_proxy.specs.Writes.{written_area, after_order, kept_of, after_orders, kept_orders};
+ghost use Rattle.field_proxy.specs.Exchanges.{line_after};
+ghost use Rattle.field_proxy.specs.Writes.{requests_of, order_requests, written_area, after_order, kept_of, after_orders, kept_orders};
 
 use crate::exchange::write_point;
 use crate::line::Line;
@@ -34,7 +35,7 @@ fn point_at(points: &[Point], number: u32) -> Option<&Point>
 fn carry_one(
     alloc: Global,
     device: &mut Device,
-    transaction: u16,
+    line: &mut Line,
     points: &[Point],
     number: u64,
     order: &Order,
@@ -43,6 +44,7 @@ fn carry_one(
 ) -> Result<(), Want>
     ensures device { OnOk result (device.new ≡ after_order points.now device.old order.now) }
     ensures writes { OnOk result (writes.new.items ≡ writes.old.items ++ kept_of points.now device.old number order.now) }
+    ensures line { OnOk result (line.new ≡ line_after line.old device.old (requests_of points.now order.now)) }
     ensures front { OnErr result (writes.new.items ≡ writes.old.items) }
     ensures undone { undone log.new.items device.new ≡ undone log.old.items device.old }
 {
@@ -58,7 +60,7 @@ fn carry_one(
         place: target.place,
         value: device.value(area, target.place),
     })?;
-    let exception = write_point(alloc, device, transaction, target, raw)?;
+    let exception = write_point(alloc, device, line, target, raw)?;
     writes.push(Write {
         number,
         point,
@@ -81,22 +83,14 @@ fn carry_out(
 ) -> Result<(), Want>
     ensures device { OnOk result (device.new ≡ after_orders points.now device.old orders.now) }
     ensures writes { OnOk result (writes.new.items ≡ writes.old.items ++ kept_orders points.now device.old (length writes.old.items + 1) orders.now) }
+    ensures line { OnOk result (line.new ≡ line_after line.old device.old (order_requests points.now orders.now)) }
     ensures front { take (length writes.old.items) writes.new.items ≡ writes.old.items }
     ensures undone { undone log.new.items device.new ≡ undone log.old.items device.old }
 {
     let first = writes.len() as u64 + 1;
     for (place, order) in orders.iter().enumerate() {
         let number = first + place as u64;
-        carry_one(
-            alloc,
-            device,
-            line.next(),
-            points,
-            number,
-            order,
-            writes,
-            log,
-        )?;
+        carry_one(alloc, device, line, points, number, order, writes, log)?;
     }
     Ok(())
 }
@@ -112,9 +106,9 @@ pub fn carry_out_vote(
     vouched: &mut Vouched,
     vote: Vote,
 ) -> Result<(), Want>
-    requires { vote.signer < 14 }
     ensures device { OnOk result (device.new ≡ after_orders points.now device.old orders.now) }
     ensures writes { OnOk result (writes.new.items ≡ writes.old.items ++ kept_orders points.now device.old (length writes.old.items + 1) orders.now) }
+    ensures line { OnOk result (line.new ≡ line_after line.old device.old (order_requests points.now orders.now)) }
     ensures vouched { OnOk result (vouched.new ≡ record vouched.old { votes = vouched.old.votes ++ vote ∷ [] }) }
     ensures device_stays { OnErr result (device.new ≡ device.old) }
     ensures writes_stay { OnErr result (writes.new.items ≡ writes.old.items) }

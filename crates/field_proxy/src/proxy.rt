@@ -3,7 +3,7 @@ ghost use Rattle.field_device.specs.Places.{size_of};
 ghost use Rattle.field_proxy.specs.Writes.{can_write, order_of};
 ghost use Rattle.field_proxy.specs.Front.{fresh, after_change, polled, poll_says, after_poll, after_vote};
 
-use crate::line::Line;
+use crate::line::{Exchange, Line};
 use crate::orders::carry_out_vote;
 use crate::readings::{as_updates, due_readings, tell};
 use crate::writes::Write;
@@ -47,6 +47,7 @@ impl Model for Proxy {
       f = proxy.sizes.f;
       points = proxy.points;
       places = proxy.device;
+      line = proxy.line;
       lasts = proxy.lasts.items;
       updates = proxy.updates;
       votes = proxy.vouched.votes;
@@ -56,8 +57,9 @@ impl Model for Proxy {
     ghost invariant = { λ proxy. (length proxy.points ≤ 1024)
         × (length proxy.lasts.items ≡ length proxy.points)
         × (proxy.vouched.f ≡ proxy.sizes.f)
-        × (map order_of proxy.writes.items ≡ done proxy.sizes.f proxy.vouched.votes)
-        × (list_all (λ vote. can_write proxy.points proxy.client vote.voucher.order) proxy.vouched.votes ≡ true) };
+        × (map order_of proxy.writes.items ≡ done proxy.sizes.n proxy.sizes.f proxy.vouched.votes)
+        × (list_all (λ vote. can_write proxy.points proxy.client vote.voucher.order) proxy.vouched.votes ≡ true)
+        × (proxy.vouched.n ≡ proxy.sizes.n) };
 }
 
 impl Proxy {
@@ -82,7 +84,7 @@ impl Proxy {
             sizes,
             points,
             device: Device::make(alloc, &sizes_of_device)?,
-            line: Line { last: 0 },
+            line: Line::new(alloc, 0),
             lasts: none_said(alloc, count)?,
             updates: 0,
             vouched: Vouched::new(alloc, &sizes),
@@ -109,7 +111,7 @@ impl Proxy {
         ensures counted { IfOk result (λ updates. self.new.updates ≡ self.old.updates + length updates.items) }
         ensures err { OnErr result (self.new ≡ self.old) }
     {
-        let mut line = self.line;
+        let mut line = Line::new(self.alloc, self.line.last);
         let mut ops = due_readings(
             self.alloc,
             &mut self.device,
@@ -122,7 +124,7 @@ impl Proxy {
         let updates = as_updates(self.alloc, self.client, self.updates + 1, &ops)?;
         tell(&mut self.lasts, &ops);
         self.updates += ops.len() as u64;
-        self.line = line;
+        self.line.keep(line);
         Ok(updates)
     }
 
@@ -133,10 +135,10 @@ impl Proxy {
         self.updates
     }
 
-    /// Takes a master's voucher. Where it makes orders done, the device is written. One for another client, or with an order
-    /// that the proxy can't carry out, changes nothing; nor does one after which memory is wanted.
+    /// Takes a voucher. Where it makes orders done, the device is written. One for another client, or with an order that the
+    /// proxy can't carry out, changes nothing; nor does one after which memory is wanted. One that no master signed supports
+    /// no order.
     pub fn take_voucher(&mut self, signer: u32, voucher: &Voucher) -> Result<(), Want>
-        requires { signer < self.old.n }
         ensures ok { OnOk result (self.new ≡ after_vote self.old (record { signer = signer; voucher = voucher.now })) }
         ensures err { OnErr result (self.new ≡ self.old) }
     {
@@ -148,7 +150,7 @@ impl Proxy {
             voucher: *voucher,
         };
         let orders = self.vouched.ready(&vote)?;
-        let mut line = self.line;
+        let mut line = Line::new(self.alloc, self.line.last);
         carry_out_vote(
             self.alloc,
             &mut self.device,
@@ -159,16 +161,24 @@ impl Proxy {
             &mut self.vouched,
             vote,
         )?;
-        self.line = line;
+        self.line.keep(line);
         Ok(())
     }
 
     /// The writes made, in the order of their numbers, from 1. They are the orders done.
     pub fn writes(&self) -> &[Write]
         ensures writes { result.now ≡ self.now.writes }
-        ensures orders { map order_of result.now ≡ done self.now.f self.now.votes }
+        ensures orders { map order_of result.now ≡ done self.now.n self.now.f self.now.votes }
     {
         self.writes.as_slice()
+    }
+
+    /// The bytes that passed on the line to the device, request by request, at the last poll or voucher for which the proxy
+    /// asked anything of it.
+    pub fn exchanges(&self) -> &[Exchange]
+        ensures { result.now ≡ self.now.line.passed }
+    {
+        self.line.passed.as_slice()
     }
 
     /// Whether a voucher is for this proxy, and with an order that it can carry out.

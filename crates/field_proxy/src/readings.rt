@@ -1,6 +1,7 @@
 //! The readings that a poll has to say.
-ghost use Rattle.std.specs.Prelude.{◌≡◌, ◌++◌, ◌<◌, ◌≤◌, ◌^◌, ◌+◌, length, IfOk, OnOk};
-ghost use Rattle.field_proxy.specs.Readings.{given, reading_of, readings, last_in, was_said, told_one, told, numbered};
+ghost use Rattle.std.specs.Prelude.{◌≡◌, ◌++◌, ◌<◌, ◌≤◌, ◌^◌, ◌+◌, ◌∷◌, [], length, IfOk, OnOk};
+ghost use Rattle.field_proxy.specs.Exchanges.{line_after};
+ghost use Rattle.field_proxy.specs.Readings.{poll_requests, given, reading_of, readings, last_in, was_said, told_one, told, numbered};
 
 use crate::exchange::read_point;
 use crate::line::Line;
@@ -22,12 +23,13 @@ fn add_reading(
     ops: &mut Vec<Op, Global>,
 ) -> Result<(), Want>
     ensures ops { OnOk result (ops.new.items ≡ ops.old.items ++ reading_of client number point.now (given device.old point.now) last) }
+    ensures line { OnOk result (line.new ≡ line_after line.old device.old (poll_requests client (point.now ∷ []))) }
     ensures same { device.new ≡ device.old }
 {
     if point.proxy != client {
         return Ok(());
     }
-    let Some(value) = read_point(alloc, device, line.next(), point)? else {
+    let Some(value) = read_point(alloc, device, line, point)? else {
         return Ok(());
     };
     if was_said(last, value) {
@@ -61,6 +63,7 @@ pub fn due_readings(
     requires few { length points.now ≤ 1024 }
     requires lasts { length lasts.now ≡ length points.now }
     ensures ops { IfOk result (λ ops. ops.items ≡ readings device.old client points.now (last_in lasts.now)) }
+    ensures line { OnOk result (line.new ≡ line_after line.old device.old (poll_requests client points.now)) }
     ensures same { device.new ≡ device.old }
 {
     let mut ops = Vec::new(alloc);

@@ -63,7 +63,6 @@ fn points(alloc: Global) -> Result<Items<Point>, Want>
 /// A feeder and a breaker behind proxy 0, and a pump behind proxy 1 at a place that its device lacks.
 fn proxy(alloc: Global, client: u32) -> Result<Proxy, Fail>
     requires { client < 2 }
-    ensures { IfOk result (λ proxy. proxy.n ≡ 4) }
 {
     let plant = Plant {
         devices: devices(alloc)?,
@@ -73,13 +72,6 @@ fn proxy(alloc: Global, client: u32) -> Result<Proxy, Fail>
     };
     let sizes = Sizes::new(1, 0)?;
     Ok(Proxy::make(alloc, client, sizes, &plant)?)
-}
-
-fn take(proxy: &mut Proxy, signer: u32, voucher: &Voucher) -> Result<(), Want>
-    requires { signer < proxy.old.n }
-    ensures { proxy.new.n ≡ proxy.old.n }
-{
-    proxy.take_voucher(signer, voucher)
 }
 
 fn polled(rt: &impl Abort, proxy: &mut Proxy, room: u64) -> Result<Vec<Update>, Want> {
@@ -115,16 +107,25 @@ fn reading(t: u64, point: u32, value: i64) -> Update {
 #[test]
 fn writes_wait_for_two_masters_and_their_turn(rt: HostRuntime) -> Result<(), Fail> {
     let mut proxy = proxy(rt.alloc(), 0)?;
-    take(&mut proxy, 0, &write(0, 2, 1, 1))?;
-    take(&mut proxy, 1, &write(0, 2, 1, 1))?;
-    take(&mut proxy, 0, &write(0, 1, 1, 0))?;
-    take(&mut proxy, 0, &write(0, 1, 1, 0))?;
-    take(&mut proxy, 3, &write(0, 1, 2, 0))?;
+    proxy.take_voucher(0, &write(0, 2, 1, 1))?;
+    proxy.take_voucher(1, &write(0, 2, 1, 1))?;
+    proxy.take_voucher(0, &write(0, 1, 1, 0))?;
+    proxy.take_voucher(0, &write(0, 1, 1, 0))?;
+    proxy.take_voucher(3, &write(0, 1, 2, 0))?;
+    proxy.take_voucher(4, &write(0, 1, 1, 0))?;
     assert!(rt; proxy.writes().is_empty());
-    take(&mut proxy, 2, &write(0, 1, 1, 0))?;
+    proxy.take_voucher(2, &write(0, 1, 1, 0))?;
     assert_eq!(rt;
         proxy.writes(),
         [kept(1, 1, 0, None), kept(2, 1, 1, None)].as_slice()
+    );
+    // Modbus V1.1b3, section 6.5, behind the header of the guide's section 3.1.3: transactions 1 and 2, 6 bytes, unit 1
+    assert_eq!(rt; proxy.exchanges().len(), 2);
+    assert!(rt;
+        proxy.exchanges()[0].request.as_slice() == b"\0\x01\0\0\0\x06\x01\x05\0\0\0\0".as_slice()
+    );
+    assert!(rt;
+        proxy.exchanges()[1].reply.as_slice() == b"\0\x02\0\0\0\x06\x01\x05\0\0\xff\0".as_slice()
     );
     Ok(())
 }
@@ -132,8 +133,8 @@ fn writes_wait_for_two_masters_and_their_turn(rt: HostRuntime) -> Result<(), Fai
 #[test]
 fn a_place_that_lacks_is_written_with_an_exception(rt: HostRuntime) -> Result<(), Fail> {
     let mut proxy = proxy(rt.alloc(), 1)?;
-    take(&mut proxy, 0, &write(1, 1, 2, 1))?;
-    take(&mut proxy, 2, &write(1, 1, 2, 1))?;
+    proxy.take_voucher(0, &write(1, 1, 2, 1))?;
+    proxy.take_voucher(2, &write(1, 1, 2, 1))?;
     assert_eq!(rt; proxy.writes(), [kept(1, 2, 1, Some(2))].as_slice());
     assert!(rt; polled(&rt, &mut proxy, 8)?.is_empty());
     Ok(())

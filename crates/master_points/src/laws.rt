@@ -1,6 +1,8 @@
-//! What holds of all orders. The functions do nothing; their contracts are the laws.
+//! What holds of all orders, and beyond a master's calls. The functions do nothing; their contracts are the laws.
 
 ghost use Rattle.master_points.specs.Orders.{OnlyAppends, HoldsOrders};
+
+use crate::master::Master;
 
 /// A longer list of executed updates only appends orders.
 pub fn only_appends()
@@ -12,3 +14,13 @@ pub fn only_appends()
 pub fn holds_orders()
     ensures { HoldsOrders }
 {}
+
+fn moves<T: Send>(_value: &T) {}
+
+fn lends<T: Sync>(_value: &T) {}
+
+/// A master's points, alarms and orders may be handed to another thread, and lent to several.
+pub fn crosses_threads(master: &Master) {
+    moves(master);
+    lends(master);
+}

@@ -19,9 +19,9 @@ notice_in (order.Write p r) = []
 abbrev pub notices : List Order → List Notice
 notices orders = flat_map notice_in orders
 
--- the board of a screen at the end of a list of votes, whoever they are for
-abbrev pub board_of : ℕ → ℕ → List Vote → List Notice
-board_of client f votes = notices (orders_done is_notice client f votes)
+-- the board of a screen of n masters at the end of a list of votes, whoever they are for
+abbrev pub board_of : (client n f : ℕ) → List Vote → List Notice
+board_of client n f votes = notices (orders_done is_notice client n f votes)
 
 -- a screen: its number, the masters' number, how many of them may be intruded, how many commands were given, and the votes
 -- taken that count

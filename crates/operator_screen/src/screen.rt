@@ -28,7 +28,7 @@ impl Model for Screen {
 
     ghost view = { λ screen. record { client = screen.client; n = screen.sizes.n; f = screen.sizes.f; commands = screen.commands; votes = screen.vouched.votes } };
 
-    ghost invariant = { λ screen. (screen.board.items ≡ notices (done screen.sizes.f screen.vouched.votes)) × (screen.vouched.f ≡ screen.sizes.f) };
+    ghost invariant = { λ screen. (screen.board.items ≡ notices (done screen.sizes.n screen.sizes.f screen.vouched.votes)) × (screen.vouched.n ≡ screen.sizes.n) × (screen.vouched.f ≡ screen.sizes.f) };
 }
 
 impl Screen {
@@ -63,10 +63,16 @@ impl Screen {
         }
     }
 
-    /// Takes a master's voucher. One for another client, or with a write, changes nothing; nor does one after which
-    /// memory is wanted.
+    /// How many commands were given.
+    pub fn commands(&self) -> u64
+        ensures { result ≡ self.now.commands }
+    {
+        self.commands
+    }
+
+    /// Takes a voucher. One for another client, or with a write, changes nothing; nor does one after which memory is
+    /// wanted. One that no master signed supports no notice.
     pub fn take_voucher(&mut self, signer: u32, voucher: &Voucher) -> Result<(), Want>
-        requires { signer < self.old.n }
         ensures ok { OnOk result (self.new ≡ record self.old { votes = self.old.votes ++ counted is_notice self.old.client (record { signer = signer; voucher = voucher.now } ∷ []) }) }
         ensures err { OnErr result (self.new ≡ self.old) }
     {
@@ -90,7 +96,7 @@ impl Screen {
 
     /// The notices shown, the oldest first.
     pub fn board(&self) -> &[Notice]
-        ensures { result.now ≡ notices (done self.now.f self.now.votes) }
+        ensures { result.now ≡ notices (done self.now.n self.now.f self.now.votes) }
     {
         self.board.as_slice()
     }

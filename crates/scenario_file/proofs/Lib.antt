@@ -1,9 +1,11 @@
 pub mod Gathering
 pub mod Steps
 pub mod RowLaws
+pub mod NameLaws
 pub mod PlantLaws
 pub mod ActorLaws
 pub mod UnknownLaws
 pub mod SettingsLaws
+pub mod KeeperLaws
 pub mod ValidLaws
 pub mod SmallestLaws

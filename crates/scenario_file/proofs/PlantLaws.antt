@@ -1,6 +1,7 @@
 -- What holds of the plant that a document gives.
-use Rattle.std.proofs.Common.{◌≡◌, ℕ, ◌≤◌, ◌<◌, nat_lt, true, List, [], ◌∷◌, ◌++◌, length, refl, subst, arith, Ok, Some, pos}
-use Rattle.std.specs.Prelude.{codes}
+use Rattle.std.proofs.Common.{◌≡◌, ℕ, ◌≤◌, ◌<◌, nat_lt, true, List, [], ◌∷◌, ◌++◌, length, refl, subst, arith, Ok, Some, None, ℤ, pos}
+use Rattle.std.specs.Prelude.{codes, ◌≤ℤ◌}
+use Rattle.std.proofs.lemmas.Int.{ints}
 use Rattle.std.specs.List.{AllByRecursion}
 use Rattle.std.proofs.lemmas.Bool.Decides.{nat_tests}
 use Rattle.toml.specs.Data.{Members}
@@ -14,8 +15,10 @@ use Rattle.interlocks.specs.Reading.{Names}
 use Rattle.master_points.specs.Orders.{AreOwned}
 use Rattle.scenario_file.specs.Values.{count_at, integer_at, integer_or, least, most, greatest_count}
 use Rattle.scenario_file.specs.PlantRows.{device_in, name_in, proxy_in, area_in, point_in, alarm_in, interlock_in, devices_of, points_of, alarms_of, interlocks_of}
-use Rattle.scenario_file.proofs.Steps.{step, ok-same, kept-ok, int_le-at-most, integer_at-ok, integer_or-ok}
-use Rattle.scenario_file.proofs.RowLaws.{rows_of-few, rows_of-all}
+use Rattle.scenario_file.specs.Valid.{IsPoint}
+use Rattle.scenario_file.proofs.Steps.{step, ok-same, kept-ok, int_le-at-most, integer_at-ok, integer_or-ok, count_at-ok}
+use Rattle.scenario_file.proofs.RowLaws.{rows_of-few, rows_of-all, rows_of-keeps}
+use Rattle.scenario_file.proofs.NameLaws.{name_in-fresh, Differ, none-differ, differ-push}
 
 pub devices_of-few : (doc : Members) (ds : List DeviceSizes) → devices_of doc ≡ Ok ds → length ds ≤ 8
 unfolding devices_of
@@ -43,13 +46,19 @@ proxy_in-there devices at t p h =
     let (there, same) = kept-ok (at ++ codes "proxy") (nat_lt n devices) n p h1 in
     subst (λ (m : ℕ). m < devices) same (below n devices there))
 
-abbrev pub IsPoint : ℕ → Point → Type 0
-IsPoint devices p = IsUsable p × (p.proxy < devices)
+-- a point that is read: what the crates below ask of it, that its proxy is there, its ranges, and that nothing has its name yet
+pub record ReadsPoint (devices : ℕ) (before : List Point) (p : Point) : Type 0 where
+  pub usable : IsUsable p
+  pub owned : p.proxy < devices
+  pub ranges : IsPoint p
+  pub fresh : point_named before p.name ≡ None
 
--- the numbers of a point that is read
-pub point_in-usable : (devices : ℕ) (before : List Point) (at : List ℕ) (t : Members) (p : Point) → point_in devices before at t ≡ Ok p → IsPoint devices p
+at-most-far : (a b c : ℤ) → a ≤ℤ b → b ≤ℤ c → a ≤ℤ c
+at-most-far a b c first second = omega (arith, ints)
+
+pub point_in-reads : (devices : ℕ) (before : List Point) (at : List ℕ) (t : Members) (p : Point) → point_in devices before at t ≡ Ok p → ReadsPoint devices before p
 unfolding point_in
-point_in-usable devices before at t p h =
+point_in-reads devices before at t p h =
     step (name_in (point_named before) at t) _ p h (λ name named h1.
     step (proxy_in devices at t) _ p h1 (λ proxy over h2.
     step (area_in at t) _ p h2 (λ area of_area h3.
@@ -61,20 +70,53 @@ point_in-usable devices before at t p h =
     step (integer_or at (codes "start") (pos 0) low high t) _ p h8 (λ start begun h9.
     let made : Point = record { name = name; proxy = proxy; area = area; place = place; scale = scale; offset = offset; low = low; high = high; start = start } in
     let (scale_low, scale_high) = integer_or-ok at (codes "scale") (pos 1) (pos 1) (pos 1000000) t scale scaled in
+    let (offset_low, offset_high) = integer_or-ok at (codes "offset") (pos 0) least most t offset moved in
+    let (low_least, low_most) = integer_at-ok at (codes "low") least most t low above in
     let (bounds, high_most) = integer_at-ok at (codes "high") low most t high beneath in
     let (start_low, start_high) = integer_or-ok at (codes "start") (pos 0) low high t start begun in
-    let usable : IsUsable made = record { scale_low = int_le-at-most (pos 1) scale scale_low; scale_high = int_le-at-most scale (pos 1000000) scale_high; bounds = int_le-at-most low high bounds; start = rw (start_low, start_high) refl } in
-    subst (IsPoint devices) (ok-same made p h9) (usable, proxy_in-there devices at t proxy over))))))))))
+    let (is_named, is_fresh) = name_in-fresh (point_named before) at t name named in
+    let holds : ReadsPoint devices before made = record {
+      usable = record { scale_low = int_le-at-most (pos 1) scale scale_low; scale_high = int_le-at-most scale (pos 1000000) scale_high; bounds = int_le-at-most low high bounds; start = rw (start_low, start_high) refl };
+      owned = proxy_in-there devices at t proxy over;
+      ranges = record {
+        name = is_named;
+        place = (count_at-ok at (codes "place") 0 65535 t place placed).1;
+        offset = (int_le-at-most least offset offset_low, int_le-at-most offset most offset_high);
+        low = (int_le-at-most least low low_least, int_le-at-most low most low_most);
+        high = (at-most-far least low high (int_le-at-most least low low_least) (int_le-at-most low high bounds), int_le-at-most high most high_most);
+      };
+      fresh = is_fresh;
+    } in
+    subst (ReadsPoint devices before) (ok-same made p h9) holds)))))))))
 
-pub points_of-all : (devices : ℕ) (doc : Members) (ps : List Point) → points_of devices doc ≡ Ok ps → AllByRecursion (IsPoint devices) ps
+-- the parts of it that don't speak of the points before
+abbrev pub IsRead : ℕ → Point → Type 0
+IsRead devices p = IsUsable p × (p.proxy < devices) × IsPoint p
+
+pub points_of-all : (devices : ℕ) (doc : Members) (ps : List Point) → points_of devices doc ≡ Ok ps → AllByRecursion (IsRead devices) ps
 unfolding points_of
-points_of-all devices doc ps h = rows_of-all (IsPoint devices) (point_in devices) (codes "point") (Some 1024) doc ps (point_in-usable devices) h
+points_of-all devices doc ps h =
+    rows_of-all (IsRead devices) (point_in devices) (codes "point") (Some 1024) doc ps
+    (λ before at t p one. let r = point_in-reads devices before at t p one in (r.usable, r.owned, r.ranges)) h
 
-are-usable : (devices : ℕ) (ps : List Point) → AllByRecursion (IsPoint devices) ps → AreUsable ps
+pub points_of-differ : (devices : ℕ) (doc : Members) (ps : List Point) → points_of devices doc ≡ Ok ps → Differ (λ (p : Point). p.name) ps
+unfolding points_of
+points_of-differ devices doc ps h =
+    rows_of-keeps (Differ (λ (p : Point). p.name)) (point_in devices) (codes "point") (Some 1024) doc ps (none-differ (λ (p : Point). p.name))
+    (λ before at t p so_far one. differ-push (λ (p : Point). p.name) before p so_far (point_in-reads devices before at t p one).fresh) h
+
+are-points : (devices : ℕ) (ps : List Point) → AllByRecursion (IsRead devices) ps → AllByRecursion IsPoint ps
+are-points devices [] all = tt
+are-points devices (p ∷ ps) all = (all.0.2, are-points devices ps all.1)
+
+pub points_of-ranges : (devices : ℕ) (doc : Members) (ps : List Point) → points_of devices doc ≡ Ok ps → AllByRecursion IsPoint ps
+points_of-ranges devices doc ps h = are-points devices ps (points_of-all devices doc ps h)
+
+are-usable : (devices : ℕ) (ps : List Point) → AllByRecursion (IsRead devices) ps → AreUsable ps
 are-usable devices [] all = tt
 are-usable devices (p ∷ ps) all = (all.0.0, are-usable devices ps all.1)
 
-are-owned : (devices : ℕ) (ps : List Point) → AllByRecursion (IsPoint devices) ps → AreOwned devices ps
+are-owned : (devices : ℕ) (ps : List Point) → AllByRecursion (IsRead devices) ps → AreOwned devices ps
 are-owned devices [] all = tt
 are-owned devices (p ∷ ps) all = (all.0.1, are-owned devices ps all.1)
 

@@ -36,6 +36,14 @@ gathered-all P next good before (d ∷ ds) xs all h =
     let (x, here, more) = then-ok (next before d) _ xs h in
     gathered-all P next good (before ++ x ∷ []) ds xs (all-push P before x all (good before d x here)) more
 
+-- what each element that is read keeps of those before it holds of the whole list
+pub gathered-keeps : {D A : Type 0} (P : List A → Type 0) (next : List A → D → Result A ScenarioRefusal) → ((before : List A) (d : D) (x : A) → P before → next before d ≡ Ok x → P (before ++ x ∷ []))
+    → (before : List A) (ds : List D) (xs : List A) → P before → gathered next before ds ≡ Ok xs → P xs
+gathered-keeps P next keeps before [] xs so_far h = subst P (ok-same before xs h) so_far
+gathered-keeps P next keeps before (d ∷ ds) xs so_far h =
+    let (x, here, more) = then-ok (next before d) _ xs h in
+    gathered-keeps P next keeps (before ++ x ∷ []) ds xs (keeps before d x so_far here) more
+
 -- a list that is neither too short nor too long
 two-tests : {A : Type 0} (name : List ℕ) (short long : Bool) (x y : A) → (if short then bad name else if long then Err (refusal.TooMany name) else Ok x) ≡ Ok y → (short ≡ false) × (long ≡ false) × (x ≡ y)
 two-tests name true long x y h = absurd (cc)
@@ -77,3 +85,10 @@ unfolding rows_of
 rows_of-all P row key most doc xs good h =
     let (ts, listed, read) = then-ok (rows_at key most doc) _ xs h in
     gathered-all P (λ before t. row before (row_name key (length before)) t) (λ before t x here. good before (row_name key (length before)) t x here) [] ts xs tt read
+
+pub rows_of-keeps : {A : Type 0} (P : List A → Type 0) (row : List A → List ℕ → Members → Result A ScenarioRefusal) (key : List ℕ) (most : Option ℕ) (doc : Members) (xs : List A) → P []
+    → ((before : List A) (at : List ℕ) (t : Members) (x : A) → P before → row before at t ≡ Ok x → P (before ++ x ∷ [])) → rows_of row key most doc ≡ Ok xs → P xs
+unfolding rows_of
+rows_of-keeps P row key most doc xs none keeps h =
+    let (ts, listed, read) = then-ok (rows_at key most doc) _ xs h in
+    gathered-keeps P (λ before t. row before (row_name key (length before)) t) (λ before t x so_far here. keeps before (row_name key (length before)) t x so_far here) [] ts xs none read

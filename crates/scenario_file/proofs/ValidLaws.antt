@@ -1,15 +1,15 @@
 -- What holds of each scenario that a document gives.
-use Rattle.std.proofs.Common.{◌≡◌, ℕ, zero, suc, ◌≤◌, ◌<◌, nat_eq, ◌==◌, Bool, true, false, cond, ◌||◌, List, [], ◌∷◌, ◌++◌, length, refl, ◌∙◌, subst, arith, inl, inr, Result, Ok, Err, Option, Some, None, pos, ◌⊎◌}
+use Rattle.std.proofs.Common.{◌≡◌, ℕ, zero, suc, ◌≤◌, ◌<◌, nat_eq, ◌==◌, Bool, true, false, cond, ◌||◌, List, [], ◌∷◌, ◌++◌, length, refl, ◌∙◌, subst, arith, inl, inr, Result, Ok, Err, Option, Some, None, ℤ, pos, ◌⊎◌}
 use Rattle.std.specs.Prelude.{codes, IfOk}
 use Rattle.std.specs.List.{AllByRecursion}
+use Rattle.std.specs.List.Sorted.{IsStrictlyIncreasing}
+use Rattle.std.specs.Option.{ForSome}
 use Rattle.std.proofs.lemmas.Bool.Decides.{nat_tests}
 use Rattle.std.proofs.lemmas.List.{length-map}
-use Rattle.std.proofs.lemmas.List.Quantifiers.{position-Some}
 use Rattle.quorum_sets.specs.Quorum.{IsGroup, group_size}
 use Rattle.quorum_sets.specs.Masters.{has_master, voters, numbers_below}
 use Rattle.quorum_sets.proofs.MastersLemmas.{voters-suc, voters-zero}
-use Rattle.toml.specs.Data.{Members, get_member, array, no_items}
-use Rattle.point_table.specs.declared.point.Area.TheVariants.{Coil}
+use Rattle.toml.specs.Data.{Data, Members, get_member, array, no_items}
 use Rattle.point_table.specs.declared.point.DeviceSizes.{DeviceSizes}
 use Rattle.point_table.specs.declared.point.Point.{Point}
 use Rattle.point_table.specs.Table.{point_named}
@@ -19,13 +19,12 @@ use Rattle.interlocks.specs.declared.interlock.Interlock.{Interlock}
 use Rattle.interlocks.specs.Reading.{Names}
 use Rattle.master_points.specs.declared.plant.Plant.{Plant}
 use Rattle.master_points.specs.Orders.{IsPlant}
-use Rattle.std.specs.Str.{bytes_eq}
 use Rattle.scenario_file.specs.declared.refusal.ScenarioRefusal.{ScenarioRefusal}
 use Rattle.toml.specs.Parse.{parse_document}
 use Rattle.scenario_file.specs.declared.actors.Cast.{Cast}
 use Rattle.scenario_file.specs.declared.scenario.Scenario.{Scenario}
 use Rattle.scenario_file.specs.Answers.{Shows}
-use Rattle.scenario_file.specs.Values.{count_at, count_or, integer_at, text_at, bytes_at, least, most, or_default}
+use Rattle.scenario_file.specs.Values.{count_at, count_or, integer_at, integer_in, text_at, bytes_at, least, most, or_default}
 use Rattle.scenario_file.specs.Lists.{list_in, number_after, numbers_in}
 use Rattle.scenario_file.specs.Settings.{Settings, is_height, is_new_master, usual_levels, levels_of, set_of, intruded_of, settings_of}
 use Rattle.scenario_file.specs.PlantRows.{device_in, name_in, point_named_in, kind_in, alarm_in, interlock_named, value_of, rule_in, names_of, interlock_in, devices_of, points_of, alarms_of, interlocks_of, plant_of}
@@ -33,10 +32,12 @@ use Rattle.scenario_file.specs.Actors.{actors_of}
 use Rattle.scenario_file.specs.Keepers.{keepers_of, calls_of, failing_of}
 use Rattle.scenario_file.specs.Unknown.{first_unknown}
 use Rattle.scenario_file.specs.Reading.{Contents, cast_of, unless_unknown, scenario_of, or_no_toml, scenario_in, contents}
-use Rattle.scenario_file.specs.Valid.{IsHeight, IsDevice, IsAlarm, IsInterlock, IsScenario}
-use Rattle.scenario_file.proofs.Steps.{step, ok-same, or_bad-ok, integer_at-ok, count_at-ok, count_or-ok, int_le-at-most}
-use Rattle.scenario_file.proofs.RowLaws.{all-at, gathered-length, gathered-all, list_in-ok, at-most, rows_of-all}
-use Rattle.scenario_file.proofs.PlantLaws.{devices_of-few, points_of-few, points_of-usable, points_of-owned, alarms_of-few, interlocks_of-few}
+use Rattle.scenario_file.specs.Valid.{IsHeight, IsI64, IsDevice, IsPoint, IsAlarm, IsInterlock, IsFailing, IsScenario}
+use Rattle.scenario_file.proofs.Steps.{step, ok-same, or_bad-ok, integer_in-ok, integer_at-ok, count_at-ok, count_or-ok, int_le-at-most}
+use Rattle.scenario_file.proofs.RowLaws.{all-at, gathered-length, gathered-all, list_in-ok, at-most, rows_of-all, rows_of-keeps}
+use Rattle.scenario_file.proofs.NameLaws.{name_in-fresh, Differ, none-differ, differ-push, point_named-there, rule_in-there}
+use Rattle.scenario_file.proofs.KeeperLaws.{set_of-rises, keepers_of-ok, calls_of-failing, calls_of-intruded, all-map, map-empty, bytes_at-size}
+use Rattle.scenario_file.proofs.PlantLaws.{devices_of-few, points_of-few, points_of-usable, points_of-owned, points_of-differ, points_of-ranges, alarms_of-few, interlocks_of-few}
 use Rattle.scenario_file.proofs.SettingsLaws.{number_after-ok, masters-there, length-numbers_below}
 
 -- Heights
@@ -88,6 +89,13 @@ named-below n [] x all h = absurd (cc)
 named-below n (y ∷ ys) x all h =
     elim (either-true (nat_eq y x) (has_master ys x) h) [ inl here ↦ subst (λ m. m < n) (equal-true y x here) all.0 | inr later ↦ named-below n ys x all.1 later ]
 
+intruded_of-rises : (n : ℕ) (doc : Members) (masters : List ℕ) → intruded_of n doc ≡ Ok masters → IsStrictlyIncreasing masters
+unfolding intruded_of
+intruded_of-rises n doc masters h =
+    step (list_in (codes "intruded") 0 None (or_default (codes "intruded") (array no_items) doc)) _ masters h (λ ds listed h1.
+    step (numbers_in (codes "intruded") (is_new_master n) ds) _ masters h1 (λ ms read h2.
+    subst IsStrictlyIncreasing (ok-same (set_of ms) masters h2) (set_of-rises ms)))
+
 intruded_of-ok : (n : ℕ) (doc : Members) (masters : List ℕ) → intruded_of n doc ≡ Ok masters → AllByRecursion (λ m. m < n) masters
 unfolding intruded_of
 intruded_of-ok n doc masters h =
@@ -100,10 +108,12 @@ intruded_of-ok n doc masters h =
 
 record HasSettings (s : Settings) : Type 0 where
   group : IsGroup s.f s.k
+  seed : length s.seed ≡ 32
   levels : HasLevels s.heights
   some_frames : 1 ≤ s.frames
   few_frames : s.frames ≤ 2
   intruded : AllByRecursion (λ m. m < group_size s.f s.k) s.intruded
+  intruded_rise : IsStrictlyIncreasing s.intruded
   some_screens : 1 ≤ s.screens
   few_screens : s.screens ≤ 4
 
@@ -124,10 +134,12 @@ settings_of-ok doc s h =
     let (screens_some, screens_few) = count_at-ok [] (codes "screens") 1 4 doc screens shown in
     let holds : HasSettings made = record {
       group = record { some_may_be_intruded = f_some; at_most_three_intruded = f_few; at_most_two_away = k_few };
+      seed = bytes_at-size [] (codes "seed") 32 doc seed seeded;
       levels = levels_of-ok doc heights leveled;
       some_frames = frames_some;
       few_frames = frames_few;
       intruded = intruded_of-ok (group_size f k) doc intruded named;
+      intruded_rise = intruded_of-rises (group_size f k) doc intruded named;
       some_screens = screens_some;
       few_screens = screens_few;
     } in
@@ -151,16 +163,18 @@ device_in-ok before at t d h =
     } in
     subst IsDevice (ok-same made d h4) few))))
 
-some_point : Point
-some_point = record { name = []; proxy = 0; area = Coil; place = 0; scale = pos 1; offset = pos 0; low = pos 0; high = pos 0; start = pos 0 }
-
 point_named_in-there : (points : List Point) (at : List ℕ) (t : Members) (n : ℕ) → point_named_in points at t ≡ Ok n → n < length points
 unfolding point_named_in
 point_named_in-there points at t n h =
-    step (text_at at (codes "point") t) _ n h (λ s named h1.
-    (position-Some (λ p. bytes_eq p.name s) points n some_point (or_bad-ok (at ++ codes "point") (point_named points s) n h1)).0)
+    step (text_at at (codes "point") t) _ n h (λ s named h1. point_named-there points s n (or_bad-ok (at ++ codes "point") (point_named points s) n h1))
 
-alarm_in-ok : (points : List Point) (before : List AlarmRule) (at : List ℕ) (t : Members) (a : AlarmRule) → alarm_in points before at t ≡ Ok a → IsAlarm (length points) a
+-- an alarm that is read, and an interlock: what holds of it, and that nothing has its name yet
+
+record ReadsAlarm (points : ℕ) (before : List AlarmRule) (a : AlarmRule) : Type 0 where
+  is : IsAlarm points a
+  fresh : alarm_named before a.name ≡ None
+
+alarm_in-ok : (points : List Point) (before : List AlarmRule) (at : List ℕ) (t : Members) (a : AlarmRule) → alarm_in points before at t ≡ Ok a → ReadsAlarm (length points) before a
 unfolding alarm_in
 alarm_in-ok points before at t a h =
     step (name_in (alarm_named before) at t) _ a h (λ name named h1.
@@ -169,13 +183,37 @@ alarm_in-ok points before at t a h =
     step (integer_at at (codes "limit") least most t) _ a h3 (λ limit limited h4.
     step (integer_at at (codes "band") (pos 0) most t) _ a h4 (λ band banded h5.
     let made : AlarmRule = record { name = name; point = point; kind = kind; limit = limit; band = band } in
-    let holds : IsAlarm (length points) made = record {
-      point = point_named_in-there points at t point pointed;
-      band = int_le-at-most (pos 0) band (integer_at-ok at (codes "band") (pos 0) most t band banded).0;
+    let (is_named, is_fresh) = name_in-fresh (alarm_named before) at t name named in
+    let (limit_low, limit_high) = integer_at-ok at (codes "limit") least most t limit limited in
+    let (band_low, band_high) = integer_at-ok at (codes "band") (pos 0) most t band banded in
+    let holds : ReadsAlarm (length points) before made = record {
+      is = record {
+        name = is_named;
+        point = point_named_in-there points at t point pointed;
+        limit = (int_le-at-most least limit limit_low, int_le-at-most limit most limit_high);
+        band = int_le-at-most (pos 0) band band_low;
+        band_most = int_le-at-most band most band_high;
+      };
+      fresh = is_fresh;
     } in
-    subst (IsAlarm (length points)) (ok-same made a h5) holds)))))
+    subst (ReadsAlarm (length points) before) (ok-same made a h5) holds)))))
 
-interlock_in-ok : (names : Names) (before : List Interlock) (at : List ℕ) (t : Members) (l : Interlock) → interlock_in names before at t ≡ Ok l → IsInterlock (length names.points.points) l
+value_of-ok : (name : List ℕ) (o : Option Data) (v : Option ℤ) → value_of name o ≡ Ok v → ForSome v IsI64
+unfolding value_of
+value_of-ok name None v h = λ x is. absurd (let none : None ≡ Some x = ok-same None v h ∙ is in cc)
+value_of-ok name (Some d) v h =
+    step (integer_in name least most d) _ v h (λ z read h1 x is.
+    let same : Some z ≡ Some x = ok-same (Some z) v h1 ∙ is in
+    let equal : z ≡ x = cc in
+    let (low, high) = integer_in-ok name least most d z read in
+    subst IsI64 equal (int_le-at-most least z low, int_le-at-most z most high))
+
+record ReadsInterlock (points alarms : ℕ) (before : List Interlock) (l : Interlock) : Type 0 where
+  is : IsInterlock points alarms l
+  fresh : interlock_named before l.name ≡ None
+
+interlock_in-ok : (names : Names) (before : List Interlock) (at : List ℕ) (t : Members) (l : Interlock) → interlock_in names before at t ≡ Ok l
+    → ReadsInterlock (length names.points.points) (length names.alarms.rules) before l
 unfolding interlock_in
 interlock_in-ok names before at t l h =
     step (name_in (interlock_named before) at t) _ l h (λ name named h1.
@@ -183,14 +221,39 @@ interlock_in-ok names before at t l h =
     step (value_of (at ++ codes "value") (get_member (codes "value") t)) _ l h2 (λ value valued h3.
     step (rule_in names at t) _ l h3 (λ deny denied h4.
     let made : Interlock = record { name = name; point = point; value = value; deny = deny } in
-    let there : made.point < length names.points.points = point_named_in-there names.points.points at t point pointed in
-    subst (IsInterlock (length names.points.points)) (ok-same made l h4) there))))
+    let (is_named, is_fresh) = name_in-fresh (interlock_named before) at t name named in
+    let holds : ReadsInterlock (length names.points.points) (length names.alarms.rules) before made = record {
+      is = record {
+        name = is_named;
+        point = point_named_in-there names.points.points at t point pointed;
+        value = value_of-ok (at ++ codes "value") (get_member (codes "value") t) value valued;
+        deny = rule_in-there names at t deny denied;
+      };
+      fresh = is_fresh;
+    } in
+    subst (ReadsInterlock (length names.points.points) (length names.alarms.rules) before) (ok-same made l h4) holds))))
+
+alarms-differ : (points : List Point) (doc : Members) (as' : List AlarmRule) → alarms_of points doc ≡ Ok as' → Differ (λ (a : AlarmRule). a.name) as'
+unfolding alarms_of
+alarms-differ points doc as' h =
+    rows_of-keeps (Differ (λ (a : AlarmRule). a.name)) (alarm_in points) (codes "alarm") (Some 256) doc as' (none-differ (λ (a : AlarmRule). a.name))
+    (λ before at t a so_far one. differ-push (λ (a : AlarmRule). a.name) before a so_far (alarm_in-ok points before at t a one).fresh) h
+
+interlocks-differ : (names : Names) (doc : Members) (ls : List Interlock) → interlocks_of names doc ≡ Ok ls → Differ (λ (l : Interlock). l.name) ls
+unfolding interlocks_of
+interlocks-differ names doc ls h =
+    rows_of-keeps (Differ (λ (l : Interlock). l.name)) (interlock_in names) (codes "interlock") (Some 64) doc ls (none-differ (λ (l : Interlock). l.name))
+    (λ before at t l so_far one. differ-push (λ (l : Interlock). l.name) before l so_far (interlock_in-ok names before at t l one).fresh) h
 
 record HasPlant (p : Plant) : Type 0 where
   limits : (screens : ℕ) → screens ≤ 4 → IsPlant p screens
   devices : AllByRecursion IsDevice p.devices
+  points : AllByRecursion IsPoint p.points
   alarms : AllByRecursion (IsAlarm (length p.points)) p.alarms
-  interlocks : AllByRecursion (IsInterlock (length p.points)) p.interlocks
+  interlocks : AllByRecursion (IsInterlock (length p.points) (length p.alarms)) p.interlocks
+  points_differ : Differ (λ (q : Point). q.name) p.points
+  alarms_differ : Differ (λ (a : AlarmRule). a.name) p.alarms
+  interlocks_differ : Differ (λ (l : Interlock). l.name) p.interlocks
 
 plant_of-ok : (doc : Members) (p : Plant) → plant_of doc ≡ Ok p → HasPlant p
 unfolding plant_of devices_of alarms_of interlocks_of
@@ -211,8 +274,13 @@ plant_of-ok doc p h =
         shown = few;
       };
       devices = rows_of-all IsDevice device_in (codes "proxy") (Some 8) doc devices device_in-ok a;
-      alarms = rows_of-all (IsAlarm (length points)) (alarm_in points) (codes "alarm") (Some 256) doc alarms (alarm_in-ok points) c;
-      interlocks = rows_of-all (IsInterlock (length points)) (interlock_in (names_of points alarms)) (codes "interlock") (Some 64) doc interlocks (interlock_in-ok (names_of points alarms)) e;
+      points = points_of-ranges (length devices) doc points b;
+      alarms = rows_of-all (IsAlarm (length points)) (alarm_in points) (codes "alarm") (Some 256) doc alarms (λ before at t x one. (alarm_in-ok points before at t x one).is) c;
+      interlocks = rows_of-all (IsInterlock (length points) (length alarms)) (interlock_in (names_of points alarms)) (codes "interlock") (Some 64) doc interlocks
+          (λ before at t x one. (interlock_in-ok (names_of points alarms) before at t x one).is) e;
+      points_differ = points_of-differ (length devices) doc points b;
+      alarms_differ = alarms-differ points doc alarms c;
+      interlocks_differ = interlocks-differ (names_of points alarms) doc interlocks e;
     } in
     subst HasPlant (ok-same made p h4) holds))))
 
@@ -232,21 +300,31 @@ scenario_of-valid doc c h =
     let made : Contents = record { settings = s; plant = plant; failing = failing_of (cast_of s plant) keepers } in
     let here = settings_of-ok doc s settled in
     let there = plant_of-ok doc plant planted in
+    let right = keepers_of-ok (cast_of s plant) s.intruded doc keepers kept in
     let lists : length (failing_of (cast_of s plant) keepers) ≡ actors_of (cast_of s plant) = length-map (numbers_below (actors_of (cast_of s plant))) (calls_of keepers) ∙ length-numbers_below (actors_of (cast_of s plant)) in
     let holds : IsScenario made = record {
       group = here.group;
+      seed = here.seed;
       some_levels = here.levels.some;
       at_most_three_levels = here.levels.few;
       heights = all-at IsHeight s.heights here.levels.all;
       some_frames = here.some_frames;
       at_most_two_frames = here.few_frames;
       intruded = all-at (λ m. m < group_size s.f s.k) s.intruded here.intruded;
+      intruded_rise = here.intruded_rise;
       some_screens = here.some_screens;
+      at_most_four_screens = here.few_screens;
       plant = there.limits s.screens here.few_screens;
       devices = all-at IsDevice plant.devices there.devices;
       alarms = all-at (IsAlarm (length plant.points)) plant.alarms there.alarms;
-      interlocks = all-at (IsInterlock (length plant.points)) plant.interlocks there.interlocks;
+      points = all-at IsPoint plant.points there.points;
+      interlocks = all-at (IsInterlock (length plant.points) (length plant.alarms)) plant.interlocks there.interlocks;
+      points_differ = there.points_differ;
+      alarms_differ = there.alarms_differ;
+      interlocks_differ = there.interlocks_differ;
       failing = lists;
+      failing_calls = all-at IsFailing (failing_of (cast_of s plant) keepers) (all-map IsFailing (calls_of keepers) (numbers_below (actors_of (cast_of s plant))) (λ a. calls_of-failing s.intruded keepers a right));
+      intruded_keep_all = λ m is. map-empty (calls_of keepers) (actors_of (cast_of s plant)) m (calls_of-intruded s.intruded keepers m right is);
     } in
     subst IsScenario (unless_unknown-ok made c unknown h4) holds))))
 

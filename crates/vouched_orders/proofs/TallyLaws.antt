@@ -11,13 +11,13 @@ use Rattle.std.proofs.Common.{lit<, ◌-◌, length-append}
 use Rattle.std.proofs.Math.Bool.{and-true}
 use Rattle.std.proofs.lemmas.Map.Lookups.{exact_bytes}
 use Rattle.std.proofs.lemmas.Bool.{cases_eq, cases_lt, ne_eqb, eq-eqb, false≢true}
-use Rattle.quorum_sets.specs.Masters.{with_master}
+use Rattle.quorum_sets.specs.declared.sizes.Sizes.{Sizes}
 use Rattle.message_types.specs.Texts.{notice_number}
 use Rattle.message_types.specs.declared.vouchers.Order.{Order}
 use Rattle.message_types.specs.declared.vouchers.Order.TheVariants as order
 use Rattle.vouched_orders.specs.declared.vote.Vote.{Vote}
 use Rattle.vouched_orders.specs.Vouching.{same_order, is_for, supporters, or_else, settled_by, chosen, greatest_number, done}
-use Rattle.vouched_orders.specs.Tally.{ballot, masters_at, order_with, IsTally}
+use Rattle.vouched_orders.specs.Tally.{ballot, masters_at, order_with, with_signer, IsTally}
 use Rattle.vouched_orders.proofs.VouchingLaws.{same_order-refl, supporters-push, chosen-push, greatest_number-push, chosen-above, done-each, done-end, done-is, length-done, done-none, chosen-none, supporters-none, some_at, slice_get-left, slice_get-right}
 
 tied_then : (a b : Ordering) → is_eq (ordering_then a b) ≡ (is_eq a && is_eq b)
@@ -64,11 +64,11 @@ own_ballot vote =
     ap (λ b. b && same_order vote.voucher.order vote.voucher.order) (eq-eqb vote.voucher.number vote.voucher.number refl) ∙ same_order-refl vote.voucher.order
 
 -- the tally of no votes
-pub tally-none : (f : ℕ) (masters : BTreeMap (List ℕ) (List ℕ)) (settled : BTreeMap ℕ Order) → masters.entries ≡ [] → settled.entries ≡ [] → IsTally f [] masters settled 0
-tally-none f masters settled m s = record {
-  supporters_are = λ x o. ap (λ es. unwrap_or (lookup (is_at (slice_cmp nat_cmp (ballot x o))) es) []) m ∙ sym (supporters-none x o);
-  orders_are = λ x. ap (λ es. lookup (is_at (nat_cmp x)) es) s ∙ sym (chosen-none f x);
-  count_is = sym (ap length (done-none f));
+pub tally-none : (n f : ℕ) (masters : BTreeMap (List ℕ) (List ℕ)) (settled : BTreeMap ℕ Order) → masters.entries ≡ [] → settled.entries ≡ [] → IsTally n f [] masters settled 0
+tally-none n f masters settled m s = record {
+  supporters_are = λ x o. ap (λ es. unwrap_or (lookup (is_at (slice_cmp nat_cmp (ballot x o))) es) []) m ∙ sym (supporters-none n x o);
+  orders_are = λ x. ap (λ es. lookup (is_at (nat_cmp x)) es) s ∙ sym (chosen-none n f x);
+  count_is = sym (ap length (done-none n f));
   numbers_fit = lit< tt;
 }
 
@@ -84,122 +84,122 @@ or_else-kept : (o p : Option Order) → IsSome o → or_else o p ≡ o
 or_else-kept None p some = absurd (false≢true some)
 or_else-kept (Some o) p some = refl
 
-module _ (f : ℕ) (votes : List Vote) (vote : Vote) (masters : BTreeMap (List ℕ) (List ℕ)) (settled : BTreeMap ℕ Order) (count : ℕ) (with_it : List ℕ) (settles : Bool) where
+module _ (n f : ℕ) (few : n ≤ 14) (votes : List Vote) (vote : Vote) (masters : BTreeMap (List ℕ) (List ℕ)) (settled : BTreeMap ℕ Order) (count : ℕ) (with_it : List ℕ) (settles : Bool) where
   -- the supporters of the vote's order, with its signer
-  own_supporters : IsTally f votes masters settled count → with_it ≡ with_master (masters_at masters (ballot vote.voucher.number vote.voucher.order)) vote.signer
-      → supporters (votes ++ vote ∷ []) vote.voucher.number vote.voucher.order ≡ with_it
+  own_supporters : IsTally n f votes masters settled count → with_it ≡ with_signer n (masters_at masters (ballot vote.voucher.number vote.voucher.order)) vote.signer
+      → supporters n (votes ++ vote ∷ []) vote.voucher.number vote.voucher.order ≡ with_it
   own_supporters tally joined =
-      supporters-push votes vote vote.voucher.number vote.voucher.order
-      ∙ ap (λ b. if b then with_master (supporters votes vote.voucher.number vote.voucher.order) vote.signer else supporters votes vote.voucher.number vote.voucher.order) (own_ballot vote)
-      ∙ sym (joined ∙ ap (λ ms. with_master ms vote.signer) (tally.supporters_are vote.voucher.number vote.voucher.order))
+      supporters-push n votes vote vote.voucher.number vote.voucher.order few
+      ∙ ap (λ b. if b then with_signer n (supporters n votes vote.voucher.number vote.voucher.order) vote.signer else supporters n votes vote.voucher.number vote.voucher.order) (own_ballot vote)
+      ∙ sym (joined ∙ ap (λ ms. with_signer n ms vote.signer) (tally.supporters_are vote.voucher.number vote.voucher.order))
 
   -- what the vote settles
-  settled-is : IsTally f votes masters settled count → with_it ≡ with_master (masters_at masters (ballot vote.voucher.number vote.voucher.order)) vote.signer
+  settled-is : IsTally n f votes masters settled count → with_it ≡ with_signer n (masters_at masters (ballot vote.voucher.number vote.voucher.order)) vote.signer
       → settles ≡ nat_lt f (length with_it) → (x : ℕ)
-      → settled_by f (votes ++ vote ∷ []) vote x ≡ (if nat_eq vote.voucher.number x && settles then Some vote.voucher.order else None)
+      → settled_by n f (votes ++ vote ∷ []) vote x ≡ (if nat_eq vote.voucher.number x && settles then Some vote.voucher.order else None)
   settled-is tally joined enough x = by (cases_eq vote.voucher.number x)
     where
       by : (vote.voucher.number ≡ x) ⊎ (vote.voucher.number ≡ x → ⊥)
-          → settled_by f (votes ++ vote ∷ []) vote x ≡ (if nat_eq vote.voucher.number x && settles then Some vote.voucher.order else None)
+          → settled_by n f (votes ++ vote ∷ []) vote x ≡ (if nat_eq vote.voucher.number x && settles then Some vote.voucher.order else None)
       by (inl e) =
           ap (λ b. if nat_eq vote.voucher.number x && b then Some vote.voucher.order else None)
-          (ap (λ (y : ℕ). nat_lt f (length (supporters (votes ++ vote ∷ []) y vote.voucher.order))) (sym e)
+          (ap (λ (y : ℕ). nat_lt f (length (supporters n (votes ++ vote ∷ []) y vote.voucher.order))) (sym e)
           ∙ ap (λ ms. nat_lt f (length ms)) (own_supporters tally joined) ∙ sym enough)
       by (inr ne) =
-          ap (λ b. if b && nat_lt f (length (supporters (votes ++ vote ∷ []) x vote.voucher.order)) then Some vote.voucher.order else None) (ne_eqb vote.voucher.number x ne)
+          ap (λ b. if b && nat_lt f (length (supporters n (votes ++ vote ∷ []) x vote.voucher.order)) then Some vote.voucher.order else None) (ne_eqb vote.voucher.number x ne)
           ∙ sym (ap (λ b. if b && settles then Some vote.voucher.order else None) (ne_eqb vote.voucher.number x ne))
 
-  chosen-is : IsTally f votes masters settled count → with_it ≡ with_master (masters_at masters (ballot vote.voucher.number vote.voucher.order)) vote.signer
+  chosen-is : IsTally n f votes masters settled count → with_it ≡ with_signer n (masters_at masters (ballot vote.voucher.number vote.voucher.order)) vote.signer
       → settles ≡ nat_lt f (length with_it) → (x : ℕ)
-      → chosen f (votes ++ vote ∷ []) x ≡ or_else (get nat_cmp settled x) (if nat_eq vote.voucher.number x && settles then Some vote.voucher.order else None)
+      → chosen n f (votes ++ vote ∷ []) x ≡ or_else (get nat_cmp settled x) (if nat_eq vote.voucher.number x && settles then Some vote.voucher.order else None)
   chosen-is tally joined enough x =
-      chosen-push f votes vote x
-      ∙ ap (λ o. or_else o (settled_by f (votes ++ vote ∷ []) vote x)) (sym (tally.orders_are x))
+      chosen-push n f votes vote x
+      ∙ ap (λ o. or_else o (settled_by n f (votes ++ vote ∷ []) vote x)) (sym (tally.orders_are x))
       ∙ ap (λ o. or_else (get nat_cmp settled x) o) (settled-is tally joined enough x)
 
   -- what was done stays
-  stays : IsTally f votes masters settled count → (i : ℕ) → i < count → (slice_get (done f votes) i ≡ chosen f (votes ++ vote ∷ []) (1 + i)) × IsSome (chosen f (votes ++ vote ∷ []) (1 + i))
+  stays : IsTally n f votes masters settled count → (i : ℕ) → i < count → (slice_get (done n f votes) i ≡ chosen n f (votes ++ vote ∷ []) (1 + i)) × IsSome (chosen n f (votes ++ vote ∷ []) (1 + i))
   stays tally i lt =
-      let within : i < length (done f votes) = let n = tally.count_is in omega arith in
-      let some : IsSome (chosen f votes (1 + i)) = sym (ap is_some (done-each f votes i within)) ∙ some_at (done f votes) i within in
-      let kept : chosen f (votes ++ vote ∷ []) (1 + i) ≡ chosen f votes (1 + i) =
-      chosen-push f votes vote (1 + i) ∙ or_else-kept (chosen f votes (1 + i)) (settled_by f (votes ++ vote ∷ []) vote (1 + i)) some in
-      (done-each f votes i within ∙ sym kept, ap is_some kept ∙ some)
+      let within : i < length (done n f votes) = let counted = tally.count_is in omega arith in
+      let some : IsSome (chosen n f votes (1 + i)) = sym (ap is_some (done-each n f votes i within)) ∙ some_at (done n f votes) i within in
+      let kept : chosen n f (votes ++ vote ∷ []) (1 + i) ≡ chosen n f votes (1 + i) =
+      chosen-push n f votes vote (1 + i) ∙ or_else-kept (chosen n f votes (1 + i)) (settled_by n f (votes ++ vote ∷ []) vote (1 + i)) some in
+      (done-each n f votes i within ∙ sym kept, ap is_some kept ∙ some)
 
-  none_next : IsTally f votes masters settled count → chosen f votes (1 + count) ≡ None
-  none_next tally = ap (λ (n : ℕ). chosen f votes (1 + n)) tally.count_is ∙ done-end f votes
+  none_next : IsTally n f votes masters settled count → chosen n f votes (1 + count) ≡ None
+  none_next tally = ap (λ (m : ℕ). chosen n f votes (1 + m)) tally.count_is ∙ done-end n f votes
 
-  none_there : IsTally f votes masters settled count → get nat_cmp settled (1 + count) ≡ None
+  none_there : IsTally n f votes masters settled count → get nat_cmp settled (1 + count) ≡ None
   none_there tally = tally.orders_are (1 + count) ∙ none_next tally
 
   -- the tally after the vote
   pub tally-push : (masters' : BTreeMap (List ℕ) (List ℕ)) (settled' : BTreeMap ℕ Order) (count' : ℕ)
-      → IsTally f votes masters settled count → with_it ≡ with_master (masters_at masters (ballot vote.voucher.number vote.voucher.order)) vote.signer
+      → IsTally n f votes masters settled count → with_it ≡ with_signer n (masters_at masters (ballot vote.voucher.number vote.voucher.order)) vote.signer
       → settles ≡ nat_lt f (length with_it) → vote.voucher.number < 2 ^ 64
       → ((key : List ℕ) → masters_at masters' key ≡ (if is_eq (slice_cmp nat_cmp (ballot vote.voucher.number vote.voucher.order) key) then with_it else masters_at masters key))
       → ((x : ℕ) → get nat_cmp settled' x ≡ or_else (get nat_cmp settled x) (if nat_eq vote.voucher.number x && settles then Some vote.voucher.order else None))
       → count ≤ count' → ((i : ℕ) → count ≤ i → i < count' → IsSome (get nat_cmp settled' (i + 1)))
       → (count' + 1 < 2 ^ 64 → get nat_cmp settled' (count' + 1) ≡ None)
-      → IsTally f (votes ++ vote ∷ []) masters' settled' count'
+      → IsTally n f (votes ++ vote ∷ []) masters' settled' count'
   tally-push masters' settled' count' tally joined enough fits noted settled_is from run end =
-      let orders_are : (x : ℕ) → get nat_cmp settled' x ≡ chosen f (votes ++ vote ∷ []) x = λ x. settled_is x ∙ sym (chosen-is tally joined enough x) in
+      let orders_are : (x : ℕ) → get nat_cmp settled' x ≡ chosen n f (votes ++ vote ∷ []) x = λ x. settled_is x ∙ sym (chosen-is tally joined enough x) in
       let numbers_fit : greatest_number (votes ++ vote ∷ []) < 2 ^ 64 = greatest_number-push votes vote (2 ^ 64) tally.numbers_fit fits in
       record {
         supporters_are = λ x o. at_key x o (is_for x o vote) refl;
         orders_are = orders_are;
-        count_is = sym (length-done f (votes ++ vote ∷ []) count' (λ i lt. each i lt orders_are (cases_lt i count)) (last orders_are numbers_fit (cases_lt (count' + 1) (2 ^ 64))));
+        count_is = sym (length-done n f (votes ++ vote ∷ []) count' (λ i lt. each i lt orders_are (cases_lt i count)) (last orders_are numbers_fit (cases_lt (count' + 1) (2 ^ 64))));
         numbers_fit = numbers_fit;
       }
     where
-      at_key : (x : ℕ) (o : Order) (b : Bool) → is_for x o vote ≡ b → masters_at masters' (ballot x o) ≡ supporters (votes ++ vote ∷ []) x o
+      at_key : (x : ℕ) (o : Order) (b : Bool) → is_for x o vote ≡ b → masters_at masters' (ballot x o) ≡ supporters n (votes ++ vote ∷ []) x o
       at_key x o true e =
           noted (ballot x o) ∙ ap (λ b. if b then with_it else masters_at masters (ballot x o)) (same_ballot vote.voucher.number x vote.voucher.order o ∙ e)
-          ∙ joined ∙ ap (λ key. with_master (masters_at masters key) vote.signer) (equal_ballots vote.voucher.number x vote.voucher.order o e)
-          ∙ ap (λ ms. with_master ms vote.signer) (tally.supporters_are x o)
-          ∙ sym (supporters-push votes vote x o ∙ ap (λ b. if b then with_master (supporters votes x o) vote.signer else supporters votes x o) e)
+          ∙ joined ∙ ap (λ key. with_signer n (masters_at masters key) vote.signer) (equal_ballots vote.voucher.number x vote.voucher.order o e)
+          ∙ ap (λ ms. with_signer n ms vote.signer) (tally.supporters_are x o)
+          ∙ sym (supporters-push n votes vote x o few ∙ ap (λ b. if b then with_signer n (supporters n votes x o) vote.signer else supporters n votes x o) e)
       at_key x o false e =
           noted (ballot x o) ∙ ap (λ b. if b then with_it else masters_at masters (ballot x o)) (same_ballot vote.voucher.number x vote.voucher.order o ∙ e)
           ∙ tally.supporters_are x o
-          ∙ sym (supporters-push votes vote x o ∙ ap (λ b. if b then with_master (supporters votes x o) vote.signer else supporters votes x o) e)
+          ∙ sym (supporters-push n votes vote x o few ∙ ap (λ b. if b then with_signer n (supporters n votes x o) vote.signer else supporters n votes x o) e)
 
-      each : (i : ℕ) → i < count' → ((x : ℕ) → get nat_cmp settled' x ≡ chosen f (votes ++ vote ∷ []) x) → (i < count) ⊎ (count ≤ i) → IsSome (chosen f (votes ++ vote ∷ []) (1 + i))
+      each : (i : ℕ) → i < count' → ((x : ℕ) → get nat_cmp settled' x ≡ chosen n f (votes ++ vote ∷ []) x) → (i < count) ⊎ (count ≤ i) → IsSome (chosen n f (votes ++ vote ∷ []) (1 + i))
       each i lt are (inl before) = (stays tally i before).1
-      each i lt are (inr le) = ap is_some (sym (are (1 + i))) ∙ ap (λ (n : ℕ). is_some (get nat_cmp settled' n)) (omega arith) ∙ run i le lt
+      each i lt are (inr le) = ap is_some (sym (are (1 + i))) ∙ ap (λ (m : ℕ). is_some (get nat_cmp settled' m)) (omega arith) ∙ run i le lt
 
-      last : ((x : ℕ) → get nat_cmp settled' x ≡ chosen f (votes ++ vote ∷ []) x) → greatest_number (votes ++ vote ∷ []) < 2 ^ 64 → (count' + 1 < 2 ^ 64) ⊎ (2 ^ 64 ≤ count' + 1)
-          → chosen f (votes ++ vote ∷ []) (1 + count') ≡ None
-      last are most (inl lt) = sym (are (1 + count')) ∙ ap (λ (n : ℕ). get nat_cmp settled' n) (omega arith) ∙ end lt
-      last are most (inr le) = chosen-above f (votes ++ vote ∷ []) (1 + count') (omega arith)
+      last : ((x : ℕ) → get nat_cmp settled' x ≡ chosen n f (votes ++ vote ∷ []) x) → greatest_number (votes ++ vote ∷ []) < 2 ^ 64 → (count' + 1 < 2 ^ 64) ⊎ (2 ^ 64 ≤ count' + 1)
+          → chosen n f (votes ++ vote ∷ []) (1 + count') ≡ None
+      last are most (inl lt) = sym (are (1 + count')) ∙ ap (λ (m : ℕ). get nat_cmp settled' m) (omega arith) ∙ end lt
+      last are most (inr le) = chosen-above n f (votes ++ vote ∷ []) (1 + count') (omega arith)
 
   -- a vote that isn't for the next number, or doesn't settle it, makes nothing done
-  pub ready-none : IsTally f votes masters settled count → with_it ≡ with_master (masters_at masters (ballot vote.voucher.number vote.voucher.order)) vote.signer
+  pub ready-none : IsTally n f votes masters settled count → with_it ≡ with_signer n (masters_at masters (ballot vote.voucher.number vote.voucher.order)) vote.signer
       → settles ≡ nat_lt f (length with_it) → (nat_eq vote.voucher.number (1 + count) && settles) ≡ false
-      → done f (votes ++ vote ∷ []) ≡ done f votes
+      → done n f (votes ++ vote ∷ []) ≡ done n f votes
   ready-none tally joined enough not_now =
-      done-is f (votes ++ vote ∷ []) (done f votes)
-      (λ i lt. (stays tally i (let n = tally.count_is in omega arith)).0)
-      (ap (λ (n : ℕ). chosen f (votes ++ vote ∷ []) (1 + n)) (sym tally.count_is)
+      done-is n f (votes ++ vote ∷ []) (done n f votes)
+      (λ i lt. (stays tally i (let counted = tally.count_is in omega arith)).0)
+      (ap (λ (m : ℕ). chosen n f (votes ++ vote ∷ []) (1 + m)) (sym tally.count_is)
       ∙ chosen-is tally joined enough (1 + count)
       ∙ ap (λ o. or_else o (if nat_eq vote.voucher.number (1 + count) && settles then Some vote.voucher.order else None)) (none_there tally)
       ∙ ap (λ b. if b then Some vote.voucher.order else None) not_now)
 
   -- one that settles the next number makes its order done, and those of the numbers behind that have one
   pub ready-run : (run : List Order)
-      → IsTally f votes masters settled count → with_it ≡ with_master (masters_at masters (ballot vote.voucher.number vote.voucher.order)) vote.signer
+      → IsTally n f votes masters settled count → with_it ≡ with_signer n (masters_at masters (ballot vote.voucher.number vote.voucher.order)) vote.signer
       → settles ≡ nat_lt f (length with_it) → vote.voucher.number < 2 ^ 64 → vote.voucher.number ≡ 1 + count → settles ≡ true
       → ((i : ℕ) → i < length run → slice_get run i ≡ order_with settled vote.voucher (vote.voucher.number + i))
       → (vote.voucher.number + length run < 2 ^ 64 → order_with settled vote.voucher (vote.voucher.number + length run) ≡ None)
-      → done f (votes ++ vote ∷ []) ≡ done f votes ++ run
+      → done n f (votes ++ vote ∷ []) ≡ done n f votes ++ run
   ready-run run tally joined enough fits next now each end =
-      let n = tally.count_is in
-      done-is f (votes ++ vote ∷ []) (done f votes ++ run)
-      (λ i lt. at i lt (cases_lt i (length (done f votes))))
+      let counted = tally.count_is in
+      done-is n f (votes ++ vote ∷ []) (done n f votes ++ run)
+      (λ i lt. at i lt (cases_lt i (length (done n f votes))))
       (last (cases_lt (vote.voucher.number + length run) (2 ^ 64)))
     where
-      chosen_with : (x : ℕ) → chosen f (votes ++ vote ∷ []) x ≡ order_with settled vote.voucher x
+      chosen_with : (x : ℕ) → chosen n f (votes ++ vote ∷ []) x ≡ order_with settled vote.voucher x
       chosen_with x = by (cases_eq vote.voucher.number x)
         where
-          by : (vote.voucher.number ≡ x) ⊎ (vote.voucher.number ≡ x → ⊥) → chosen f (votes ++ vote ∷ []) x ≡ order_with settled vote.voucher x
+          by : (vote.voucher.number ≡ x) ⊎ (vote.voucher.number ≡ x → ⊥) → chosen n f (votes ++ vote ∷ []) x ≡ order_with settled vote.voucher x
           by (inl e) =
               chosen-is tally joined enough x
               ∙ ap (λ o. or_else o (if nat_eq vote.voucher.number x && settles then Some vote.voucher.order else None)) (ap (λ (m : ℕ). get nat_cmp settled m) (sym e ∙ next) ∙ none_there tally)
@@ -212,31 +212,38 @@ module _ (f : ℕ) (votes : List Vote) (vote : Vote) (masters : BTreeMap (List �
               ∙ or_else-none (get nat_cmp settled x)
               ∙ sym (ap (λ b. if b then Some vote.voucher.order else get nat_cmp settled x) (ne_eqb vote.voucher.number x ne))
 
-      at : (i : ℕ) → i < length (done f votes ++ run) → (i < length (done f votes)) ⊎ (length (done f votes) ≤ i)
-          → slice_get (done f votes ++ run) i ≡ chosen f (votes ++ vote ∷ []) (1 + i)
-      at i lt (inl before) = slice_get-left (done f votes) run i before ∙ (stays tally i (let n = tally.count_is in omega arith)).0
+      at : (i : ℕ) → i < length (done n f votes ++ run) → (i < length (done n f votes)) ⊎ (length (done n f votes) ≤ i)
+          → slice_get (done n f votes ++ run) i ≡ chosen n f (votes ++ vote ∷ []) (1 + i)
+      at i lt (inl before) = slice_get-left (done n f votes) run i before ∙ (stays tally i (let counted = tally.count_is in omega arith)).0
       at i lt (inr le) =
-          let n = tally.count_is in
-          let within : i - length (done f votes) < length run = omega (arith, length-append (done f votes) run) in
-          slice_get-right (done f votes) run i le ∙ each (i - length (done f votes)) within
-          ∙ sym (chosen_with (vote.voucher.number + (i - length (done f votes))))
-          ∙ ap (λ (x : ℕ). chosen f (votes ++ vote ∷ []) x) (omega arith)
+          let counted = tally.count_is in
+          let within : i - length (done n f votes) < length run = omega (arith, length-append (done n f votes) run) in
+          slice_get-right (done n f votes) run i le ∙ each (i - length (done n f votes)) within
+          ∙ sym (chosen_with (vote.voucher.number + (i - length (done n f votes))))
+          ∙ ap (λ (x : ℕ). chosen n f (votes ++ vote ∷ []) x) (omega arith)
 
-      last : (vote.voucher.number + length run < 2 ^ 64) ⊎ (2 ^ 64 ≤ vote.voucher.number + length run) → chosen f (votes ++ vote ∷ []) (1 + length (done f votes ++ run)) ≡ None
+      last : (vote.voucher.number + length run < 2 ^ 64) ⊎ (2 ^ 64 ≤ vote.voucher.number + length run) → chosen n f (votes ++ vote ∷ []) (1 + length (done n f votes ++ run)) ≡ None
       last (inl lt) =
-          ap (λ (x : ℕ). chosen f (votes ++ vote ∷ []) x) (let n = tally.count_is in omega (arith, length-append (done f votes) run))
+          ap (λ (x : ℕ). chosen n f (votes ++ vote ∷ []) x) (let counted = tally.count_is in omega (arith, length-append (done n f votes) run))
           ∙ chosen_with (vote.voucher.number + length run) ∙ end lt
       last (inr le) =
           let most : greatest_number (votes ++ vote ∷ []) < 2 ^ 64 = greatest_number-push votes vote (2 ^ 64) tally.numbers_fit fits in
-          chosen-above f (votes ++ vote ∷ []) (1 + length (done f votes ++ run)) (let n = tally.count_is in omega (arith, length-append (done f votes) run))
+          chosen-above n f (votes ++ vote ∷ []) (1 + length (done n f votes ++ run)) (let counted = tally.count_is in omega (arith, length-append (done n f votes) run))
 
 -- the tally stays where the maps say the same
-pub tally-same : (f : ℕ) (votes : List Vote) (masters masters' : BTreeMap (List ℕ) (List ℕ)) (settled settled' : BTreeMap ℕ Order) (count : ℕ)
-    → IsTally f votes masters settled count → ((key : List ℕ) → masters_at masters' key ≡ masters_at masters key) → ((x : ℕ) → get nat_cmp settled' x ≡ get nat_cmp settled x)
-    → IsTally f votes masters' settled' count
-tally-same f votes masters masters' settled settled' count tally m s = record {
+pub tally-same : (n f : ℕ) (votes : List Vote) (masters masters' : BTreeMap (List ℕ) (List ℕ)) (settled settled' : BTreeMap ℕ Order) (count : ℕ)
+    → IsTally n f votes masters settled count → ((key : List ℕ) → masters_at masters' key ≡ masters_at masters key) → ((x : ℕ) → get nat_cmp settled' x ≡ get nat_cmp settled x)
+    → IsTally n f votes masters' settled' count
+tally-same n f votes masters masters' settled settled' count tally m s = record {
   supporters_are = λ x o. m (ballot x o) ∙ tally.supporters_are x o;
   orders_are = λ x. s x ∙ tally.orders_are x;
   count_is = tally.count_is;
   numbers_fit = tally.numbers_fit;
 }
+
+-- no group has more than 14 masters
+pub sizes-few : (sizes : Sizes) → sizes.n ≤ 14
+sizes-few sizes =
+    let size = sizes.all in
+    let intruded = sizes.group.at_most_three_intruded in
+    let away = sizes.group.at_most_two_away in omega arith

@@ -24,9 +24,10 @@ same_order (order.Notice m) (order.Notice n) = nat_eq (notice_number m.what) (no
 abbrev pub is_for : ℕ → Order → Vote → Bool
 is_for x o vote = nat_eq vote.voucher.number x && same_order vote.voucher.order o
 
--- the masters whose votes are for this order as this number; no group has more than 14
-unfoldable pub supporters : List Vote → ℕ → Order → List ℕ
-supporters votes x o = voters (λ m. list_any (λ vote. nat_eq vote.signer m && is_for x o vote) votes) 14
+-- the masters whose votes are for this order as this number, of n that there are: a vote of a number that is no master's
+-- counts for nothing
+unfoldable pub supporters : ℕ → List Vote → ℕ → Order → List ℕ
+supporters n votes x o = voters (λ m. list_any (λ vote. nat_eq vote.signer m && is_for x o vote) votes) n
 
 -- the first order, where there is one, else the second
 abbrev pub or_else : Option Order → Option Order → Option Order
@@ -34,17 +35,17 @@ or_else None other = other
 or_else (Some o) other = Some o
 
 -- with these votes, of which this is the last, its order has more than f supporters as number x
-abbrev pub settled_by : ℕ → List Vote → Vote → ℕ → Option Order
-settled_by f votes vote x =
-    if nat_eq vote.voucher.number x && nat_lt f (length (supporters votes x vote.voucher.order)) then Some vote.voucher.order else None
+abbrev pub settled_by : (n f : ℕ) → List Vote → Vote → ℕ → Option Order
+settled_by n f votes vote x =
+    if nat_eq vote.voucher.number x && nat_lt f (length (supporters n votes x vote.voucher.order)) then Some vote.voucher.order else None
 
 -- the order for number x: that of the first vote, in the order in which they came, that settles one (`seen` came before)
-unfoldable pub chosen_after : ℕ → List Vote → List Vote → ℕ → Option Order
-chosen_after f seen [] x = None
-chosen_after f seen (vote ∷ rest) x = or_else (settled_by f (seen ++ vote ∷ []) vote x) (chosen_after f (seen ++ vote ∷ []) rest x)
+unfoldable pub chosen_after : (n f : ℕ) → List Vote → List Vote → ℕ → Option Order
+chosen_after n f seen [] x = None
+chosen_after n f seen (vote ∷ rest) x = or_else (settled_by n f (seen ++ vote ∷ []) vote x) (chosen_after n f (seen ++ vote ∷ []) rest x)
 
-abbrev pub chosen : ℕ → List Vote → ℕ → Option Order
-chosen f votes x = chosen_after f [] votes x
+abbrev pub chosen : (n f : ℕ) → List Vote → ℕ → Option Order
+chosen n f votes x = chosen_after n f [] votes x
 
 -- the greatest number that a vote is for, 0 where there is none
 abbrev pub greatest_number : List Vote → ℕ
@@ -57,8 +58,8 @@ run_from order_for start zero = []
 run_from order_for start (suc most) = elim (order_for start) [ None ↦ [] | Some o ↦ o ∷ run_from order_for (suc start) most ]
 
 -- the orders done, those of the numbers 1, 2, .. in turn; no number above the greatest voted for has one
-unfoldable pub done : ℕ → List Vote → List Order
-done f votes = run_from (chosen f votes) 1 (greatest_number votes)
+unfoldable pub done : (n f : ℕ) → List Vote → List Order
+done n f votes = run_from (chosen n f votes) 1 (greatest_number votes)
 
 -- A vote counts where it is for this client and its order is one that the client can act on.
 abbrev pub counts : (Order → Bool) → ℕ → Vote → Bool
@@ -71,11 +72,12 @@ counted can_act client votes = filter (counts can_act client) votes
 unfoldable pub votes_in : List (Signed Body) → List Vote
 votes_in frames = flat_map (λ frame. elim frame.body [ body.Voucher v ↦ record { signer = frame.signer; voucher = v } ∷ [] | _ ↦ [] ]) frames
 
--- what a client has done at the end of a list of votes, whoever they are for
-abbrev pub orders_done : (Order → Bool) → ℕ → ℕ → List Vote → List Order
-orders_done can_act client f votes = done f (counted can_act client votes)
+-- what a client of n masters has done at the end of a list of votes, whoever they are for
+abbrev pub orders_done : (Order → Bool) → (client n f : ℕ) → List Vote → List Order
+orders_done can_act client n f votes = done n f (counted can_act client votes)
 
--- votes that count, and how many masters' make an order
+-- votes that count, how many masters there are, and how many of them may be intruded
 pub record Votes : Type 0 where
+  pub n : ℕ
   pub f : ℕ
   pub votes : List Vote

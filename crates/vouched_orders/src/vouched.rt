@@ -2,10 +2,9 @@ ghost use Rattle.std.specs.Prelude.{◌≡◌, ◌++◌, ◌∷◌, ◌<◌, ◌
 ghost use Rattle.std.specs.BTreeMap.{get};
 ghost use Rattle.std.specs.Ordering.{nat_cmp, is_eq};
 ghost use Rattle.std.specs.Cmp.Lexicographic.{slice_cmp};
-ghost use Rattle.quorum_sets.specs.Masters.{with_master};
 ghost use Rattle.message_types.specs.declared.vouchers.Order.{Order};
 ghost use Rattle.vouched_orders.specs.Vouching.{or_else};
-ghost use Rattle.vouched_orders.specs.Tally.{ballot, masters_at, order_with};
+ghost use Rattle.vouched_orders.specs.Tally.{ballot, masters_at, order_with, with_signer};
 
 use crate::ballots::ballot_of;
 use crate::vote::Vote;
@@ -21,7 +20,7 @@ use std::marker::Model;
 #[derive(Drop)]
 pub struct Vouched {
     alloc: Global,
-    f: u32,
+    sizes: Sizes,
     votes: Vec<Vote, Global>,
     masters: BTreeMap<[u64; 5], VoterSet, Global>,
     settled: BTreeMap<u64, Order, Global>,
@@ -34,9 +33,9 @@ impl Model for Vouched {
 
     ghost Value = { Votes };
 
-    ghost view = { λ v. record { f = v.f; votes = v.votes.items } };
+    ghost view = { λ v. record { n = v.sizes.n; f = v.sizes.f; votes = v.votes.items } };
 
-    ghost invariant = { λ v. IsTally v.f v.votes.items v.masters v.settled v.count };
+    ghost invariant = { λ v. IsTally v.sizes.n v.sizes.f v.votes.items v.masters v.settled v.count };
 }
 
 impl Vouched {
@@ -44,11 +43,11 @@ impl Vouched {
 
     /// No votes yet. It takes no memory.
     pub fn new(alloc: Global, sizes: &Sizes) -> Vouched
-        ensures { result ≡ record { f = sizes.now.f; votes = [] } }
+        ensures { result ≡ record { n = sizes.now.n; f = sizes.now.f; votes = [] } }
     {
         Vouched {
             alloc,
-            f: sizes.f,
+            sizes: *sizes,
             votes: Vec::new(alloc),
             masters: BTreeMap::new(alloc),
             settled: BTreeMap::new(alloc),
@@ -58,11 +57,10 @@ impl Vouched {
 
     /// The orders that this vote would make done, in the order of their numbers.
     pub fn ready(&self, vote: &Vote) -> Result<Vec<Order, Global>, Want>
-        requires { vote.now.signer < 14 }
-        ensures { IfOk result (λ orders. done self.now.f (self.now.votes ++ vote.now ∷ []) ≡ done self.now.f self.now.votes ++ orders.items) }
+        ensures { IfOk result (λ orders. done self.now.n self.now.f (self.now.votes ++ vote.now ∷ []) ≡ done self.now.n self.now.f self.now.votes ++ orders.items) }
     {
-        let masters = masters_with(&self.masters, vote)?;
-        let settles = masters.len() > self.f;
+        let masters = masters_with(&self.masters, &self.sizes, vote)?;
+        let settles = masters.len() > self.sizes.f;
         let is_done = follows(self.count, vote.voucher.number) & settles;
         if !is_done {
             return Ok(Vec::new(self.alloc));
@@ -71,14 +69,13 @@ impl Vouched {
         Ok(orders)
     }
 
-    /// Takes a vote. After want of memory it isn't taken.
+    /// Takes a vote, whoever signed it. After want of memory it isn't taken.
     pub fn take(&mut self, vote: Vote) -> Result<(), Want>
-        requires { vote.signer < 14 }
         ensures ok { OnOk result (self.new ≡ record self.old { votes = self.old.votes ++ vote ∷ [] }) }
         ensures err { OnErr result (self.new ≡ self.old) }
     {
-        let masters = masters_with(&self.masters, &vote)?;
-        let settles = masters.len() > self.f;
+        let masters = masters_with(&self.masters, &self.sizes, &vote)?;
+        let settles = masters.len() > self.sizes.f;
         self.votes.push(vote)?;
         if let Err(want) = note(
             &mut self.masters,
@@ -102,17 +99,28 @@ fn follows(count: u64, number: u64) -> bool
     count < number && number - count == 1
 }
 
-/// The supporters of a vote's order, its own signer among them.
-fn masters_with(tally: &BTreeMap<[u64; 5], VoterSet, Global>, vote: &Vote) -> Result<VoterSet, Want>
-    requires { vote.now.signer < 14 }
-    ensures { IfOk result (λ masters. masters ≡ with_master (masters_at tally.now (ballot vote.now.voucher.number vote.now.voucher.order)) vote.now.signer) }
+/// The supporters of a vote's order, its own signer among them where it is a master.
+fn masters_with(
+    tally: &BTreeMap<[u64; 5], VoterSet, Global>,
+    sizes: &Sizes,
+    vote: &Vote,
+) -> Result<VoterSet, Want>
+    ensures { IfOk result (λ masters. masters ≡ with_signer sizes.now.n (masters_at tally.now (ballot vote.now.voucher.number vote.now.voucher.order)) vote.now.signer) }
 {
     let mut masters = match tally.get(&ballot_of(&vote.voucher)) {
         Some(masters) => masters.copy()?,
         None => VoterSet::empty(),
     };
-    let _added = masters.add(vote.signer);
+    add_signer(&mut masters, sizes, vote.signer);
     Ok(masters)
+}
+
+fn add_signer(masters: &mut VoterSet, sizes: &Sizes, signer: u32)
+    ensures { masters.new ≡ with_signer sizes.now.n masters.old signer }
+{
+    if signer < sizes.n {
+        let _was_new = masters.add(signer);
+    }
 }
 
 /// Writes a vote's supporters down and, where they settle its number, its order. After want of memory both maps

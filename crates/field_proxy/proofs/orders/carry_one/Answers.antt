@@ -1,6 +1,7 @@
 use Rattle.std.proofs.Common.{ap, sym, ◌∙◌, inl, inr, ◌++◌, ◌∷◌, []}
 use Rattle.field_proxy.proofs.PlaceLaws.{undone_write}
 use Rattle.field_proxy.proofs.OrderLaws.{after_order_is, kept_is, kept_nothing}
+use Rattle.field_proxy.proofs.LineLaws.{one_asked, none_asked}
 use Rattle.field_proxy.proofs.orders.carry_one.Goals as goal
 
 pub returns-in_default-point_at-clause-writes : goal.returns-in_default-point_at-clause-writes
@@ -23,6 +24,15 @@ returns-clause-undone c =
 pub returns-clause-device : goal.returns-clause-device
 returns-clause-device c =
     c.in_ok-exception.ensures.after ∙ sym (after_order_is c.args.points.now c.args.device.now c.args.order.now c.in-Write.point c.in-Write.raw c.in-Some.target.now c.in-Write.is (sym c.in-Some.ensures))
+
+pub returns-in_default-point_at-clause-line : goal.returns-in_default-point_at-clause-line
+returns-in_default-point_at-clause-line c =
+    none_asked c.args.points.now c.args.line.now c.args.device.now c.args.order.now c.in-Write.point c.in-Write.raw c.in-Write.is (sym c.in_default-point_at.ensures)
+
+pub returns-clause-line : goal.returns-clause-line
+returns-clause-line c =
+    c.in_ok-exception.ensures.line
+    ∙ sym (one_asked c.args.points.now c.args.line.now c.args.device.now c.args.order.now c.in-Write.point c.in-Write.raw c.in-Some.target.now c.in-Write.is (sym c.in-Some.ensures))
 
 pub returns-clause-writes : goal.returns-clause-writes
 returns-clause-writes c =

@@ -1,6 +1,7 @@
 use Rattle.std.proofs.Common.{arith, ap, sym, refl, ◌∙◌, ◌++◌, ◌+◌, length}
 use Rattle.std.proofs.lemmas.List.{append-nil}
 use Rattle.field_proxy.proofs.OrderLaws.{after_orders-none, kept_orders-none, after_orders_more, kept_orders_more}
+use Rattle.field_proxy.proofs.LineLaws.{line_orders_more}
 use Rattle.field_proxy.proofs.orders.carry_out.Goals as goal
 
 pub loop-place-init : goal.loop-place-init
@@ -9,6 +10,7 @@ loop-place-init c = record {
   writes_are =
       sym (ap (λ k. c.args.writes.now.items ++ k) (kept_orders-none c.args.points.now c.args.device.now (length c.args.writes.now.items + 1))
       ∙ append-nil c.args.writes.now.items);
+  line_is = refl;
   undoes = refl;
 }
 
@@ -19,5 +21,7 @@ loop-place-preserved c = record {
   writes_are = kept_orders_more c.args.points.now c.args.device.now c.loop-place.device (length c.args.writes.now.items + 1) _ c.args.writes.now.items
       c.loop-place.writes.items _ c.args.orders.now c.loop-place.place _ c.loop-place-test.true (omega (arith, c.len.ensures)) c.loop-place.invariant.device_is c.loop-place.invariant.writes_are
       c.in_ok-carry_one.ensures.writes;
+  line_is = line_orders_more c.args.line.now c.loop-place.line _ c.args.device.now c.loop-place.device c.args.points.now c.args.orders.now c.loop-place.place _ c.loop-place-test.true
+      c.loop-place.invariant.device_is c.loop-place.invariant.line_is c.in_ok-carry_one.ensures.line;
   undoes = c.carry_one.ensures.undone ∙ c.loop-place.invariant.undoes;
 }

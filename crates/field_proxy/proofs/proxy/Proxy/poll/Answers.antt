@@ -1,7 +1,9 @@
 use Rattle.std.proofs.Common.{arith, ap, sym, ◌∙◌, ◌≡◌, ◌+◌, length, take}
 use Rattle.std.proofs.lemmas.List.{take_at, length-take}
 use Rattle.field_proxy.specs.contracts.proxy.Proxy.{the_view}
-use Rattle.field_proxy.specs.Readings.{readings, last_in, told, numbered}
+use Rattle.field_proxy.specs.Exchanges.{line_after}
+use Rattle.field_proxy.specs.Readings.{poll_requests, readings, last_in, told, numbered}
+use Rattle.field_proxy.proofs.LineLaws.{asked_is}
 use Rattle.field_proxy.specs.Front.{Front, polled}
 use Rattle.field_proxy.proofs.ReadingLaws.{length-numbered}
 use Rattle.field_proxy.proofs.FrontLaws.{polled_is, poll_after}
@@ -23,7 +25,11 @@ returns-clause-after c =
     let ops = polled_is (the_view c.self.inside) c.args.room _ _ read (c.deref-3.ensures.value ∙ c.truncate.ensures.items) in
     let lasts = take_at c.tell.new.lasts _ c.self.inside.lasts.len (omega (arith, c.tell.auto.lasts, c.deref_mut.ensures.len))
     ∙ c.tell.ensures ∙ ap (λ l. told l c.deref-3.result.now) c.deref_mut.ensures.value in
-    rw (← c.self.view_is) (poll_after (the_view c.self.inside) c.args.room _ _ _ _ ops c.due_readings.ensures.same lasts (omega (arith, c.len.ensures, c.deref-3.ensures.len)))
+    let passed = c.in_ok-ops.ensures.line
+    ∙ ap (λ points. line_after c.new-line.result c.self.inside.device (poll_requests c.self.inside.client points)) c.as_slice.ensures in
+    let line = asked_is c.self.inside.line c.new-line.result c.due_readings.new.line c.keep.new.self c.self.inside.device (poll_requests c.self.inside.client c.self.inside.points)
+    c.new-line.ensures passed c.keep.ensures.some c.keep.ensures.none in
+    rw (← c.self.view_is) (poll_after (the_view c.self.inside) c.args.room _ _ _ _ _ ops c.due_readings.ensures.same line lasts (omega (arith, c.len.ensures, c.deref-3.ensures.len)))
 
 pub returns-clause-room : goal.returns-clause-room
 returns-clause-room c =
