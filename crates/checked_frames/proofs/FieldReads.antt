@@ -5,7 +5,7 @@ use Rattle.byteorder.specs.Endian.{big_number}
 use Rattle.byteorder.specs.Numbers.{big_number-reads_back}
 use Rattle.wire_parts.specs.Fields.{u16_bytes, u32_bytes}
 use Rattle.wire_parts.specs.FieldLaws.{length-u16_bytes, length-u32_bytes}
-use Rattle.checked_frames.specs.Signing.{group_field, hashes_in}
+use Rattle.checked_frames.specs.Signing.{group_head, group_field, hashes_in}
 
 pub u16_front : (x : ℕ) (rest : List ℕ) → x < 2 ^ 16 → big_number 2 (u16_bytes x ++ rest) ≡ x
 unfolding u16_bytes
@@ -66,7 +66,7 @@ pub record AreRead (place count hashes : ℕ) (path signed sig : List ℕ) : Typ
 
 pub group_field-read : (place count hashes : ℕ) (path signed : List ℕ) → place < 2 ^ 16 → count < 2 ^ 16 → hashes < 2 ^ 16 → length path ≡ 32 * hashes
     → AreRead place count hashes path signed (group_field place count path signed)
-unfolding group_field
+unfolding group_head group_field
 group_field-read place count hashes path signed place_fits count_fits hashes_fits size =
     let sig = u32_bytes 256 ++ u16_bytes place ++ u16_bytes count ++ u16_bytes (length path / 32) ++ path ++ signed in
     let number : length path / 32 ≡ hashes = omega arith in

@@ -7,3 +7,4 @@ pub mod FieldReads
 pub mod SigningLaws
 pub mod InsideLaws
 pub mod StandingLaws
+pub mod EntryLaws

@@ -13,12 +13,12 @@ use Rattle.quorum_sets.specs.Masters.{numbers_below}
 use Rattle.quorum_sets.proofs.MastersLemmas.{numbers_below-suc}
 use Rattle.message_forms.specs.Batch.{batch_message}
 use Rattle.hash_signatures.specs.Verification.{Verifies}
-use Rattle.hash_signatures.specs.Signatures.{Key, signature_at, longest_signature}
+use Rattle.hash_signatures.specs.Signatures.{Key, signature_at, signed_behind, longest_signature}
 use Rattle.checked_frames.specs.Verifying.{verifies}
 use Rattle.checked_frames.specs.Groups.{leaf_hash, root_of, path_of, led_to, most_levels}
-use Rattle.checked_frames.specs.Signing.{group_field, hashes_in, group_verifies, signs_in_group, signs, signed_message, field_at, group_signatures, EachSigns, field_fits}
+use Rattle.checked_frames.specs.Signing.{group_head, group_field, hashes_in, group_verifies, signs_in_group, signs, signed_message, field_at, group_signatures, EachSigns, field_fits}
 use Rattle.checked_frames.specs.Levels.{levels_up}
-use Rattle.checked_frames.specs.Kept.{field_through}
+use Rattle.checked_frames.specs.Kept.{head_through}
 use Rattle.checked_frames.proofs.PathLaws.{AreHashes, AreHashes-leaves, leads_to_root, path_size, path_through_levels}
 use Rattle.checked_frames.proofs.FieldReads.{AreRead, group_field-read}
 use Rattle.checked_frames.proofs.VerifyingLaws.{verifies-Decides}
@@ -97,7 +97,7 @@ field_at-signs public (text ∷ next ∷ rest) signed place few inside verified 
     let (hashes, levels, size) = path_of-size leaves place all in
     field_signs public (get_or texts place []) (path_of leaves place) signed (root_of leaves) place (length texts) hashes (omega arith) few inside levels size at_text verified
 
-length-numbers : (n : ℕ) → length (numbers_below n) ≡ n
+pub length-numbers : (n : ℕ) → length (numbers_below n) ≡ n
 unfolding numbers_below
 length-numbers zero = refl
 length-numbers (suc n) = let before = length-numbers n in omega (arith, length-append (numbers_below n) (n ∷ []))
@@ -132,15 +132,15 @@ map_numbers_more f n =
     ap (λ (k : ℕ). map f (numbers_below k)) one ∙ ap (map f) (numbers_below-suc n) ∙ map-append f (numbers_below n) (n ∷ [])
 
 -- several texts are signed as a group, through the levels that are kept
-pub several_fields : (texts : List (List ℕ)) (signed : List ℕ) (place : ℕ) → 2 ≤ length texts
-    → field_through (levels_up 5 (map leaf_hash texts)) (length texts) signed place ≡ field_at texts signed place
-unfolding path_of most_levels
+several_fields : (texts : List (List ℕ)) (signed : List ℕ) (place : ℕ) → 2 ≤ length texts
+    → head_through (levels_up 5 (map leaf_hash texts)) (length texts) place ++ signed ≡ field_at texts signed place
+unfolding path_of most_levels group_field
 several_fields [] signed place some = absurd (omega arith)
 several_fields (text ∷ []) signed place some = absurd (omega arith)
 several_fields (text ∷ next ∷ rest) signed place some =
-    ap (λ path. group_field place (length (text ∷ next ∷ rest)) path signed) (path_through_levels 5 (map leaf_hash (text ∷ next ∷ rest)) place)
+    ap (λ path. group_head place (length (text ∷ next ∷ rest)) path ++ signed) (path_through_levels 5 (map leaf_hash (text ∷ next ∷ rest)) place)
 
-pub several_message : (texts : List (List ℕ)) → 2 ≤ length texts → batch_message (length texts) (root_of (map leaf_hash texts)) ≡ signed_message texts
+several_message : (texts : List (List ℕ)) → 2 ≤ length texts → batch_message (length texts) (root_of (map leaf_hash texts)) ≡ signed_message texts
 several_message [] some = absurd (omega arith)
 several_message (text ∷ []) some = absurd (omega arith)
 several_message (text ∷ next ∷ rest) some = refl
@@ -154,29 +154,29 @@ map_map f g [] = refl
 map_map f g (x ∷ xs) = ap (λ rest. f (g x) ∷ rest) (map_map f g xs)
 
 -- what is kept and signed for several bodies is what the definitions say of their texts
-pub several_signed : {A : Type 0} (text : A → List ℕ) (bodies : List A) (leaves : List (List ℕ)) (levels : List (List (List ℕ))) (root signed : List ℕ) (count : ℕ)
-    (key : Key) (m : ℕ) → 2 ≤ length bodies → count ≡ length bodies → leaves ≡ map (λ b. leaf_hash (text b)) bodies → levels ≡ levels_up 5 leaves
-    → root ≡ root_of leaves → signed ≡ signature_at key m (batch_message count root)
-    → (map (field_through levels count signed) (numbers_below count) ≡ group_signatures key m (map text bodies))
-    × (batch_message count root ≡ signed_message (map text bodies))
+pub several_signed : {A : Type 0} (text : A → List ℕ) (bodies : List A) (leaves : List (List ℕ)) (levels : List (List (List ℕ))) (root message : List ℕ)
+    (heads : List (List ℕ)) (count : ℕ) (key : Key) (m : ℕ) → 2 ≤ length bodies → count ≡ length bodies
+    → leaves ≡ map (λ b. leaf_hash (text b)) bodies → levels ≡ levels_up 5 leaves → root ≡ root_of leaves
+    → heads ≡ map (head_through levels count) (numbers_below count) → message ≡ batch_message count root
+    → (signed_behind key m message heads ≡ group_signatures key m (map text bodies)) × (message ≡ signed_message (map text bodies))
 unfolding group_signatures
-several_signed text bodies leaves levels root signed count key m some e_count e_leaves e_levels e_root e_signed =
+several_signed text bodies leaves levels root message heads count key m some e_count e_leaves e_levels e_root e_heads e_message =
     let texts = map text bodies in
     let len = length-map bodies text in
     let over : leaves ≡ map leaf_hash texts = e_leaves ∙ sym (map_map leaf_hash text bodies) in
     let number : count ≡ length texts = omega arith in
     let top : root ≡ root_of (map leaf_hash texts) = e_root ∙ ap root_of over in
-    let message : batch_message count root ≡ signed_message texts =
-    ap (λ (n : ℕ). batch_message n root) number ∙ ap (batch_message (length texts)) top ∙ several_message texts (omega arith) in
-    let is_signed : signed ≡ signature_at key m (signed_message texts) = e_signed ∙ ap (signature_at key m) message in
-    let fields = same_fields (field_through (levels_up 5 (map leaf_hash texts)) (length texts) (signature_at key m (signed_message texts)))
-    (field_at texts (signature_at key m (signed_message texts))) (numbers_below (length texts))
-    (λ k. several_fields texts (signature_at key m (signed_message texts)) k (omega arith)) in (
-      ap (λ ls. map (field_through ls count signed) (numbers_below count)) (e_levels ∙ ap (levels_up 5) over)
-          ∙ ap (λ (n : ℕ). map (field_through (levels_up 5 (map leaf_hash texts)) n signed) (numbers_below n)) number
-          ∙ ap (λ s. map (field_through (levels_up 5 (map leaf_hash texts)) (length texts) s) (numbers_below (length texts))) is_signed
-          ∙ fields,
-      message,
+    let whole : message ≡ signed_message texts =
+    e_message ∙ ap (λ (n : ℕ). batch_message n root) number ∙ ap (batch_message (length texts)) top ∙ several_message texts (omega arith) in
+    let signed = signature_at key m (signed_message texts) in
+    let head : ℕ → List ℕ = head_through (levels_up 5 (map leaf_hash texts)) (length texts) in
+    let at_levels : heads ≡ map head (numbers_below (length texts)) =
+    e_heads ∙ ap (λ ls. map (head_through ls count) (numbers_below count)) (e_levels ∙ ap (levels_up 5) over)
+    ∙ ap (λ (n : ℕ). map (head_through (levels_up 5 (map leaf_hash texts)) n) (numbers_below n)) number in
+    let fields = same_fields (λ k. head k ++ signed) (field_at texts signed) (numbers_below (length texts)) (λ k. several_fields texts signed k (omega arith)) in (
+      ap (λ x. signed_behind key m x heads) whole ∙ ap (λ hs. signed_behind key m (signed_message texts) hs) at_levels
+          ∙ map_map (λ h. h ++ signed) head (numbers_below (length texts)) ∙ fields,
+      whole,
     )
 
 -- a tree over leaves has a root
@@ -184,15 +184,16 @@ pub first_is_there : {X : Type 0} (xs : List X) → 1 ≤ length xs → None ≡
 first_is_there [] some e = omega arith
 first_is_there (x ∷ xs) some e = cc
 
--- one body is signed alone
-pub one_signed : {A : Type 0} (text : A → List ℕ) (bodies : List A) (body : A) (signed : List ℕ) (key : Key) (m : ℕ) → length bodies ≡ 1 → body ≡ get_or bodies 0 body
-    → signed ≡ signature_at key m (text body)
-    → (signed ∷ [] ≡ group_signatures key m (map text bodies)) × (text body ≡ signed_message (map text bodies))
+-- one body is signed alone, with nothing before the signature
+pub one_signed : {A : Type 0} (text : A → List ℕ) (bodies : List A) (body : A) (message : List ℕ) (heads : List (List ℕ)) (key : Key) (m : ℕ)
+    → length bodies ≡ 1 → body ≡ get_or bodies 0 body → heads ≡ [] ∷ [] → message ≡ text body
+    → (signed_behind key m message heads ≡ group_signatures key m (map text bodies)) × (message ≡ signed_message (map text bodies))
 unfolding group_signatures numbers_below
-one_signed text [] body signed key m one is e = absurd (omega arith)
-one_signed text (b ∷ []) body signed key m one is e =
-    (ap (λ s. s ∷ []) (e ∙ ap (λ x. signature_at key m (text x)) is), ap text is)
-one_signed text (b ∷ next ∷ rest) body signed key m one is e = absurd (omega arith)
+one_signed text [] body message heads key m one is e_heads e = absurd (omega arith)
+one_signed text (b ∷ []) body message heads key m one is e_heads e =
+    let whole : message ≡ text b = e ∙ ap text is in
+    (ap (λ hs. signed_behind key m message hs) e_heads ∙ ap (λ x. signature_at key m x ∷ []) whole, whole)
+one_signed text (b ∷ next ∷ rest) body message heads key m one is e_heads e = absurd (omega arith)
 
 -- the fields that a key gives sign their texts
 pub group_signs : (public : List ℕ) (texts : List (List ℕ)) (key : Key) (m : ℕ) (fields : List (List ℕ)) → length texts ≤ 32
@@ -201,22 +202,19 @@ unfolding group_signatures
 group_signs public texts key m fields few verified e =
     subst (EachSigns public texts) (sym e) (each_signs public texts (signature_at key m (signed_message texts)) few verified)
 
--- what a key signed, as the signature of the message
-pub verified_as : (public message whole signed : List ℕ) (key : Key) (m : ℕ) → Verifies public message signed → signed ≡ signature_at key m message
-    → message ≡ whole → Verifies public whole (signature_at key m whole)
-verified_as public message whole signed key m verified is e =
-    let at_signed : Verifies public message (signature_at key m message) = subst (λ s. Verifies public message s) is verified in
-    subst (λ x. Verifies public x (signature_at key m x)) e at_signed
+-- what a key signed, as the signature of the group's message
+pub verified_as : (public message whole : List ℕ) (key : Key) (m : ℕ) → Verifies public message (signature_at key m message) → message ≡ whole
+    → Verifies public whole (signature_at key m whole)
+verified_as public message whole key m verified e = subst (λ x. Verifies public x (signature_at key m x)) e verified
 
-pub short_as : (message whole signed : List ℕ) (key : Key) (m : ℕ) → length signed ≤ longest_signature → signed ≡ signature_at key m message
-    → message ≡ whole → length (signature_at key m whole) ≤ longest_signature
-short_as message whole signed key m short is e =
-    subst (λ (x : List ℕ). length x ≤ longest_signature) (is ∙ ap (signature_at key m) e) short
+pub short_as : (message whole : List ℕ) (key : Key) (m : ℕ) → length (signature_at key m message) ≤ longest_signature → message ≡ whole
+    → length (signature_at key m whole) ≤ longest_signature
+short_as message whole key m short e = subst (λ (x : List ℕ). length (signature_at key m x) ≤ longest_signature) e short
 
 -- a field is a little longer than the signature in it
 group_field-len : (place count hashes : ℕ) (path signed : List ℕ) → hashes ≤ 5 → length path ≡ 32 * hashes
     → length (group_field place count path signed) ≤ length signed + 170
-unfolding group_field
+unfolding group_head group_field
 group_field-len place count hashes path signed few size =
     let head = u32_bytes 256 ++ u16_bytes place ++ u16_bytes count ++ u16_bytes (length path / 32) in
     omega (

@@ -1,7 +1,7 @@
--- The signature field of a place, from a tree as it is kept.
+-- What stands before the signature in the field of a place, from a tree as it is kept.
 use Rattle.std.specs.Prelude.{ℕ, List}
 use Rattle.checked_frames.specs.Levels.{path_through}
-use Rattle.checked_frames.specs.Signing.{group_field}
+use Rattle.checked_frames.specs.Signing.{group_head}
 
-abbrev pub field_through : List (List (List ℕ)) → ℕ → List ℕ → ℕ → List ℕ
-field_through levels count signed place = group_field place count (path_through levels place) signed
+abbrev pub head_through : List (List (List ℕ)) → ℕ → ℕ → List ℕ
+head_through levels count place = group_head place count (path_through levels place)

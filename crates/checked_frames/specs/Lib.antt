@@ -2,5 +2,6 @@ pub mod Verifying
 pub mod Groups
 pub mod Levels
 pub mod Signing
+pub mod Entries
 pub mod Kept
 pub mod Standing

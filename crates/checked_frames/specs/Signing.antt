@@ -11,11 +11,15 @@ use Rattle.hash_signatures.specs.Signatures.{Key, signature_at}
 use Rattle.checked_frames.specs.Verifying.{verifies}
 use Rattle.checked_frames.specs.Groups.{leaf_hash, root_of, path_of, led_to, most_levels}
 
--- the second version: a mark (an HSS signature begins with 0 to 7), the place in the group, how many bodies it has, the
--- path as a list of hashes, and the HSS signature
+-- what stands in the second version before the HSS signature: a mark (an HSS signature begins with 0 to 7), the place in
+-- the group, how many bodies it has, and the path as a list of hashes
+unfoldable pub group_head : ℕ → ℕ → List ℕ → List ℕ
+group_head place count path =
+    u32_bytes 256 ++ u16_bytes place ++ u16_bytes count ++ u16_bytes (length path / 32) ++ path
+
+-- the second version
 unfoldable pub group_field : ℕ → ℕ → List ℕ → List ℕ → List ℕ
-group_field place count path signed =
-    u32_bytes 256 ++ u16_bytes place ++ u16_bytes count ++ u16_bytes (length path / 32) ++ path ++ signed
+group_field place count path signed = group_head place count path ++ signed
 
 -- how many hashes the path of a second version has
 abbrev pub hashes_in : List ℕ → ℕ

@@ -41,6 +41,11 @@ part_stands ring part = is_known ring part && is_signed ring part && in_place ri
 unfoldable pub stands : Ring → Signed Body → Bool
 stands ring frame = has_spelling frame && list_all (part_stands ring) (parts frame)
 
+-- the frame stands in some ring
+pub record StandsSomewhere (frame : Signed Body) : Type 0 where
+  pub ring : Ring
+  pub is_standing : IsTrue (stands ring frame)
+
 -- the first test that the part of this number fails
 unfoldable pub part_fault : Ring → ℕ → Signed Body → Option CheckRefusal
 part_fault ring number part =

@@ -2,7 +2,7 @@ ghost use Rattle.std.specs.Prelude.{◌≡◌, ◌+◌, ◌<◌, ◌^◌, None, 
 ghost use Rattle.std.specs.List.{list_all};
 ghost use Rattle.message_types.specs.Spelling.{body_fits, has_spelling};
 ghost use Rattle.message_types.specs.Parts.{parts};
-ghost use Rattle.checked_frames.specs.Standing.{part_fault, fault_from, first_fault, stands, IsFault, said_by};
+ghost use Rattle.checked_frames.specs.Standing.{part_fault, fault_from, first_fault, stands, StandsSomewhere, IsFault, said_by};
 
 use crate::key_ring::KeyRing;
 use crate::refusal::CheckRefusal;
@@ -13,33 +13,53 @@ use message_types::{Body, Frame, Signed};
 use plain_lists::{Copied, Want};
 use std::alloc::Global;
 use std::marker::Model;
+use std::sync::Arc;
 
-/// A frame that `check` found standing. It keeps that the frame has a spelling, so that in each of its lists the signers
-/// rise.
+/// A frame that stands, which copies share. It keeps that the frame stands in some ring, and so that it has a spelling and
+/// that in each of its lists the signers rise. In which ring it stands, the calls say that make it.
 #[derive(Drop)]
 pub struct Checked {
-    frame: Frame,
+    shared: Arc<Frame, Global>,
 }
 
 impl Model for Checked {
+    ghost use Rattle.std.specs.Arc.{arc_value};
     ghost use Rattle.message_types.specs.declared.signed.Signed.{Signed as SignedWord};
     ghost use Rattle.message_types.specs.declared.body.Body.{Body as AnyBody};
-    ghost use Rattle.message_types.specs.Spelling.{has_spelling};
-    ghost use Rattle.std.specs.Prelude.{IsTrue};
+    ghost use Rattle.checked_frames.specs.Standing.{StandsSomewhere};
 
     ghost Value = { SignedWord AnyBody };
 
-    ghost view = { λ checked. checked.frame };
+    ghost view = { λ checked. arc_value checked.shared };
 
-    ghost invariant = { λ checked. IsTrue (has_spelling checked.frame) };
+    ghost invariant = { λ checked. StandsSomewhere (arc_value checked.shared) };
 }
 
 impl Checked {
+    /// A frame that is known to stand, as one that the signer's own key signed just now: no part of it is tried again.
+    pub fn from_standing(alloc: Global, frame: Frame) -> Result<Checked, Want>
+        requires { StandsSomewhere frame }
+        ensures { IfOk result (λ checked. checked ≡ frame) }
+    {
+        Ok(Checked {
+            shared: Arc::new(alloc, frame)?,
+        })
+    }
+
     pub fn frame(&self) -> &Frame
         ensures frame { result.now ≡ self.now }
+        ensures standing { StandsSomewhere self.now }
         ensures spelled { IsTrue (has_spelling self.now) }
     {
-        &self.frame
+        &self.shared
+    }
+}
+
+impl Copied for Checked {
+    fn copy(&self) -> Result<Self, Want> {
+        Ok(Checked {
+            shared: Arc::try_clone(&self.shared)?,
+        })
     }
 }
 
@@ -92,7 +112,7 @@ pub fn check(alloc: Global, ring: &KeyRing, frame: Frame) -> Result<Checked, Che
     let mut inner = Vec::new(alloc);
     put_inside(&mut inner, &frame.body)?;
     check_inner(alloc, ring, &inner)?;
-    Ok(Checked { frame })
+    Ok(Checked::from_standing(alloc, frame)?)
 }
 
 fn pairs(alloc: Global, frames: Vec<Frame>) -> Result<Vec<(u32, Body)>, Want>
@@ -114,6 +134,6 @@ fn pairs(alloc: Global, frames: Vec<Frame>) -> Result<Vec<(u32, Body)>, Want>
 pub fn parts(alloc: Global, checked: &Checked) -> Result<Vec<(u32, Body)>, Want>
     ensures { IfOk result (λ list. list.items ≡ map said_by (parts checked.now)) }
 {
-    let frames = parts_of(alloc, &checked.frame)?;
+    let frames = parts_of(alloc, checked.frame())?;
     pairs(alloc, frames)
 }

@@ -1,14 +1,16 @@
 //! What holds of all keys, texts, frames and histories. Each function does nothing: its contract is a law.
-ghost use Rattle.std.specs.Prelude.{◌≡◌, ◌↔◌, ◌<◌, ◌≤◌, ℕ, List, [], None, length, IsTrue};
+ghost use Rattle.std.specs.Prelude.{◌≡◌, ◌↔◌, ◌<◌, ◌≤◌, ◌+◌, ◌/◌, ◌%◌, ℕ, Bool, List, [], None, length, IsTrue};
 ghost use Rattle.std.specs.List.{slice_index_or};
 ghost use Rattle.message_types.specs.declared.signed.Signed.{Signed};
 ghost use Rattle.message_types.specs.declared.body.Body.{Body};
 ghost use Rattle.message_types.specs.Spelling.{has_spelling};
+ghost use Rattle.hash_signatures.specs.Signatures.{Key};
 ghost use Rattle.hash_signatures.specs.Verification.{Verifies};
 ghost use Rattle.history_rules.specs.Setup.{Setup};
 ghost use Rattle.history_rules.specs.Setup.{stands as history_stands};
 ghost use Rattle.checked_frames.specs.Verifying.{verifies};
-ghost use Rattle.checked_frames.specs.Signing.{signs, signed_message, field_at};
+ghost use Rattle.checked_frames.specs.Signing.{signs, signed_message, field_at, group_signatures};
+ghost use Rattle.checked_frames.specs.Entries.{group_size, group_at, entry_signatures};
 ghost use Rattle.checked_frames.specs.Standing.{Ring, actors, public_of, stands, first_fault};
 
 /// The test of HSS signatures that the definitions here name is true exactly where the relation of RFC 8554, section
@@ -23,6 +25,14 @@ pub fn groups_sign()
     ensures { (public : List ℕ) (texts : List (List ℕ)) (signed : List ℕ) (place : ℕ)
         → length texts ≤ 32 → place < length texts → Verifies public (signed_message texts) signed
         → IsTrue (signs public (slice_index_or texts place []) (field_at texts signed place)) }
+{}
+
+/// The signature of the body at a place of an entry is that of its group, at its place inside the group.
+pub fn entry_by_place()
+    ensures { (key : Key) (used : ℕ) (shared : Bool) (texts : List (List ℕ)) (place : ℕ) → place < length texts
+        → slice_index_or (entry_signatures key used (group_size shared) texts) place []
+        ≡ slice_index_or (group_signatures key (used + place / group_size shared)
+        (group_at (group_size shared) texts (place / group_size shared))) (place % group_size shared) [] }
 {}
 
 /// A frame stands exactly where it has a spelling and no part of it has a fault.

@@ -3,6 +3,8 @@
 #![tactic(auto)]
 
 mod checked;
+pub mod crossing;
+mod entry;
 mod groups;
 mod key_ring;
 pub mod laws;
@@ -11,6 +13,7 @@ mod refusal;
 mod signing;
 
 pub use crate::checked::{Checked, check, parts};
+pub use crate::entry::sign_entry;
 pub use crate::key_ring::KeyRing;
 pub use crate::places::is_in_place;
 pub use crate::refusal::CheckRefusal;

@@ -1,4 +1,4 @@
-ghost use Rattle.std.specs.Prelude.{◌≡◌, ◌↔◌, ◌∷◌, ◌+◌, ◌*◌, ◌<◌, ◌≤◌, [], drop, length, map, IsTrue, IfOk, OnOk, OnErr, IsErrOf};
+ghost use Rattle.std.specs.Prelude.{◌≡◌, ◌↔◌, ◌∷◌, ◌+◌, ◌*◌, ◌≤◌, [], drop, length, map, IsTrue, IfOk, OnOk, OnErr, IsErrOf};
 ghost use Rattle.std.specs.List.{list_all};
 ghost use Rattle.byteorder.specs.Endian.{big_number};
 ghost use Rattle.quorum_sets.specs.Masters.{numbers_below};
@@ -11,7 +11,7 @@ ghost use Rattle.checked_frames.specs.Verifying.{verifies};
 ghost use Rattle.checked_frames.specs.Groups.{leaf_hash, root_of, path_of};
 ghost use Rattle.checked_frames.specs.Levels.{levels_up};
 ghost use Rattle.checked_frames.specs.Signing.{hashes_in, group_verifies, signs_in_group, signs, signed_message, group_signatures, EachSigns, field_fits};
-ghost use Rattle.checked_frames.specs.Kept.{field_through};
+ghost use Rattle.checked_frames.specs.Kept.{head_through};
 
 use crate::groups::{leaf_hash, led_to, put_levels, put_path};
 use byteorder::{BigEndian, ByteOrder};
@@ -110,45 +110,33 @@ fn leaves_of(alloc: Global, bodies: &[Body]) -> Result<Items<[u8; 32]>, Want>
     Ok(leaves)
 }
 
-// The signature field of the body at a place.
-#[tactic(auto, unfolding(crate::specs::Signing::group_field))]
-fn field_of(
-    alloc: Global,
-    levels: &[Items<[u8; 32]>],
-    place: u16,
-    count: u16,
-    signed: &[u8],
-) -> Result<Bytes, Want>
+// What stands before the signature in the field of the body at a place.
+#[tactic(auto, unfolding(crate::specs::Signing::group_head))]
+fn head_of(alloc: Global, levels: &[Items<[u8; 32]>], place: u16, count: u16) -> Result<Bytes, Want>
     requires { length levels.now ≤ 5 }
-    ensures { IfOk result (λ field. field ≡ field_through levels.now count signed.now place) }
+    ensures { IfOk result (λ head. head ≡ head_through levels.now count place) }
 {
     let mut path = Vec::new(alloc);
     put_path(&mut path, levels, u32::from(place))?;
-    let mut field = Vec::new(alloc);
-    put_u32(&mut field, GROUP_MARK)?;
-    put_u16(&mut field, place)?;
-    put_u16(&mut field, count)?;
-    put_u16(&mut field, (path.len() / 32) as u16)?;
-    put_bytes(&mut field, &path)?;
-    put_bytes(&mut field, signed)?;
-    Bytes::from_vec(alloc, field)
+    let mut head = Vec::new(alloc);
+    put_u32(&mut head, GROUP_MARK)?;
+    put_u16(&mut head, place)?;
+    put_u16(&mut head, count)?;
+    put_u16(&mut head, (path.len() / 32) as u16)?;
+    put_bytes(&mut head, &path)?;
+    Bytes::from_vec(alloc, head)
 }
 
-// The signature fields of all bodies of a group.
-fn fields_of(
-    alloc: Global,
-    levels: &[Items<[u8; 32]>],
-    count: u16,
-    signed: &[u8],
-) -> Result<Vec<Bytes>, Want>
+// What stands before the signature in the fields of all bodies of a group.
+fn heads_of(alloc: Global, levels: &[Items<[u8; 32]>], count: u16) -> Result<Vec<Bytes>, Want>
     requires { length levels.now ≤ 5 }
-    ensures { IfOk result (λ fields. fields.items ≡ map (field_through levels.now count signed.now) (numbers_below count)) }
+    ensures { IfOk result (λ heads. heads.items ≡ map (head_through levels.now count) (numbers_below count)) }
 {
-    let mut fields = Vec::with_capacity(alloc, count as usize)?;
+    let mut heads = Vec::with_capacity(alloc, count as usize)?;
     for place in 0..count {
-        fields.push(field_of(alloc, levels, place, count, signed)?)?;
+        heads.push(head_of(alloc, levels, place, count)?)?;
     }
-    Ok(fields)
+    Ok(heads)
 }
 
 // The tree over a group, as its levels and its root.
@@ -188,24 +176,25 @@ fn sign_several(
     ensures verified { OnOk result (Verifies (key_public key.old.key) (signed_message (map body_text bodies.now))
         (signature_at key.old.key key.old.used (signed_message (map body_text bodies.now)))) }
     ensures short { OnOk result (length (signature_at key.old.key key.old.used (signed_message (map body_text bodies.now))) ≤ longest_signature) }
-    ensures left { OnOk result (key.old.used < all_leaves key.old.key) }
+    ensures one_more { OnOk result (key.new ≡ key_use key.old.key (key.old.used + 1)) }
     ensures spent { IsErrOf result SignAnswer.Spent → key.old.used ≡ all_leaves key.old.key }
-    ensures same { key.new ≡ key.old }
+    ensures err { OnErr result (key.new ≡ key.old) }
 {
     let leaves = leaves_of(alloc, bodies)?;
     let tree = tree_over(alloc, leaves)?;
     let count = bodies.len() as u16;
-    let signed = key.next_signature(&batch_text(count, &tree.root))?;
-    let fields = fields_of(alloc, tree.levels.as_slice(), count, &signed)?;
+    let heads = heads_of(alloc, tree.levels.as_slice(), count)?;
+    let fields = key.sign_behind(&heads, &batch_text(count, &tree.root))?;
     Ok(fields)
 }
 
-fn one_field(alloc: Global, signed: Vec<u8>) -> Result<Vec<Bytes>, Want>
-    ensures { IfOk result (λ fields. fields.items ≡ signed.items ∷ []) }
+// Nothing before the signature, as in the field of a lone body.
+fn no_head(alloc: Global) -> Result<Vec<Bytes>, Want>
+    ensures { IfOk result (λ heads. heads.items ≡ [] ∷ []) }
 {
-    let mut fields = Vec::new(alloc);
-    fields.push(Bytes::from_vec(alloc, signed)?)?;
-    Ok(fields)
+    let mut heads = Vec::new(alloc);
+    heads.push(Bytes::from_slice(alloc, &[])?)?;
+    Ok(heads)
 }
 
 // The field of one body, which is the key's next signature of its text.
@@ -216,18 +205,18 @@ fn sign_one(alloc: Global, key: &mut KeyState, bodies: &[Body]) -> Result<Vec<By
     ensures verified { OnOk result (Verifies (key_public key.old.key) (signed_message (map body_text bodies.now))
         (signature_at key.old.key key.old.used (signed_message (map body_text bodies.now)))) }
     ensures short { OnOk result (length (signature_at key.old.key key.old.used (signed_message (map body_text bodies.now))) ≤ longest_signature) }
-    ensures left { OnOk result (key.old.used < all_leaves key.old.key) }
+    ensures one_more { OnOk result (key.new ≡ key_use key.old.key (key.old.used + 1)) }
     ensures spent { IsErrOf result SignAnswer.Spent → key.old.used ≡ all_leaves key.old.key }
-    ensures same { key.new ≡ key.old }
+    ensures err { OnErr result (key.new ≡ key.old) }
 {
     let text = text_of(alloc, &bodies[0])?;
-    let signed = key.next_signature(&text)?;
-    let fields = one_field(alloc, signed)?;
+    let heads = no_head(alloc)?;
+    let fields = key.sign_behind(&heads, &text)?;
     Ok(fields)
 }
 
-// The fields of bodies, from the key's next signature, whose leaf isn't used yet.
-fn next_fields(alloc: Global, key: &mut KeyState, bodies: &[Body]) -> Result<Vec<Bytes>, SignAnswer>
+// The fields of bodies, from the key's next signature.
+fn sign_some(alloc: Global, key: &mut KeyState, bodies: &[Body]) -> Result<Vec<Bytes>, SignAnswer>
     requires some { 1 ≤ length bodies.now }
     requires few { length bodies.now ≤ 32 }
     requires spelled { IsTrue (list_all body_fits bodies.now) }
@@ -235,9 +224,9 @@ fn next_fields(alloc: Global, key: &mut KeyState, bodies: &[Body]) -> Result<Vec
     ensures verified { OnOk result (Verifies (key_public key.old.key) (signed_message (map body_text bodies.now))
         (signature_at key.old.key key.old.used (signed_message (map body_text bodies.now)))) }
     ensures short { OnOk result (length (signature_at key.old.key key.old.used (signed_message (map body_text bodies.now))) ≤ longest_signature) }
-    ensures left { OnOk result (key.old.used < all_leaves key.old.key) }
+    ensures one_more { OnOk result (key.new ≡ key_use key.old.key (key.old.used + 1)) }
     ensures spent { IsErrOf result SignAnswer.Spent → key.old.used ≡ all_leaves key.old.key }
-    ensures same { key.new ≡ key.old }
+    ensures err { OnErr result (key.new ≡ key.old) }
 {
     if bodies.len() == 1 {
         return sign_one(alloc, key, bodies);
@@ -266,7 +255,6 @@ pub fn sign_group(
     if key.left() == 0 {
         return Err(SignAnswer::Spent);
     }
-    let fields = next_fields(alloc, key, bodies)?;
-    key.use_leaf();
+    let fields = sign_some(alloc, key, bodies)?;
     Ok(fields)
 }

@@ -1,6 +1,6 @@
 ghost use Rattle.std.specs.Prelude.{◌≤◌, length};
 
-use checked_frames::{sign_group, signs};
+use checked_frames::{sign_entry, sign_group, signs};
 use hash_signatures::{KeyState, Ots, SignAnswer, verify};
 use message_forms::{batch_text, text_of};
 use message_types::{Body, Ping};
@@ -140,5 +140,25 @@ fn is_spent_after_one(alloc: Global) -> Result<bool, Fail> {
 #[test]
 fn a_spent_key_signs_no_group(rt: HostRuntime) -> Result<(), Fail> {
     assert!(rt; is_spent_after_one(rt.alloc())?);
+    Ok(())
+}
+
+// The number of signatures of three bodies and of no body, and of the leaves that they use, where leaves are shared or not.
+fn entry_counts(alloc: Global, shared: bool) -> Result<(usize, u64), Fail> {
+    let bodies = [
+        Body::Ping(Ping { number: 1 }),
+        Body::Ping(Ping { number: 2 }),
+        Body::Ping(Ping { number: 3 }),
+    ];
+    let mut key = KeyState::make(alloc, &[7; 32], &[9; 16], &[5], Ots::W4)?;
+    let none = sign_entry(alloc, &mut key, shared, &[])?;
+    let fields = sign_entry(alloc, &mut key, shared, &bodies)?;
+    Ok((none.len() + fields.len(), 32 - key.left()))
+}
+
+#[test]
+fn an_entry_uses_a_leaf_a_group(rt: HostRuntime) -> Result<(), Fail> {
+    assert!(rt; entry_counts(rt.alloc(), true)? == (3, 1));
+    assert!(rt; entry_counts(rt.alloc(), false)? == (3, 3));
     Ok(())
 }

@@ -235,6 +235,11 @@ pub verifies_ok : (r : Result (Vec ℕ Global) Want) (public message x : List �
 verifies_ok (Err e) public message x v h = tt
 verifies_ok (Ok sig) public message x v h = subst (Verifies public message) (sym h) v
 
+pub short_ok : (r : Result (Vec ℕ Global) Want) (x : List ℕ) → length x ≤ longest_signature
+    → IfOk r (λ sig. sig.items ≡ x) → IfOk r (λ sig. length sig.items ≤ longest_signature)
+short_ok (Err e) x few h = tt
+short_ok (Ok sig) x few h = subst (λ (s : List ℕ). length s ≤ longest_signature) (sym h) few
+
 pub public_is : (key : Key) (h : ℕ) (rest : List ℕ) (levels : ℕ) (top : TreeSeed) → key.heights ≡ h ∷ rest → levels ≡ length key.heights
     → top ≡ top_tree key h → u32_bytes levels ++ tree_public top ≡ key_public key
 unfolding key_public

@@ -1,6 +1,6 @@
 -- HSS: a key of up to six levels of trees, and its signatures in order (RFC 8554, section 6). How
 -- lower trees come from those above is this project's own, since the RFC leaves it to the signer.
-use Rattle.std.specs.Prelude.{ℕ, ◌+◌, ◌*◌, ◌/◌, ◌%◌, ◌^◌, List, [], ◌∷◌, ◌++◌, length, take}
+use Rattle.std.specs.Prelude.{ℕ, ◌+◌, ◌*◌, ◌/◌, ◌%◌, ◌^◌, List, [], ◌∷◌, ◌++◌, length, map, take}
 use Rattle.wire_parts.specs.Fields.{u8_bytes, u32_bytes}
 use Rattle.ots_keys.specs.declared.parameters.Ots.{Ots}
 use Rattle.ots_keys.specs.Hash.{hash_under}
@@ -70,6 +70,10 @@ signature_of key (h ∷ hs) m message = u32_bytes (length hs) ++ signed_below (t
 
 unfoldable pub signature_at : Key → ℕ → List ℕ → List ℕ
 signature_at key m message = signature_of key key.heights m message
+
+-- each head with signature m of the message behind it
+abbrev pub signed_behind : Key → ℕ → List ℕ → List (List ℕ) → List (List ℕ)
+signed_behind key m message heads = map (λ head. head ++ signature_at key m message) heads
 
 -- No signature of a key has more bytes: six levels of the longest LMS signature that there is, of 9,324 bytes, and
 -- five public keys.

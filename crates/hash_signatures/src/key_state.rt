@@ -1,17 +1,18 @@
-ghost use Rattle.std.specs.Prelude.{◌≡◌, ◌↔◌, ◌+◌, ◌-◌, ◌^◌, ◌<◌, ◌≤◌, length, IsTrue, IfOk, OnOk, OnErr, IsErrOf};
+ghost use Rattle.std.specs.Prelude.{◌≡◌, ◌↔◌, ◌+◌, ◌-◌, ◌^◌, ◌<◌, ◌≤◌, ◌++◌, length, map, IsTrue, IfOk, OnOk, OnErr, IsErrOf};
 ghost use Rattle.hash_signatures.specs.Verification.{Verifies};
-ghost use Rattle.hash_signatures.specs.Signatures.{total, all_leaves, key_public, signature_at, longest_signature};
+ghost use Rattle.hash_signatures.specs.Signatures.{total, all_leaves, key_public, signature_at, signed_behind, longest_signature};
 ghost use Rattle.hash_signatures.specs.Path.{IsKeptPath};
 ghost use Rattle.hash_signatures.specs.State.{key_from, key_use, IsLevelCount, HasMadeHeights};
 
 use crate::descent::{total, tree_for};
 use crate::path::{Path, hss_public, turned, way_at};
 use ots_keys::Ots;
+use plain_lists::Bytes;
 use std::alloc::Global;
 use std::marker::Model;
 use thiserror::Error;
 use tree_keys::Tree;
-use wire_parts::Want;
+use wire_parts::{Want, put_bytes};
 
 /// Why a key isn't made.
 #[derive(Clone, Copy, Debug, PartialEq, Eq, Error)]
@@ -157,10 +158,24 @@ impl KeyState {
         Ok(sig)
     }
 
-    /// The next signature, of this message, whose leaf isn't used yet. A caller that needs room for what it
-    /// makes of the signature takes that room before it uses the leaf by `use_leaf`, and only then gives the
-    /// signature away: so want of memory costs no leaf, and no leaf signs two messages.
-    pub fn next_signature(&mut self, message: &[u8]) -> Result<Vec<u8>, SignAnswer>
+    /// Each head with the next signature, of this message, behind it: one leaf for all of them. All are made before the
+    /// leaf is used, so want of memory costs no leaf, and no leaf signs two messages.
+    pub fn sign_behind(&mut self, heads: &[Bytes], message: &[u8]) -> Result<Vec<Bytes>, SignAnswer>
+        ensures fields { IfOk result (λ fields. fields.items ≡ signed_behind self.old.key self.old.used message.now heads.now) }
+        ensures verifies { OnOk result (Verifies (key_public self.old.key) message.now (signature_at self.old.key self.old.used message.now)) }
+        ensures short { OnOk result (length (signature_at self.old.key self.old.used message.now) ≤ longest_signature) }
+        ensures one_more { OnOk result (self.new ≡ key_use self.old.key (self.old.used + 1)) }
+        ensures spent { IsErrOf result SignAnswer.Spent ↔ (self.old.used ≡ all_leaves self.old.key) }
+        ensures err { OnErr result (self.new ≡ self.old) }
+    {
+        let sig = self.next_signature(message)?;
+        let fields = put_behind(self.alloc, heads, &sig)?;
+        self.use_leaf();
+        Ok(fields)
+    }
+
+    // The next signature, of this message, whose leaf isn't used yet.
+    fn next_signature(&mut self, message: &[u8]) -> Result<Vec<u8>, SignAnswer>
         ensures signature { IfOk result (λ sig. sig.items ≡ signature_at self.old.key self.old.used message.now) }
         ensures verifies { IfOk result (λ sig. Verifies (key_public self.old.key) message.now sig.items) }
         ensures short { IfOk result (λ sig. length sig.items ≤ longest_signature) }
@@ -186,8 +201,8 @@ impl KeyState {
         Ok(signed?)
     }
 
-    /// Uses the next leaf, whose signature is given away.
-    pub fn use_leaf(&mut self)
+    // Uses the next leaf, whose signature is given away.
+    fn use_leaf(&mut self)
         requires { self.old.used < all_leaves self.old.key }
         ensures { self.new ≡ key_use self.old.key (self.old.used + 1) }
     {
@@ -199,6 +214,7 @@ impl KeyState {
         requires { m < all_leaves self.now.key }
         ensures signature { IfOk result (λ sig. sig.items ≡ signature_at self.now.key m message.now) }
         ensures verifies { IfOk result (λ sig. Verifies (key_public self.now.key) message.now sig.items) }
+        ensures short { IfOk result (λ sig. length sig.items ≤ longest_signature) }
     {
         let way = way_at(
             self.alloc,
@@ -211,6 +227,27 @@ impl KeyState {
         )?;
         Path { way, at: m }.sign(self.alloc, m, message)
     }
+}
+
+// A head and what stands behind it.
+fn joined(alloc: Global, head: &[u8], behind: &[u8]) -> Result<Bytes, Want>
+    ensures { IfOk result (λ field. field ≡ head.now ++ behind.now) }
+{
+    let mut field = Vec::new(alloc);
+    put_bytes(&mut field, head)?;
+    put_bytes(&mut field, behind)?;
+    Bytes::from_vec(alloc, field)
+}
+
+// Each head with the signature behind it.
+fn put_behind(alloc: Global, heads: &[Bytes], sig: &[u8]) -> Result<Vec<Bytes>, Want>
+    ensures { IfOk result (λ fields. fields.items ≡ map (λ head. head ++ sig.now) heads.now) }
+{
+    let mut fields = Vec::with_capacity(alloc, heads.len())?;
+    for head in heads {
+        fields.push(joined(alloc, head.as_slice(), sig)?)?;
+    }
+    Ok(fields)
 }
 
 // Whether trees of all these heights are made.

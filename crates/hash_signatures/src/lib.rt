@@ -4,6 +4,7 @@
 //! cites.
 #![tactic(auto)]
 
+pub mod crossing;
 mod descent;
 mod key_state;
 mod path;

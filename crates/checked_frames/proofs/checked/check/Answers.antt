@@ -36,3 +36,9 @@ returns-clause-stands c =
     let inner = c.deref.ensures.value ∙ c.in_ok-put_inside.ensures ∙ ap (λ xs. xs ++ inside c.args.frame.body) c.new-inner.ensures.items in
     let whole = fault_inside c.args.ring.now c.args.frame c.deref.result.now (ap (λ xs. c.args.frame ∷ xs) (sym inner)) (c.in_ok-check_part.ensures.none refl) in
     λ _. faultless_stands c.args.ring.now c.args.frame c.requires (whole ∙ c.in_ok-check_inner.ensures.none refl)
+
+pub from_standing-requires : goal.from_standing-requires
+from_standing-requires c =
+    let inner = c.deref.ensures.value ∙ c.in_ok-put_inside.ensures ∙ ap (λ xs. xs ++ inside c.args.frame.body) c.new-inner.ensures.items in
+    let whole = fault_inside c.args.ring.now c.args.frame c.deref.result.now (ap (λ xs. c.args.frame ∷ xs) (sym inner)) (c.in_ok-check_part.ensures.none refl) in
+    record { ring = c.args.ring.now; is_standing = faultless_stands c.args.ring.now c.args.frame c.requires (whole ∙ c.in_ok-check_inner.ensures.none refl) }

@@ -1,6 +1,6 @@
-use Rattle.std.proofs.Common.{◌∙◌, ap}
+use Rattle.std.proofs.Common.{◌∙◌}
 use Rattle.message_types.specs.Texts.{body_text}
-use Rattle.hash_signatures.specs.Signatures.{key_public, signature_at}
+use Rattle.hash_signatures.specs.Signatures.{key_public}
 use Rattle.checked_frames.proofs.SigningLaws.{one_signed, verified_as, short_as}
 use Rattle.checked_frames.proofs.signing.sign_one.Goals as goal
 
@@ -8,24 +8,28 @@ pub returns-clause-fields : goal.returns-clause-fields
 returns-clause-fields c =
     let key = c.args.key.now.key in
     let used = c.args.key.now.used in
-    let text = c.deref.ensures.value ∙ c.in_ok-text.ensures in
-    let is_signed = c.in_ok-signed.ensures.signature ∙ ap (signature_at key used) text in
-    c.in_ok-fields.ensures ∙ (one_signed body_text c.args.bodies.now c.index-bodies-0.result c.in_ok-signed.signed.items key used c.requires.one c.index-bodies-0.is is_signed).0
+    let e_heads = c.deref.ensures.value ∙ c.in_ok-heads.ensures in
+    let e_text = c.deref-2.ensures.value ∙ c.in_ok-text.ensures in
+    let both = one_signed body_text c.args.bodies.now c.index-bodies-0.result c.deref-2.result.now c.deref.result.now key used c.requires.one c.index-bodies-0.is
+    e_heads e_text in
+    c.in_ok-fields.ensures.fields ∙ both.0
 
 pub returns-clause-verified : goal.returns-clause-verified
 returns-clause-verified c =
     let key = c.args.key.now.key in
     let used = c.args.key.now.used in
-    let text = c.deref.ensures.value ∙ c.in_ok-text.ensures in
-    let is_signed = c.in_ok-signed.ensures.signature ∙ ap (signature_at key used) text in
-    let both = one_signed body_text c.args.bodies.now c.index-bodies-0.result c.in_ok-signed.signed.items key used c.requires.one c.index-bodies-0.is is_signed in
-    verified_as (key_public key) c.deref.result.now _ c.in_ok-signed.signed.items key used c.in_ok-signed.ensures.verifies c.in_ok-signed.ensures.signature (text ∙ both.1)
+    let e_heads = c.deref.ensures.value ∙ c.in_ok-heads.ensures in
+    let e_text = c.deref-2.ensures.value ∙ c.in_ok-text.ensures in
+    let both = one_signed body_text c.args.bodies.now c.index-bodies-0.result c.deref-2.result.now c.deref.result.now key used c.requires.one c.index-bodies-0.is
+    e_heads e_text in
+    verified_as (key_public key) c.deref-2.result.now _ key used c.in_ok-fields.ensures.verifies both.1
 
 pub returns-clause-short : goal.returns-clause-short
 returns-clause-short c =
     let key = c.args.key.now.key in
     let used = c.args.key.now.used in
-    let text = c.deref.ensures.value ∙ c.in_ok-text.ensures in
-    let is_signed = c.in_ok-signed.ensures.signature ∙ ap (signature_at key used) text in
-    let both = one_signed body_text c.args.bodies.now c.index-bodies-0.result c.in_ok-signed.signed.items key used c.requires.one c.index-bodies-0.is is_signed in
-    short_as c.deref.result.now _ c.in_ok-signed.signed.items key used c.in_ok-signed.ensures.short c.in_ok-signed.ensures.signature (text ∙ both.1)
+    let e_heads = c.deref.ensures.value ∙ c.in_ok-heads.ensures in
+    let e_text = c.deref-2.ensures.value ∙ c.in_ok-text.ensures in
+    let both = one_signed body_text c.args.bodies.now c.index-bodies-0.result c.deref-2.result.now c.deref.result.now key used c.requires.one c.index-bodies-0.is
+    e_heads e_text in
+    short_as c.deref-2.result.now _ key used c.in_ok-fields.ensures.short both.1

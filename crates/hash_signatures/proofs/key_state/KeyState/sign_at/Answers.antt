@@ -1,10 +1,10 @@
-use Rattle.std.proofs.Common.{◌∙◌, ap, subst, List, ℕ}
+use Rattle.std.proofs.Common.{◌≤◌, length, ◌∙◌, ap, subst, List, ℕ}
 use Rattle.hash_signatures.specs.Verification.{Verifies}
-use Rattle.hash_signatures.specs.Signatures.{Key, key_public, signature_at}
+use Rattle.hash_signatures.specs.Signatures.{Key, key_public, signature_at, longest_signature}
 use Rattle.hash_signatures.specs.State.{KeyUse, key_from}
 use Rattle.hash_signatures.specs.Kept.{key_of}
 use Rattle.hash_signatures.specs.Path.{IsWayOf}
-use Rattle.hash_signatures.proofs.KeyLaws.{way_signs, signature_ok, signature_verifies, verifies_ok}
+use Rattle.hash_signatures.proofs.KeyLaws.{way_signs, signature_ok, signature_verifies, signature_short, verifies_ok, short_ok}
 use Rattle.hash_signatures.proofs.key_state.KeyState.sign_at.Goals as goal
 
 pub returns-clause-signature : goal.returns-clause-signature
@@ -26,3 +26,12 @@ returns-clause-verifies c =
     let verifies = subst (λ (k : Key). Verifies (key_public k) message (signature_at k c.args.m message)) same
     (signature_verifies key c.args.m message c.self.invariant.levels c.self.invariant.heights c.self.invariant.id) in
     verifies_ok c.sign.result (key_public c.args.self.now.key) message _ verifies (returns-clause-signature c)
+
+pub returns-clause-short : goal.returns-clause-short
+returns-clause-short c =
+    let key = key_of c.self.inside in
+    let same = ap (λ (u : KeyUse). u.key) c.self.view_is in
+    let message = c.args.message.now in
+    let short = subst (λ (k : Key). length (signature_at k c.args.m message) ≤ longest_signature) same
+    (signature_short key c.args.m message c.self.invariant.levels c.self.invariant.heights c.self.invariant.id) in
+    short_ok c.sign.result _ short (returns-clause-signature c)

@@ -1,0 +1,16 @@
+use Rattle.std.proofs.Common.{◌++◌, ◌∷◌, [], sym, ap, ◌∙◌}
+use Rattle.hash_signatures.specs.Signatures.{key_public}
+use Rattle.hash_signatures.specs.State.{KeyUse}
+use Rattle.actor_keys.specs.Keys.{public_keys}
+use Rattle.actor_keys.proofs.KeyLists.{none_yet, one_more}
+use Rattle.actor_keys.proofs.keys.publics_of.Goals as goal
+
+pub loop-actor-init : goal.loop-actor-init
+loop-actor-init c = c.in_ok-publics.ensures.items ∙ sym (none_yet c.args.seed.now c.args.heights.now)
+
+pub loop-actor-preserved : goal.loop-actor-preserved
+loop-actor-preserved c =
+    let before = public_keys c.args.seed.now c.args.heights.now c.loop-actor.actor in
+    let public = c.public.ensures ∙ ap (λ (u : KeyUse). key_public u.key) c.in_ok-key.ensures in
+    c.in_ok-push.ensures.items ∙ ap (λ xs. xs ++ c.public.result ∷ []) c.loop-actor.invariant
+    ∙ ap (λ x. before ++ x ∷ []) public ∙ sym (one_more c.args.seed.now c.args.heights.now c.loop-actor.actor)

@@ -1,0 +1,6 @@
+//! The actors' seeds, identifiers and keys, all made from the one seed of a scenario, and the ring of their public keys.
+#![tactic(auto)]
+
+mod keys;
+
+pub use crate::keys::{actor_key, ring_of};
