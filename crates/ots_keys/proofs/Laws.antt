@@ -6,19 +6,16 @@ use Rattle.std.proofs.lemmas.Nat.{and_le_l}
 use Rattle.std.proofs.lemmas.List.{drop_at, take_at, take_all, take-append-le, drop-append-le, length-drop}
 use Rattle.std.proofs.lemmas.Bool.{cases_lt}
 use Rattle.std.proofs.Math.Seq.{drop-append-add}
-use Rattle.sha2.proofs.Facts256.{length-sha256}
 use Rattle.wire_parts.specs.Fields.{u8_bytes, u32_bytes}
 use Rattle.wire_parts.specs.FieldLaws.{length-u32_bytes}
 use Rattle.ots_keys.specs.declared.parameters.Ots.{Ots}
 use Rattle.ots_keys.specs.Parameters.{type_code, chains, top_digit, signature_len}
 use Rattle.ots_keys.specs.Digits.{coef, digit}
-use Rattle.ots_keys.specs.Hash.{hash_under}
-use Rattle.ots_keys.specs.Keys.{joined, chain, secret, public_key, key_of_ends, chain_end, signature, signed_element, candidate, finished_element, IsSignatureForm, randomizer, randomizer_in, message_hash, element_in, public_tag}
-
--- every hash has 32 bytes
-pub length-hash_under : (id : List ℕ) (number tag : ℕ) (text : List ℕ) → length (hash_under id number tag text) ≡ 32
-unfolding hash_under
-length-hash_under id number tag text = length-sha256 _
+use Rattle.lane_chains.specs.Hash.{hash_under}
+use Rattle.lane_chains.specs.Chains.{joined, chain}
+use Rattle.lane_chains.proofs.Growing.{joined-cong}
+pub use Rattle.lane_chains.proofs.HashLaws.{length-hash_under}
+use Rattle.ots_keys.specs.Keys.{secret, public_key, key_of_ends, chain_end, signature, signed_element, candidate, finished_element, IsSignatureForm, randomizer, randomizer_in, message_hash, element_in, public_tag}
 
 pub length-public_key : (ots : Ots) (id : List ℕ) (q : ℕ) (seed : List ℕ) → length (public_key ots id q seed) ≡ 32
 unfolding public_key
@@ -67,13 +64,6 @@ joined-at f h (suc n) i lt = elim (cases_lt i n) [
       let piece = h n in
       rw last (ap (take 32) (drop_at (joined f n) (f n) (32 * n) (length-joined f h n)) ∙ take_all 32 (f n) (omega arith))
 ]
-
--- pieces that are equal are equal when joined
-joined-cong : (f g : ℕ → List ℕ) (n : ℕ) → ((i : ℕ) → i < n → f i ≡ g i) → joined f n ≡ joined g n
-joined-cong f g zero h = refl
-joined-cong f g (suc n) h =
-    let before = joined-cong f g n (λ i lt. h i (omega arith)) in
-    ap (λ x. x ++ f n) before ∙ ap (λ x. joined g n ++ x) (h n (omega arith))
 
 -- steps from where earlier steps ended
 chain-chain : (id : List ℕ) (q i a n : ℕ) (start : List ℕ) → chain id q i a n (chain id q i 0 a start) ≡ chain id q i 0 (a + n) start

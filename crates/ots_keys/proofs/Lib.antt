@@ -1,3 +1,4 @@
 pub mod Widths
 pub mod Growing
 pub mod Laws
+mod StepLaws

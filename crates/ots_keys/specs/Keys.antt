@@ -1,11 +1,12 @@
 -- LM-OTS: one-time key pairs, signatures and candidates (RFC 8554, section 4). A key pair is that of
 -- leaf q under the identifier id; its private parts come from one seed by the RFC's appendix A.
-use Rattle.std.specs.Prelude.{◌≡◌, ℕ, zero, suc, ◌+◌, ◌-◌, ◌*◌, List, [], ◌++◌, length, take, drop}
+use Rattle.std.specs.Prelude.{◌≡◌, ℕ, ◌+◌, ◌-◌, ◌*◌, List, ◌++◌, length, take, drop}
 use Rattle.wire_parts.specs.Fields.{u8_bytes, u32_bytes}
 use Rattle.ots_keys.specs.declared.parameters.Ots.{Ots}
 use Rattle.ots_keys.specs.Parameters.{type_code, chains, top_digit, signature_len}
 use Rattle.ots_keys.specs.Digits.{digit}
-use Rattle.ots_keys.specs.Hash.{hash_under}
+use Rattle.lane_chains.specs.Hash.{hash_under}
+pub use Rattle.lane_chains.specs.Chains.{joined, chain}
 
 -- D_PBLC and D_MESG (section 4.3, 4.5)
 abbrev pub public_tag : ℕ
@@ -18,20 +19,9 @@ message_tag = 0x8181
 abbrev pub randomizer_tag : ℕ
 randomizer_tag = 0xFFFD
 
--- f 0 || .. || f (n - 1)
-abbrev pub joined : (ℕ → List ℕ) → ℕ → List ℕ
-joined f zero = []
-joined f (suc n) = joined f n ++ f n
-
 -- x[i] = H(I || u32str(q) || u16str(i) || u8str(0xff) || SEED) (appendix A)
 unfoldable pub secret : List ℕ → ℕ → List ℕ → ℕ → List ℕ
 secret id q seed i = hash_under id q i (u8_bytes 0xff ++ seed)
-
--- `start` after n steps of chain i, from step `from` on; step j makes
--- H(I || u32str(q) || u16str(i) || u8str(j) || tmp) of tmp (sections 4.3, 4.5 and 4.6)
-abbrev pub chain : List ℕ → ℕ → ℕ → ℕ → ℕ → List ℕ → List ℕ
-chain id q i from zero start = start
-chain id q i from (suc n) start = hash_under id q i (u8_bytes (from + n) ++ chain id q i from n start)
 
 -- K = H(I || u32str(q) || u16str(D_PBLC) || y[0] || .. || y[p-1]) (section 4.3)
 abbrev pub key_of_ends : Ots → List ℕ → ℕ → (ℕ → List ℕ) → List ℕ

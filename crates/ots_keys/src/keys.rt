@@ -1,11 +1,12 @@
-ghost use Rattle.std.specs.Prelude.{◌≡◌, ◌+◌, ◌-◌, ◌*◌, ◌≤◌, ◌↔◌, ◌++◌, length, take, IsTrue, IfOk, OnOk, SomeIff};
+ghost use Rattle.std.specs.Prelude.{◌≡◌, ℕ, ◌*◌, ◌<◌, ◌≤◌, ◌↔◌, ◌++◌, length, take, IsTrue, IfOk, OnOk, SomeIff};
 ghost use Rattle.wire_parts.specs.Fields.{u32_bytes};
 ghost use Rattle.ots_keys.specs.Parameters.{chains, signature_len};
-ghost use Rattle.ots_keys.specs.Keys.{secret, chain, randomizer, public_key, signature, IsSignatureForm, candidate, element_in, key_of_ends, joined, signed_element, finished_element};
+ghost use Rattle.lane_chains.specs.Chains.{joined, value_at, end_of, AreSteps};
+ghost use Rattle.ots_keys.specs.Keys.{secret, randomizer, public_key, signature, IsSignatureForm, candidate, key_of_ends, signed_element, finished_element};
 
-use crate::digits::{checked_hash, digit_of};
-use crate::hash::{hash_parts, hasher_under};
+use crate::digits::digits_of;
 use crate::parameters::Ots;
+use lane_chains::{MOST_CHAINS, VALUES_LEN, hash_parts, hasher_under, run_chains, write_value};
 use sha2::Digest;
 use std::alloc::Global;
 use wire_parts::{Want, put_bytes, put_u32};
@@ -16,43 +17,59 @@ const D_MESG: u16 = 0x8181;
 
 const RANDOMIZER: u16 = 0xFFFD;
 
-// The private start of chain `i`.
-#[tactic(auto, unfolding(crate::specs::Keys::secret))]
-fn secret(id: &[u8; 16], q: u32, seed: &[u8; 32], i: u16) -> [u8; 32]
-    ensures { result ≡ secret id.now q seed.now i }
-{
-    hash_parts(id, q, i, &[0xff], seed)
-}
-
 fn randomizer(id: &[u8; 16], q: u32, seed: &[u8; 32]) -> [u8; 32]
     ensures { result ≡ randomizer id.now q seed.now }
 {
     hash_parts(id, q, RANDOMIZER, &[0xff], seed)
 }
 
-// Steps `from` to `to - 1` of chain `i`.
-fn chain(id: &[u8; 16], q: u32, i: u16, from: u8, to: u8, start: &[u8; 32]) -> [u8; 32]
-    requires { from ≤ to }
-    ensures { result ≡ chain id.now q i from (to - from) start.now }
+// The private starts of the chains: a start is what step 255 makes of the seed.
+fn secrets(ots: Ots, id: &[u8; 16], q: u32, seed: &[u8; 32]) -> [u8; VALUES_LEN]
+    ensures { (i : ℕ) → i < chains ots → value_at result i ≡ secret id.now q seed.now i }
 {
-    let mut value = *start;
-    for j in from..to {
-        value = hash_parts(id, q, i, &[j], &value);
+    let count = usize::from(ots.chains());
+    let mut seeds = [0; VALUES_LEN];
+    'seeds: for i in 0..MOST_CHAINS {
+        write_value(&mut seeds, i, seed);
     }
-    value
+    let from = [255u16; MOST_CHAINS];
+    let to = [256u16; MOST_CHAINS];
+    let mut starts = [0; VALUES_LEN];
+    run_chains(id, q, &from[..count], &to[..count], &seeds, &mut starts);
+    starts
+}
+
+// The key that chains end in.
+fn key_of_chains(
+    ots: Ots,
+    id: &[u8; 16],
+    q: u32,
+    from: &[u16],
+    to: &[u16],
+    starts: &[u8],
+) -> [u8; 32]
+    requires steps { AreSteps from.now to.now }
+    requires count { length from.now ≡ chains ots }
+    requires starts { 32 * length from.now ≤ length starts.now }
+    ensures { result ≡ key_of_ends ots id.now q (end_of id.now q from.now to.now starts.now) }
+{
+    let mut ends = [0; VALUES_LEN];
+    run_chains(id, q, from, to, starts, &mut ends);
+    let mut hasher = hasher_under(id, q, D_PBLC);
+    hasher.update(&ends[..32 * from.len()]);
+    hasher.finalize()
 }
 
 /// The public key of the one-time key pair of leaf `q`. It takes no memory.
 pub fn ots_public(ots: Ots, id: &[u8; 16], q: u32, seed: &[u8; 32]) -> [u8; 32]
     ensures { result ≡ public_key ots id.now q seed.now }
 {
-    let mut hasher = hasher_under(id, q, D_PBLC);
-    'chains: for i in 0..ots.chains() {
-        let start = secret(id, q, seed, i);
-        let end = chain(id, q, i, 0, ots.top_digit(), &start);
-        hasher.update(end);
-    }
-    hasher.finalize()
+    let count = usize::from(ots.chains());
+    let last = u16::from(ots.top_digit());
+    let from = [0u16; MOST_CHAINS];
+    let to = [last; MOST_CHAINS];
+    let starts = secrets(ots, id, q, seed);
+    key_of_chains(ots, id, q, &from[..count], &to[..count], &starts)
 }
 
 /// The signature of a message by the key pair of leaf `q`. A key pair may sign one message alone.
@@ -87,12 +104,13 @@ fn put_elements(
     ensures { OnOk result (sig.new.items ≡ sig.old.items
         ++ joined (signed_element ots id.now q seed.now hash.now) (chains ots)) }
 {
-    let text = checked_hash(ots, hash);
-    'chains: for i in 0..ots.chains() {
-        let start = secret(id, q, seed, i);
-        let element = chain(id, q, i, 0, digit_of(ots, &text, i), &start);
-        put_bytes(sig, &element)?;
-    }
+    let count = usize::from(ots.chains());
+    let from = [0u16; MOST_CHAINS];
+    let to = digits_of(ots, hash);
+    let starts = secrets(ots, id, q, seed);
+    let mut ends = [0; VALUES_LEN];
+    run_chains(id, q, &from[..count], &to[..count], &starts, &mut ends);
+    put_bytes(sig, &ends[..32 * count])?;
     Ok(())
 }
 
@@ -103,17 +121,6 @@ fn has_code(bytes: &[u8], code: u32) -> bool
     ensures { IsTrue result ↔ (take 4 bytes.now ≡ u32_bytes code) }
 {
     &bytes[..4] == code.to_be_bytes().as_slice()
-}
-
-// Element `i` of a signature.
-fn element_of(sig: &[u8], i: u16) -> [u8; 32]
-    requires { 68 + 32 * i ≤ length sig.now }
-    ensures { result ≡ element_in sig.now i }
-{
-    let at = 36 + 32 * usize::from(i);
-    let mut element = [0; 32];
-    element.copy_from_slice(&sig[at..at + 32]);
-    element
 }
 
 /// The public key that signed the message, if the signature is right: the one that the chains of the
@@ -143,12 +150,9 @@ fn finished_key(ots: Ots, id: &[u8; 16], q: u32, hash: &[u8; 32], sig: &[u8]) ->
     requires { length sig.now ≡ signature_len ots }
     ensures { result ≡ key_of_ends ots id.now q (finished_element ots id.now q hash.now sig.now) }
 {
-    let text = checked_hash(ots, hash);
-    let mut hasher = hasher_under(id, q, D_PBLC);
-    'chains: for i in 0..ots.chains() {
-        let from = digit_of(ots, &text, i);
-        let end = chain(id, q, i, from, ots.top_digit(), &element_of(sig, i));
-        hasher.update(end);
-    }
-    hasher.finalize()
+    let count = usize::from(ots.chains());
+    let top = u16::from(ots.top_digit());
+    let from = digits_of(ots, hash);
+    let to = [top; MOST_CHAINS];
+    key_of_chains(ots, id, q, &from[..count], &to[..count], &sig[36..])
 }

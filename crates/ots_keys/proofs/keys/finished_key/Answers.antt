@@ -1,19 +1,42 @@
-use Rattle.std.proofs.Common.{◌≡◌, arith}
-use Rattle.ots_keys.proofs.Growing.{holds_more, finished_is}
-use Rattle.ots_keys.specs.Parameters.{chains}
-use Rattle.ots_keys.specs.Hash.{hash_under}
-use Rattle.ots_keys.specs.Keys.{finished_element}
+use Rattle.std.proofs.Common.{◌≡◌, ◌≤◌, ◌-◌, ◌∙◌, ap, arith, drop, length, refl, take}
+use Rattle.std.specs.Prelude.{replicate}
+use Rattle.std.proofs.lemmas.List.{length-drop, take_all}
+use Rattle.lane_chains.specs.Hash.{hash_under}
+use Rattle.lane_chains.proofs.Growing.{joined-cong}
+use Rattle.ots_keys.specs.Parameters.{chains, top_digit}
+use Rattle.ots_keys.specs.Keys.{public_tag, finished_element}
+use Rattle.ots_keys.proofs.Widths.{top_is}
+use Rattle.ots_keys.proofs.StepLaws.{are_steps, chains_are, finished_is, same_at}
 use Rattle.ots_keys.proofs.keys.finished_key.Goals as goal
 
-pub chains-preserved : goal.chains-preserved
-chains-preserved c =
-    let f = finished_element c.args.ots c.args.id.now c.args.q c.args.hash.now c.args.sig.now in
-    let end = finished_is c.args.ots c.args.id.now c.args.q c.args.hash.now c.args.sig.now c.chains.i _ _ _ _ _
-    c.checked_hash-text.ensures c.digit_of-from.ensures.value c.top_digit.ensures c.element_of.ensures c.chain-end.ensures in
-    holds_more _ _ f c.chains.i _ end (c.update.ensures _ c.chains.invariant)
+pub key_of_chains-requires-clause-steps : goal.key_of_chains-requires-clause-steps
+key_of_chains-requires-clause-steps c =
+    let ots = c.args.ots in
+    let few = (chains_are ots).1 in
+    let top_fits = top_is ots in
+    let last = c.from-top.result in
+    let top : last ≡ top_digit ots = omega arith in
+    let digits = c.digits_of-from.result in
+    let len : length digits ≡ 265 = omega arith in
+    let count : c.from-count.result ≡ chains ots = omega arith in
+    rw count (are_steps ots digits (replicate 265 last) len refl
+    (λ i lt. rw (same_at last i (omega arith)) (let digit_top = c.digits_of-from.ensures.top i lt in omega arith))
+    (λ i lt. rw (same_at last i (omega arith)) (omega arith)))
 
 pub returns : goal.returns
-unfolding hash_under
 returns c =
-    let done : c.chains.i ≡ chains c.args.ots = omega arith in
-    c.finalize.ensures _ (rw done at c.chains.invariant)
+    let ots = c.args.ots in
+    let id = c.args.id.now in
+    let q = c.args.q in
+    let hash = c.args.hash.now in
+    let sig = c.args.sig.now in
+    let few = (chains_are ots).1 in
+    let last = c.from-top.result in
+    let top : last ≡ top_digit ots = omega arith in
+    let digits = c.digits_of-from.result in
+    let count : c.from-count.result ≡ chains ots = omega arith in
+    let rest : take (length sig - 36) (drop 36 sig) ≡ drop 36 sig =
+    take_all (length sig - 36) (drop 36 sig) (omega (arith, length-drop 36 sig)) in
+    rw (count, rest) at c.key_of_chains.ensures
+    ∙ ap (λ x. hash_under id q public_tag x) (joined-cong _ (finished_element ots id q hash sig) (chains ots) (λ i lt.
+    finished_is ots id q hash sig digits (chains ots) i last lt few top (c.digits_of-from.ensures.value i lt)))

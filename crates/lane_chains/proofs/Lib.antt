@@ -1,0 +1,6 @@
+pub mod Growing
+pub mod HashLaws
+pub mod ValueLaws
+mod WordLaws
+mod ChainLaws
+mod MarkLaws

@@ -1,0 +1,5 @@
+pub mod LaneLaws
+pub mod Blocks
+mod Majority
+mod Rotations
+mod RoundLaws

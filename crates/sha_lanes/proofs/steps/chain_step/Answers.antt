@@ -1,0 +1,20 @@
+use Rattle.std.proofs.Common.{◌++◌, ◌∙◌, ap, slice_index}
+use Rattle.sha2.specs.Sha256.{initial_hash_256, schedule}
+use Rattle.sha_lanes.specs.Lanes.{lane}
+use Rattle.sha_lanes.specs.Steps.{key_words, step_text}
+use Rattle.sha_lanes.proofs.Blocks.{block_is, key_word_is, step_is, tail}
+use Rattle.sha_lanes.proofs.RoundLaws.{rounds-cong}
+use Rattle.sha_lanes.proofs.steps.chain_step.Goals as goal
+
+pub returns : goal.returns
+returns c j lt =
+    let id = c.args.id.now in
+    let q = c.args.q in
+    let chain = slice_index c.args.chains j in
+    let step = slice_index c.args.steps j in
+    let h = lane j c.args.v in
+    let block = step_text id q chain step h ++ tail in
+    let same = rounds-cong initial_hash_256 (key_words id q) (schedule block 48) 5 (λ k below. key_word_is id q chain step h k below) in
+    step_is id q chain step h (lane j c.compressed.result)
+    (c.compressed.ensures j lt block (λ k below. ap (λ x. slice_index x k) (c.block_words.ensures j lt) ∙ block_is id q chain step h k below)
+    (c.requires.begun j lt ∙ same))
