@@ -1,5 +1,5 @@
 //! Tests of the crates that a first play stands on, through their public calls alone: lists, sizes and voters, fields
-//! in bytes, files and sinks, words and their digests. They stand here, since a crate with tests of its own is proved
+//! in bytes, files, sinks and keepers, words and their digests. They stand here, since a crate with tests of its own is proved
 //! twice.
 #![tactic(auto)]
 
@@ -8,7 +8,11 @@ mod digests;
 #[cfg(test)]
 mod fields;
 #[cfg(test)]
+mod keepers;
+#[cfg(test)]
 mod lists;
+#[cfg(test)]
+mod real;
 #[cfg(test)]
 mod sinks;
 #[cfg(test)]

@@ -1,9 +1,7 @@
 use outside::{
-    Files, LoadAnswer, MemoryFiles, MemorySink, PutAnswer, RealErr, RealFiles, RealOut, Sink,
-    SteadyFiles, SteadySink,
+    Files, LoadAnswer, MemoryFiles, MemorySink, PutAnswer, Sink, SteadyFiles, SteadySink,
 };
 use std::test::Fail;
-use std::{fs, io};
 
 #[test]
 fn files_in_memory_fail_as_listed(rt: HostRuntime) -> Result<(), Fail> {
@@ -29,30 +27,5 @@ fn sinks_in_memory_fail_as_listed(rt: HostRuntime) -> Result<(), Fail> {
     let mut steady = SteadySink::make(rt.alloc());
     steady.put(&[5])?;
     assert_eq!(rt; steady.bytes(), [5].as_slice());
-    Ok(())
-}
-
-#[test]
-fn a_real_file_is_loaded(rt: HostRuntime) -> Result<(), Fail> {
-    let name = "outside_test_file.bin";
-    fs::write(&rt, name, [9u8, 10].as_slice())?;
-    let mut files = RealFiles::make(rt.alloc(), rt.clone()?);
-    let whole = files.load(name, 2);
-    let long = files.load(name, 1);
-    fs::remove_file(&rt, name)?;
-    assert_eq!(rt; whole?.as_slice(), [9, 10].as_slice());
-    assert_eq!(rt; long.err(), Some(LoadAnswer::TooLong));
-    assert_eq!(rt; files.load(name, 2).err(), Some(LoadAnswer::Failed));
-    Ok(())
-}
-
-#[test]
-fn real_output_is_put(rt: HostRuntime) -> Result<(), Fail> {
-    let mut out = RealOut::make(io::writer(&rt));
-    out.put(b"to standard output\n")?;
-    let mut err = RealErr::make(rt.stderr());
-    err.put(b"to standard error\n")?;
-    let mut short = RealOut::make(io::Cursor::new([0u8; 1]));
-    assert_eq!(rt; short.put(&[1, 2]), Err(PutAnswer::Failed));
     Ok(())
 }

@@ -1,4 +1,5 @@
 use Rattle.std.specs.Prelude.{◌≡◌, ℕ, List, ◌++◌, Option, None, Some, take, Result, Ok, Err}
+use Rattle.std.specs.Io.KnownBytes.{Appends}
 use Rattle.outside.specs.declared.sinks.PutAnswer.{PutAnswer}
 use Rattle.outside.specs.declared.sinks.PutAnswer.TheVariants as answer
 
@@ -13,3 +14,21 @@ abbrev pub PutGives : Option (List ℕ) → List ℕ → Result (Unit {0}) PutAn
 PutGives before piece (Ok _) after = after ≡ with_piece before piece
 PutGives before piece (Err answer.Failed) after = (count : ℕ) × (after ≡ with_piece before (take count piece))
 PutGives before piece (Err answer.Want) after = after ≡ before
+
+-- The count of faults rises only where a fault is answered.
+abbrev pub PutCounts : Result (Unit {0}) PutAnswer → ℕ → ℕ → Type 0
+PutCounts (Ok _) before after = after ≡ before
+PutCounts (Err answer.Failed) before after = Unit {0}
+PutCounts (Err answer.Want) before after = after ≡ before
+
+-- A writer as a sink: its errors so far, and the bytes that it holds, where it tells them.
+pub record Outlet : Type 0 where
+  pub faults : ℕ
+  pub written : Option (List ℕ)
+
+-- What a put does to a writer that tells its bytes: it takes the whole piece at Ok, and some beginning of it at a fault. It
+-- wants no memory.
+abbrev pub WritesPiece : Option (List ℕ) → List ℕ → Result (Unit {0}) PutAnswer → Option (List ℕ) → Type 0
+WritesPiece before piece (Ok _) after = Appends before after piece
+WritesPiece before piece (Err answer.Failed) after = (count : ℕ) × Appends before after (take count piece)
+WritesPiece before piece (Err answer.Want) after = ⊥

@@ -15,6 +15,20 @@ LoadGives content room (Err answer.TooLong) = room < length content
 LoadGives content room (Err answer.Failed) = Unit {0}
 LoadGives content room (Err answer.Want) = Unit {0}
 
+-- No file's count of faults rises but where a fault is answered.
+abbrev pub LoadCounts : Result (Vec ℕ Global) LoadAnswer → (List ℕ → ℕ) → (List ℕ → ℕ) → Type 0
+LoadCounts (Ok loaded) before after = (name : List ℕ) → after name ≡ before name
+LoadCounts (Err answer.TooLong) before after = (name : List ℕ) → after name ≡ before name
+LoadCounts (Err answer.Want) before after = (name : List ℕ) → after name ≡ before name
+LoadCounts (Err answer.Failed) before after = Unit {0}
+
+-- What is added to the bytes loaded so far: a whole piece where all of it has room, nothing of it for want of memory.
+abbrev pub AddsPiece : List ℕ → List ℕ → ℕ → Result (Unit {0}) LoadAnswer → List ℕ → Type 0
+AddsPiece before piece room (Ok _) after = (after ≡ before ++ piece) × (length after ≤ room)
+AddsPiece before piece room (Err answer.TooLong) after = room < length before + length piece
+AddsPiece before piece room (Err answer.Want) after = Unit {0}
+AddsPiece before piece room (Err answer.Failed) after = ⊥
+
 -- A listed file as its name and its content.
 abbrev pub listed : String Global × Vec ℕ Global → List ℕ × List ℕ
 listed file = (string_bytes file.0, file.1.items)

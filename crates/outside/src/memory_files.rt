@@ -1,6 +1,6 @@
 ghost use Rattle.std.specs.Prelude.{◌≡◌, ◌≢◌, ◌≤◌, ℕ, List, [], map, Option, None, Some, IfSome, IfOk, IsErrOf, vec_len, option_copied, unwrap_or, if◌then◌else◌};
 ghost use Rattle.outside.specs.Faults.{HasRisen};
-ghost use Rattle.outside.specs.Shelf.{LoadGives, listed, content_of, failures_of, ShelfLoads};
+ghost use Rattle.outside.specs.Shelf.{LoadGives, LoadCounts, listed, content_of, failures_of, ShelfLoads};
 
 use crate::files::{Files, LoadAnswer};
 use std::alloc::Global;
@@ -50,6 +50,7 @@ impl Files for MemoryFiles {
     fn load(&mut self, name: &str, room: u64) -> Result<Vec<u8>, LoadAnswer>
         ensures never_falls { (other : List ℕ) → failures_of self.old other ≤ failures_of self.new other }
         ensures failed { IsErrOf result LoadAnswer.Failed → HasRisen (failures_of self.old name.now) (failures_of self.new name.now) }
+        ensures counted { LoadCounts result (failures_of self.old) (failures_of self.new) }
         ensures content { IfSome (content_of self.old.files name.now) (λ content. LoadGives content room result) }
         ensures within_room { IfOk result (λ loaded. vec_len loaded ≤ room) }
         ensures kept { (other : List ℕ) → content_of self.new.files other ≡ content_of self.old.files other }

@@ -1,6 +1,6 @@
 ghost use Rattle.std.specs.Prelude.{◌≡◌, ◌≤◌, ℕ, List, [], Option, None, Some, IsErrOf};
 ghost use Rattle.outside.specs.Faults.{HasRisen};
-ghost use Rattle.outside.specs.Piece.{PutGives};
+ghost use Rattle.outside.specs.Piece.{PutGives, PutCounts};
 ghost use Rattle.outside.specs.Tray.{TrayPuts};
 
 use crate::sinks::{PutAnswer, Sink};
@@ -53,6 +53,7 @@ impl Sink for MemorySink {
     fn put(&mut self, piece: &[u8]) -> Result<(), PutAnswer>
         ensures never_falls { self.old.faults ≤ self.new.faults }
         ensures failed { IsErrOf result PutAnswer.Failed → HasRisen self.old.faults self.new.faults }
+        ensures counted { PutCounts result self.old.faults self.new.faults }
         ensures bytes { PutGives (Some self.old.put) piece.now result (Some self.new.put) }
         ensures exact { TrayPuts self.old piece.now result self.new }
     {

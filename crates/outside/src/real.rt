@@ -1,4 +1,9 @@
-ghost use Rattle.std.specs.Prelude.{◌≡◌, ◌≤◌, ◌+◌, ◌^◌, ◌-◌, ℕ, List, Option, None, IfOk, IfErr, vec_len, min};
+ghost use Rattle.std.specs.Prelude.{◌≡◌, ◌≤◌, ◌+◌, ◌^◌, ◌-◌, ℕ, List, Option, None, IfOk, IfErr, IfSome, IsErrOf, vec_len, min, take};
+ghost use Rattle.std.specs.Bool.{OnTrue};
+ghost use Rattle.std.specs.Io.KnownBytes.{Appends};
+ghost use Rattle.outside.specs.Faults.{HasRisen};
+ghost use Rattle.outside.specs.Piece.{PutGives, PutCounts, WritesPiece};
+ghost use Rattle.outside.specs.Shelf.{LoadGives, AddsPiece};
 
 use crate::files::{Files, LoadAnswer};
 use crate::sinks::{PutAnswer, Sink};
@@ -44,7 +49,7 @@ impl<R: FileSystem> Files for RealFiles<R> {
 
     fn load(&mut self, name: &str, room: u64) -> Result<Vec<u8>, LoadAnswer> {
         let answer = match fs::open(&self.system, name) {
-            Ok(file) => read_whole(self.alloc, file, room),
+            Ok(mut file) => read_whole(self.alloc, &mut file, room),
             Err(_) => Err(LoadAnswer::Failed),
         };
         if matches!(answer, Err(LoadAnswer::Failed)) {
@@ -54,32 +59,38 @@ impl<R: FileSystem> Files for RealFiles<R> {
     }
 }
 
-// Reads to the end, which a read of nothing shows.
-fn read_whole<S: Read + Drop>(
-    alloc: Global,
-    mut source: S,
-    room: u64,
-) -> Result<Vec<u8>, LoadAnswer>
-    ensures { IfOk result (λ loaded. vec_len loaded ≤ room) }
+/// The whole of what a reader gives from here on, of at most `room` bytes. A read of nothing is its
+/// end. After a refusal the reader stands anywhere.
+pub fn read_whole<S: Read>(alloc: Global, source: &mut S, room: u64) -> Result<Vec<u8>, LoadAnswer>
+    ensures content { IfSome (S.remaining source.old) (λ content. LoadGives content room result) }
+    ensures within_room { IfOk result (λ loaded. vec_len loaded ≤ room) }
 {
     let mut loaded = Vec::new(alloc);
     let mut piece = [0u8; PIECE];
-    for _ in 0..u64::MAX {
-        let count = source.read(&mut piece).map_err(|_| LoadAnswer::Failed)?;
-        if count == 0 {
-            return Ok(loaded);
+    loop {
+        match source.read(&mut piece) {
+            Err(_) => return Err(LoadAnswer::Failed),
+            Ok(0) => return Ok(loaded),
+            Ok(count) => add_piece(&mut loaded, &piece[..count], room)?,
         }
-        if count as u64 > room - loaded.len() as u64 {
-            return Err(LoadAnswer::TooLong);
-        }
-        loaded
-            .extend_from_slice(&piece[..count])
-            .map_err(|_| LoadAnswer::Want)?;
     }
-    Err(LoadAnswer::Failed)
 }
 
-/// Standard output, or another writer in its place. It counts its errors and tells no bytes.
+// Adds a piece where all of it has room.
+fn add_piece(loaded: &mut Vec<u8>, piece: &[u8], room: u64) -> Result<(), LoadAnswer>
+    requires { vec_len loaded.old ≤ room }
+    ensures { AddsPiece loaded.old.items piece.now room result loaded.new.items }
+{
+    if piece.len() as u64 > room - loaded.len() as u64 {
+        return Err(LoadAnswer::TooLong);
+    }
+    loaded
+        .extend_from_slice(piece)
+        .map_err(|_| LoadAnswer::Want)
+}
+
+/// Standard output, or another writer in its place. As a sink it tells no bytes, since what the system does
+/// with them is outside all that is proved; of a writer that tells what it holds each put says what it takes.
 #[derive(Drop)]
 pub struct RealOut<W: Write> {
     writer: W,
@@ -87,27 +98,34 @@ pub struct RealOut<W: Write> {
 }
 
 impl<W: Write> Model for RealOut<W> {
-    ghost Value = { ℕ };
+    ghost use Rattle.outside.specs.Piece.{Outlet};
 
-    ghost view = { λ real. real.faults };
+    ghost Value = { Outlet };
+
+    ghost view = { λ real. record { faults = real.faults; written = W.contents real.writer } };
 }
 
 impl<W: Write> RealOut<W> {
     pub fn make(writer: W) -> Self
-        ensures { result ≡ 0 }
+        ensures { result ≡ record { faults = 0; written = W.contents writer } }
     {
         RealOut { writer, faults: 0 }
     }
 }
 
 impl<W: Write> Sink for RealOut<W> {
-    ghost faults = { λ count. count };
+    ghost faults = { λ outlet. outlet.faults };
 
     ghost told = { λ _. None };
 
-    fn put(&mut self, piece: &[u8]) -> Result<(), PutAnswer> {
-        let is_whole = write_whole(&mut self.writer, piece);
-        if is_whole {
+    fn put(&mut self, piece: &[u8]) -> Result<(), PutAnswer>
+        ensures never_falls { self.old.faults ≤ self.new.faults }
+        ensures failed { IsErrOf result PutAnswer.Failed → HasRisen self.old.faults self.new.faults }
+        ensures counted { PutCounts result self.old.faults self.new.faults }
+        ensures bytes { PutGives None piece.now result None }
+        ensures written { WritesPiece self.old.written piece.now result self.new.written }
+    {
+        if write_whole(&mut self.writer, piece) {
             return Ok(());
         }
         self.faults = self.faults.saturating_add(1);
@@ -115,7 +133,8 @@ impl<W: Write> Sink for RealOut<W> {
     }
 }
 
-/// Standard error, or another writer in its place. It counts its errors and tells no bytes.
+/// Standard error, or another writer in its place. As a sink it tells no bytes, since what the system does
+/// with them is outside all that is proved; of a writer that tells what it holds each put says what it takes.
 #[derive(Drop)]
 pub struct RealErr<W: Write> {
     writer: W,
@@ -123,27 +142,34 @@ pub struct RealErr<W: Write> {
 }
 
 impl<W: Write> Model for RealErr<W> {
-    ghost Value = { ℕ };
+    ghost use Rattle.outside.specs.Piece.{Outlet};
 
-    ghost view = { λ real. real.faults };
+    ghost Value = { Outlet };
+
+    ghost view = { λ real. record { faults = real.faults; written = W.contents real.writer } };
 }
 
 impl<W: Write> RealErr<W> {
     pub fn make(writer: W) -> Self
-        ensures { result ≡ 0 }
+        ensures { result ≡ record { faults = 0; written = W.contents writer } }
     {
         RealErr { writer, faults: 0 }
     }
 }
 
 impl<W: Write> Sink for RealErr<W> {
-    ghost faults = { λ count. count };
+    ghost faults = { λ outlet. outlet.faults };
 
     ghost told = { λ _. None };
 
-    fn put(&mut self, piece: &[u8]) -> Result<(), PutAnswer> {
-        let is_whole = write_whole(&mut self.writer, piece);
-        if is_whole {
+    fn put(&mut self, piece: &[u8]) -> Result<(), PutAnswer>
+        ensures never_falls { self.old.faults ≤ self.new.faults }
+        ensures failed { IsErrOf result PutAnswer.Failed → HasRisen self.old.faults self.new.faults }
+        ensures counted { PutCounts result self.old.faults self.new.faults }
+        ensures bytes { PutGives None piece.now result None }
+        ensures written { WritesPiece self.old.written piece.now result self.new.written }
+    {
+        if write_whole(&mut self.writer, piece) {
             return Ok(());
         }
         self.faults = self.faults.saturating_add(1);
@@ -152,12 +178,16 @@ impl<W: Write> Sink for RealErr<W> {
 }
 
 // Whether the writer took the whole piece. A write that takes nothing of what is left is an error.
-fn write_whole<W: Write>(writer: &mut W, piece: &[u8]) -> bool {
+fn write_whole<W: Write>(writer: &mut W, piece: &[u8]) -> bool
+    ensures whole { OnTrue result (Appends (W.contents writer.old) (W.contents writer.new) piece.now) }
+    ensures beginning { (count : ℕ) × Appends (W.contents writer.old) (W.contents writer.new) (take count piece.now) }
+{
     let mut rest = piece;
     while !rest.is_empty() {
         match writer.write(rest) {
-            Ok(0) | Err(_) => return false,
-            Ok(taken) => rest = &rest[taken..],
+            Ok(0) => return false,
+            Err(_) => return false,
+            Ok(taken) => rest = rest.split_at(taken).1,
         }
     }
     writer.flush().is_ok()

@@ -1,6 +1,6 @@
 ghost use Rattle.std.specs.Prelude.{◌≡◌, ◌≤◌, ℕ, List, Option, None, IsErrOf};
 ghost use Rattle.outside.specs.Faults.{HasRisen};
-ghost use Rattle.outside.specs.Piece.{PutGives};
+ghost use Rattle.outside.specs.Piece.{PutGives, PutCounts};
 
 use thiserror::Error;
 
@@ -25,5 +25,6 @@ pub trait Sink {
     fn put(&mut self, piece: &[u8]) -> Result<(), PutAnswer>
         ensures never_falls { faults self.old ≤ faults self.new }
         ensures failed { IsErrOf result PutAnswer.Failed → HasRisen (faults self.old) (faults self.new) }
+        ensures counted { PutCounts result (faults self.old) (faults self.new) }
         ensures bytes { PutGives (told self.old) piece.now result (told self.new) };
 }

@@ -1,9 +1,12 @@
-use outside::{MemoryFiles, MemorySink, SteadySink};
+use outside::{MemoryFiles, MemorySink};
 use run_program::spire::spire;
 use std::alloc::Global;
 use std::test::Fail;
 
 const FIRST: &str = "command s0 ack 0\nflow 3\n";
+
+/// Its text has more than two pieces of 512 bytes.
+const LONG: &str = "command s0 ack 0\ncommand s0 ack 1\ncommand s0 ack 2\nflow 3\n";
 
 /// What a play ends in: its status, the line on the error output, and how many bytes were put to the output.
 #[derive(Drop)]
@@ -29,12 +32,12 @@ fn words_of(alloc: Global, with_name: bool) -> Result<Vec<String>, Fail> {
     Ok(words)
 }
 
-// Plays a script over an output whose put of this number fails.
+// Plays a script over an output whose put of this number fails, and an error output whose second put would.
 fn play(alloc: Global, script: &str, with_name: bool, failing: u64) -> Result<Ending, Fail> {
     let words = words_of(alloc, with_name)?;
     let mut files = files_of(alloc, script)?;
     let mut out = MemorySink::make(alloc, vec![in alloc; failing]?);
-    let mut err = SteadySink::make(alloc);
+    let mut err = MemorySink::make(alloc, vec![in alloc; 2]?);
     let status = spire(alloc, &words, &mut files, &mut out, &mut err);
     Ok(Ending {
         status,
@@ -49,6 +52,14 @@ fn a_failing_output_is_told(rt: HostRuntime) -> Result<(), Fail> {
     assert_eq!(rt; ending.status, 6);
     assert_eq!(rt; ending.line.as_slice(), b"spire: output fault\n".as_slice());
     assert_eq!(rt; ending.put, 0);
+    Ok(())
+}
+
+#[test]
+fn the_output_takes_pieces_of_512_bytes(rt: HostRuntime) -> Result<(), Fail> {
+    let ending = play(rt.alloc(), LONG, true, 3)?;
+    assert_eq!(rt; ending.status, 6);
+    assert_eq!(rt; ending.put, 1024);
     Ok(())
 }
 

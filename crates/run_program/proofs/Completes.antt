@@ -1,5 +1,5 @@
 -- Why a call that nothing troubles ends with the whole text, or for want of memory.
-use Rattle.std.proofs.Common.{◌≡◌, ℕ, List, Option, None, Some, Result, Ok, Err, refl, sym, ◌∙◌, ap, subst, arith, ◌<◌, ◌≤◌}
+use Rattle.std.proofs.Common.{◌≡◌, ℕ, List, Option, None, Some, Result, Ok, Err, sym, ◌∙◌, ap, subst, arith, ◌<◌, ◌≤◌}
 use Rattle.std.specs.Prelude.{length}
 use Rattle.std.proofs.lemmas.Option.{none-some, same_Some}
 use Rattle.outside.specs.Faults.{HasRisen}
@@ -36,7 +36,7 @@ same_lines call lines text free defines =
     defines.is_text ∙ ap text_of_play (same_Some defines.lines lines read)
 
 status_of_want : (err : ErrorSink) (status : ℕ) → Told refusal.Memory err status → status ≡ 7
-status_of_want err status (Told.whole is line) = is
+status_of_want err status (Told.whole is none line) = is
 status_of_want err status (Told.begun is risen put) = is
 status_of_want err status (Told.memory is put) = is
 

@@ -1,16 +1,20 @@
 -- Texts and deliveries made part by part, each part with its number.
-use Rattle.std.proofs.Common.{◌≡◌, ℕ, zero, suc, ◌+◌, ◌≤◌, ◌<◌, List, [], ◌∷◌, ◌++◌, Option, None, Some, drop, length, get_or, refl, sym, ◌∙◌, ap, subst, arith, append_assoc, append-nil, drop-cons}
+use Rattle.std.proofs.Common.{◌≡◌, ℕ, zero, suc, ◌+◌, ◌≤◌, ◌<◌, List, [], ◌∷◌, ◌++◌, Option, None, Some, drop, take, length, get_or, refl, sym, ◌∙◌, ap, subst, arith, append_assoc, append-nil, drop-cons}
 use Rattle.std.specs.Prelude.{◌==◌, true, false, codes}
 use Rattle.std.proofs.lemmas.Bool.Decides.{nat_tests}
 use Rattle.std.proofs.lemmas.List.{drop_all}
+use Rattle.std.proofs.lemmas.List.Sums.{fold_more}
 use Rattle.message_types.specs.declared.updates.Update.{Update}
 use Rattle.message_types.specs.declared.body.Body.{Body}
 use Rattle.protocol_rules.specs.Group.{most_number}
 use Rattle.protocol_rules.specs.Words.{run_from}
 use Rattle.run_program.specs.declared.history.Entry.{Entry}
-use Rattle.run_program.specs.Play.{Mind, Making, execution, executions, deliveries, deliveries_of, rounds, round}
+use Rattle.run_program.specs.Play.{Mind, Making, execution, executions, deliveries, deliveries_of, rounds, round, take_delivery, play_line, beginning, command}
 use Rattle.run_program.specs.Text.{maybe_text, updates_text, entry_text, entries_text, master_text, masters_text, said_text, kind_text}
-use Rattle.std.specs.List.{flat_map}
+use Rattle.run_program.specs.declared.history.Delivery.{Delivery}
+use Rattle.run_program.specs.declared.script.Line.{Line}
+use Rattle.run_program.specs.declared.script.Line.TheVariants as line
+use Rattle.std.specs.List.{flat_map, fold}
 
 next-drop : {X : Type 0} (xs : List X) (i : ℕ) (x : X) → i < length xs → x ≡ get_or xs i x → x ∷ drop (i + 1) xs ≡ drop i xs
 next-drop xs i x inside is =
@@ -124,3 +128,39 @@ rounds-none m = refl
 pub rounds-more : (n : ℕ) (m : Making) → rounds (n + 1) m ≡ round (rounds n m)
 unfolding rounds
 rounds-more n m = let later : n + 1 ≡ suc n = omega arith in ap (λ k. rounds k m) later
+
+-- only a command's line is counted
+commands-taken : (m : Making) (d : Delivery) → (take_delivery m d).commands ≡ m.commands
+unfolding take_delivery
+commands-taken m d = refl
+
+commands-all : (m : Making) (ds : List Delivery) → (fold take_delivery m ds).commands ≡ m.commands
+commands-all m [] = refl
+commands-all m (d ∷ ds) = commands-all (take_delivery m d) ds ∙ commands-taken m d
+
+commands-round : (m : Making) → (round m).commands ≡ m.commands
+unfolding round
+commands-round m = commands-all (record m { waiting = [] }) m.waiting
+
+commands-rounds : (n : ℕ) (m : Making) → (rounds n m).commands ≡ m.commands
+unfolding rounds
+commands-rounds zero m = refl
+commands-rounds (suc n) m = commands-round (rounds n m) ∙ commands-rounds n m
+
+commands-line : (m : Making) (l : Line) → (play_line m l).commands ≤ m.commands + 1
+unfolding command
+commands-line m (line.Command alarm) = omega arith
+commands-line m (line.Flow count) = omega (arith, commands-rounds count m)
+
+-- one line more is one command more at most
+pub few-more : (m new : Making) (l : Line) (count : ℕ) → new ≡ play_line m l → m.commands ≤ count → new.commands ≤ count + 1
+few-more m new l count next few =
+    let same : new.commands ≡ (play_line m l).commands = ap (λ (x : Making). x.commands) next in
+    let more = commands-line m l in
+    omega arith
+
+-- one line more is played
+pub one-line-more : (lines : List Line) (i : ℕ) (other : Line) (before after : Making) → i < length lines
+    → before ≡ fold play_line beginning (take i lines) → after ≡ play_line before (get_or lines i other) → after ≡ fold play_line beginning (take (i + 1) lines)
+one-line-more lines i other before after inside played next =
+    next ∙ ap (λ (m : Making). play_line m (get_or lines i other)) played ∙ sym (fold_more play_line beginning lines i other inside)

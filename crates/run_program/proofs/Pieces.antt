@@ -1,6 +1,6 @@
 -- Texts put piece by piece.
-use Rattle.std.proofs.Common.{◌≡◌, ℕ, ◌+◌, ◌≤◌, List, [], ◌++◌, Option, None, Some, Result, Ok, Err, take, length, min, refl, sym, ◌∙◌, ap, arith, append_assoc}
-use Rattle.outside.specs.Piece.{with_piece, PutGives}
+use Rattle.std.proofs.Common.{◌≡◌, ℕ, ◌+◌, ◌≤◌, List, [], ◌++◌, Option, None, Some, Result, Ok, Err, take, length, min, refl, sym, ◌∙◌, ap, subst, arith, append_assoc}
+use Rattle.outside.specs.Piece.{with_piece, PutGives, PutCounts}
 use Rattle.outside.specs.declared.sinks.PutAnswer.{PutAnswer}
 use Rattle.outside.specs.declared.sinks.PutAnswer.TheVariants as answer
 use Rattle.run_program.specs.Output.{PutsBeginning}
@@ -43,3 +43,7 @@ pub any-beginning : (before after : Option (List ℕ)) (piece : List ℕ) (resul
 any-beginning before after piece (Ok done) put = (length piece, put ∙ ap (with_piece before) (sym (take-length piece)))
 any-beginning before after piece (Err answer.Failed) put = put
 any-beginning before after piece (Err answer.Want) put = (0, put ∙ with_piece-none before)
+
+-- the count is the same from before, where none rose until then
+pub counts-after : (before middle after : ℕ) (why : PutAnswer) → middle ≡ before → PutCounts (Err why) middle after → PutCounts (Err why) before after
+counts-after before middle after why same put = subst (λ count. PutCounts (Err why) count after) same put

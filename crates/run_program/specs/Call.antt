@@ -76,6 +76,28 @@ abbrev pub PutsInMemory : Call → Result (Unit {0}) Refusal → Type 0
 PutsInMemory call (Err refusal.Memory) = NothingOrBegun call
 PutsInMemory call _ = Unit {0}
 
+-- No file's count of faults rose.
+abbrev pub CountsStay : (List ℕ → ℕ) → (List ℕ → ℕ) → Type 0
+CountsStay before after = (name : List ℕ) → after name ≡ before name
+
+-- What a refusal tells of the files' counts of faults, and of the output's: none rises but at a fault that is told.
+abbrev pub FileCounts : Refusal → (List ℕ → ℕ) → (List ℕ → ℕ) → Type 0
+FileCounts (refusal.Fault name) before after = Unit {0}
+FileCounts _ before after = CountsStay before after
+
+abbrev pub OutCounts : Refusal → ℕ → ℕ → Type 0
+OutCounts refusal.Output before after = Unit {0}
+OutCounts _ before after = after ≡ before
+
+-- the same of every end of a call or of a part of it
+abbrev pub FaultsOfFiles : {V : Type 0} → Result V Refusal → (List ℕ → ℕ) → (List ℕ → ℕ) → Type 0
+FaultsOfFiles (Ok _) before after = CountsStay before after
+FaultsOfFiles (Err refused) before after = FileCounts refused before after
+
+abbrev pub FaultsOfOut : {V : Type 0} → Result V Refusal → ℕ → ℕ → Type 0
+FaultsOfOut (Ok _) before after = after ≡ before
+FaultsOfOut (Err refused) before after = OutCounts refused before after
+
 -- the status and the line of each refusal
 abbrev pub status_of : Refusal → ℕ
 status_of refusal.Usage = 2

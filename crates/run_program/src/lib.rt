@@ -4,6 +4,7 @@
 
 mod history;
 mod master;
+pub mod no_words;
 mod output;
 mod play;
 mod print;

@@ -1,4 +1,4 @@
-ghost use Rattle.std.specs.Prelude.{◌≡◌, ◌++◌, OnOk, IfOk, map};
+ghost use Rattle.std.specs.Prelude.{◌≡◌, ◌++◌, ◌+◌, ◌-◌, ◌^◌, ◌<◌, OnOk, IfOk, map};
 ghost use Rattle.std.specs.List.{fold};
 ghost use Rattle.run_program.specs.Play.{four_masters, new_mind, said_at, masters_after, is_addressee, delivery_to, deliveries_of, deliveries, with_entry, take_delivery, round, rounds, command, play_line, beginning, played};
 ghost use Rattle.quorum_sets.specs.Masters.{numbers_below};
@@ -40,6 +40,7 @@ pub fn play_lines(alloc: Global, lines: &[Line]) -> Result<Play, Want>
 }
 
 fn play_line(play: &mut Play, line: Line) -> Result<(), Want>
+    requires { play.old.commands < 2 ^ 64 - 1 }
     ensures { OnOk result (making_of play.new ≡ play_line (making_of play.old) line) }
 {
     match line {
@@ -65,7 +66,7 @@ fn begin(alloc: Global) -> Result<Play, Want>
 fn begin_masters(alloc: Global) -> Result<Vec<Master>, Want>
     ensures { IfOk result (λ masters. masters.items ≡ map new_mind (numbers_below 4)) }
 {
-    let sizes = four_masters()?;
+    let sizes = four_masters();
     let mut masters = Vec::with_capacity(alloc, 4)?;
     masters.push(Master::new(alloc, sizes, 0))?;
     masters.push(Master::new(alloc, sizes, 1))?;
@@ -74,24 +75,22 @@ fn begin_masters(alloc: Global) -> Result<Vec<Master>, Want>
     Ok(masters)
 }
 
-fn four_masters() -> Result<Sizes, Want>
-    ensures { IfOk result (λ sizes. group_of sizes 1 ≡ four_masters) }
+fn four_masters() -> Sizes
+    ensures { group_of result 1 ≡ four_masters }
 {
     match Sizes::new(1, 0) {
-        Ok(sizes) => Ok(sizes),
-        Err(_) => Err(Want),
+        Ok(sizes) => sizes,
+        Err(_) => unreachable!(),
     }
 }
 
 // The screen says the update of an alarm's acknowledgement.
 #[tactic(auto, unfolding(crate::specs::Play::command))]
 fn command(play: &mut Play, alarm: u32) -> Result<(), Want>
+    requires { play.old.commands < 2 ^ 64 - 1 }
     ensures { OnOk result (making_of play.new ≡ command (making_of play.old) alarm) }
 {
-    // A script has far fewer commands than would be too many here.
-    let Some(t) = play.commands.checked_add(1) else {
-        return Err(Want);
-    };
+    let t = play.commands + 1;
     let update = Update {
         client: 0,
         t,

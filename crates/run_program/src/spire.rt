@@ -1,5 +1,5 @@
 ghost use Rattle.std.specs.Prelude.{◌≡◌, ◌≤◌, ◌<◌, IfOk, OnOk, map, string_bytes, Ok};
-ghost use Rattle.run_program.specs.Call.{CauseOf, PutsInMemory};
+ghost use Rattle.run_program.specs.Call.{CauseOf, PutsInMemory, FaultsOfFiles, FaultsOfOut};
 ghost use Rattle.run_program.specs.Text.{text_of_play};
 ghost use Rattle.run_program.specs.Ended.{Ends};
 ghost use Rattle.run_program.specs.Complete.{Completes};
@@ -52,6 +52,8 @@ fn run<F: Files, O: Sink>(
 ) -> Result<(), Refusal>
     ensures cause { CauseOf record { words = map string_bytes words.now.items; held = F.held files.old; faults_before = F.faults files.old; faults_after = F.faults files.new; out_faults_before = O.faults out.old; out_faults_after = O.faults out.new; put_before = O.told out.old; put_after = O.told out.new } result }
     ensures memory { PutsInMemory record { words = map string_bytes words.now.items; held = F.held files.old; faults_before = F.faults files.old; faults_after = F.faults files.new; out_faults_before = O.faults out.old; out_faults_after = O.faults out.new; put_before = O.told out.old; put_after = O.told out.new } result }
+    ensures file_faults { FaultsOfFiles result (F.faults files.old) (F.faults files.new) }
+    ensures out_faults { FaultsOfOut result (O.faults out.old) (O.faults out.new) }
 {
     match read_words(words) {
         None => Err(Refusal::Usage),
@@ -66,7 +68,8 @@ fn run<F: Files, O: Sink>(
 }
 
 fn put<O: Sink>(text: &[u8], out: &mut O) -> Result<(), Refusal>
-    ensures { PutCause (O.faults out.old) (O.faults out.new) (O.told out.old) (O.told out.new) text.now result }
+    ensures out_faults { FaultsOfOut result (O.faults out.old) (O.faults out.new) }
+    ensures cause { PutCause (O.faults out.old) (O.faults out.new) (O.told out.old) (O.told out.new) text.now result }
 {
     match put_text(text, out) {
         Ok(()) => Ok(()),
@@ -76,18 +79,17 @@ fn put<O: Sink>(text: &[u8], out: &mut O) -> Result<(), Refusal>
 }
 
 fn load<F: Files>(alloc: Global, name: &str, files: &mut F) -> Result<Vec<u8>, Refusal>
-    ensures { LoadCause (F.held files.old name.now) (F.faults files.old name.now) (F.faults files.new name.now) name.now result }
+    ensures file_faults { FaultsOfFiles result (F.faults files.old) (F.faults files.new) }
+    ensures cause { LoadCause (F.held files.old name.now) (F.faults files.old name.now) (F.faults files.new name.now) name.now result }
 {
+    // The name is copied first, so that no fault is told as want of memory.
+    let Ok(named) = Text::from_str(alloc, name) else {
+        return Err(Refusal::Memory);
+    };
     match files.load(name, MOST_BYTES) {
         Ok(content) => Ok(content),
-        Err(LoadAnswer::Failed) => match Text::from_str(alloc, name) {
-            Ok(name) => Err(Refusal::Fault { name }),
-            Err(_) => Err(Refusal::Memory),
-        },
-        Err(LoadAnswer::TooLong) => match Text::from_str(alloc, name) {
-            Ok(name) => Err(Refusal::TooLong { name }),
-            Err(_) => Err(Refusal::Memory),
-        },
+        Err(LoadAnswer::Failed) => Err(Refusal::Fault { name: named }),
+        Err(LoadAnswer::TooLong) => Err(Refusal::TooLong { name: named }),
         Err(LoadAnswer::Want) => Err(Refusal::Memory),
     }
 }

@@ -2,19 +2,34 @@
 #![tactic(auto)]
 
 use outside::{RealErr, RealFiles, RealOut};
+use run_program::no_words::{NoWords, spire_without_words};
 use run_program::spire::spire;
 use std::process::ExitCode;
 use std::{env, io};
 
-fn main(rt: HostRuntime) -> io::Result<ExitCode> {
+fn main(rt: HostRuntime) -> ExitCode {
     let alloc = rt.alloc();
-    let mut words = Vec::new(alloc);
-    for word in env::args(&rt)?.skip(1) {
-        words.push(word)?;
-    }
-    let mut files = RealFiles::make(alloc, rt.clone()?);
-    let mut out = RealOut::make(io::writer(&rt));
     let mut err = RealErr::make(rt.stderr());
-    let status = spire(alloc, &words, &mut files, &mut out, &mut err);
-    Ok(ExitCode::from(status))
+    let status = match read_words(&rt) {
+        Ok(words) => {
+            let mut files = RealFiles::make(alloc, &rt);
+            let mut out = RealOut::make(io::writer(&rt));
+            spire(alloc, &words, &mut files, &mut out, &mut err)
+        }
+        Err(why) => spire_without_words(alloc, why, &mut err),
+    };
+    ExitCode::from(status)
+}
+
+// The words after the program's name.
+fn read_words(rt: &HostRuntime) -> Result<Vec<String>, NoWords> {
+    let args = env::args(rt).map_err(|error| match error.kind() {
+        io::ErrorKind::OutOfMemory => NoWords::Want,
+        _ => NoWords::NotText,
+    })?;
+    let mut words = Vec::new(rt.alloc());
+    for word in args.skip(1) {
+        words.push(word).map_err(|_| NoWords::Want)?;
+    }
+    Ok(words)
 }

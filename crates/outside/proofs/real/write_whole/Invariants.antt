@@ -1,5 +1,14 @@
-use Rattle.std.proofs.Common.{length}
+use Rattle.std.proofs.Common.{◌≡◌, ◌++◌, ℕ, List, length}
+use Rattle.std.specs.Io.KnownBytes.{Appends}
 use Rattle.outside.proofs.real.write_whole.Given as goal
+
+-- the piece is what was written so far and the rest
+abbrev pub invariant-loop-rest : goal.invariant-loop-rest
+invariant-loop-rest g l = record {
+  done : List ℕ;
+  whole : l.piece ≡ done ++ l.rest;
+  written : Appends (g.W.Write.contents l.initial.writer) (g.W.Write.contents l.writer) done;
+}
 
 abbrev pub decreases-loop-rest : goal.decreases-loop-rest
 decreases-loop-rest g l = length l.rest

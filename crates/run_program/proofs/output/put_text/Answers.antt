@@ -1,32 +1,46 @@
-use Rattle.std.proofs.Common.{◌≡◌, ◌++◌, arith, sym, ◌∙◌, ap, append_assoc, take}
-use Rattle.std.proofs.lemmas.List.{take-append-drop}
+use Rattle.std.proofs.Common.{◌≡◌, ◌++◌, length, sym, ◌∙◌, ap, append_assoc, take, arith}
+use Rattle.std.proofs.lemmas.List.{take-append-drop, length-drop}
 use Rattle.outside.specs.Piece.{with_piece}
-use Rattle.run_program.proofs.Pieces.{with_piece-more, refused-after}
+use Rattle.run_program.specs.Output.{piece_length}
+use Rattle.run_program.proofs.Pieces.{with_piece-more, refused-after, counts-after}
+use Rattle.run_program.proofs.ScriptSteps.{is_some-more}
 use Rattle.run_program.proofs.output.put_text.Goals as goal
+
+pub loop-rest-smaller : goal.loop-rest-smaller
+loop-rest-smaller g c =
+    let rest = c.loop-rest.rest.now in
+    let some = is_some-more rest c.loop-rest-test.ensures in
+    let left = ap length c.next_piece.ensures.after ∙ length-drop piece_length rest in
+    omega arith
 
 pub loop-rest-preserved : goal.loop-rest-preserved
 loop-rest-preserved g c =
     let rest = c.loop-rest.rest.now in
-    let end = c.min-end.result in
+    let piece = c.next_piece.result.0.now in
+    let after = c.next_piece.result.1.now in
     let before = c.loop-rest.invariant in
-    let cut : rest ≡ c.split_at.result.0.now ++ c.split_at.result.1.now =
-    sym (ap (λ front. front ++ c.split_at.result.1.now) c.split_at.ensures.front
-    ∙ ap (λ back. take end rest ++ back) c.split_at.ensures.back ∙ take-append-drop end rest) in
+    let cut : rest ≡ piece ++ after =
+    sym (ap (λ front. front ++ after) c.next_piece.ensures.piece
+    ∙ ap (λ back. take piece_length rest ++ back) c.next_piece.ensures.after ∙ take-append-drop piece_length rest) in
     record {
-      never_falls = omega arith;
-      done = before.done ++ c.split_at.result.0.now;
-      text = before.text ∙ ap (λ more. before.done ++ more) cut ∙ sym (append_assoc before.done c.split_at.result.0.now c.split_at.result.1.now);
-      put = c.in-Ok.ensures.bytes ∙ ap (λ told. with_piece told c.split_at.result.0.now) before.put
-          ∙ with_piece-more (g.O.Sink.told c.args.out.now) before.done c.split_at.result.0.now;
+      none = c.in-Ok.ensures.counted ∙ before.none;
+      done = before.done ++ piece;
+      text = before.text ∙ ap (λ more. before.done ++ more) cut ∙ sym (append_assoc before.done piece after);
+      put = c.in-Ok.ensures.bytes ∙ ap (λ told. with_piece told piece) before.put
+          ∙ with_piece-more (g.O.Sink.told c.args.out.now) before.done piece;
     }
+
+pub returns-in-Err-clause-counted : goal.returns-in-Err-clause-counted
+returns-in-Err-clause-counted g c = counts-after _ _ _ c.in-Err.answer c.loop-rest.invariant.none c.in-Err.ensures.counted
 
 pub returns-in-Err-clause-bytes : goal.returns-in-Err-clause-bytes
 returns-in-Err-clause-bytes g c =
     let rest = c.loop-rest.rest.now in
-    let end = c.min-end.result in
+    let piece = c.next_piece.result.0.now in
+    let after = c.next_piece.result.1.now in
     let before = c.loop-rest.invariant in
-    let cut : rest ≡ c.split_at.result.0.now ++ c.split_at.result.1.now =
-    sym (ap (λ front. front ++ c.split_at.result.1.now) c.split_at.ensures.front
-    ∙ ap (λ back. take end rest ++ back) c.split_at.ensures.back ∙ take-append-drop end rest) in
-    refused-after (g.O.Sink.told c.args.out.now) _ _ before.done c.split_at.result.0.now c.split_at.result.1.now c.args.text.now c.in-Err.answer
+    let cut : rest ≡ piece ++ after =
+    sym (ap (λ front. front ++ after) c.next_piece.ensures.piece
+    ∙ ap (λ back. take piece_length rest ++ back) c.next_piece.ensures.after ∙ take-append-drop piece_length rest) in
+    refused-after (g.O.Sink.told c.args.out.now) _ _ before.done piece after c.args.text.now c.in-Err.answer
     before.put (before.text ∙ ap (λ more. before.done ++ more) cut) c.in-Err.ensures.bytes

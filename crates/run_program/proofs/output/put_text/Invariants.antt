@@ -1,11 +1,11 @@
-use Rattle.std.proofs.Common.{◌≡◌, ◌≤◌, ◌++◌, ℕ, List, length}
+use Rattle.std.proofs.Common.{◌≡◌, ◌++◌, ℕ, List, length}
 use Rattle.outside.specs.Piece.{with_piece}
 use Rattle.run_program.proofs.output.put_text.Given as goal
 
--- the text is what was put so far and the rest
+-- the text is what was put so far and the rest, and no fault came
 abbrev pub invariant-loop-rest : goal.invariant-loop-rest
 invariant-loop-rest g l = record {
-  never_falls : g.O.Sink.faults l.initial.out ≤ g.O.Sink.faults l.out;
+  none : g.O.Sink.faults l.out ≡ g.O.Sink.faults l.initial.out;
   done : List ℕ;
   text : l.text ≡ done ++ l.rest;
   put : g.O.Sink.told l.out ≡ with_piece (g.O.Sink.told l.initial.out) done;

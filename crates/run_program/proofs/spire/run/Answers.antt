@@ -16,4 +16,4 @@ returns-clause-memory g c =
       put_after = g.O.Sink.told c.put.new.out;
     } in
     let defines : Defines call c.as_bytes.result.now = search rules in
-    puts_in_memory call c.as_bytes.result.now c.put.result defines c.put.ensures
+    puts_in_memory call c.as_bytes.result.now c.put.result defines c.put.ensures.cause
