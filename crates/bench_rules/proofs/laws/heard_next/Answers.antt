@@ -1,0 +1,5 @@
+use Rattle.bench_rules.proofs.Hearing.{heard_next}
+use Rattle.bench_rules.proofs.laws.heard_next.Goals as goal
+
+pub returns : goal.returns
+returns c = heard_next

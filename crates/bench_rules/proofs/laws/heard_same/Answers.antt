@@ -1,0 +1,5 @@
+use Rattle.bench_rules.proofs.Hearing.{heard_same}
+use Rattle.bench_rules.proofs.laws.heard_same.Goals as goal
+
+pub returns : goal.returns
+returns c = heard_same

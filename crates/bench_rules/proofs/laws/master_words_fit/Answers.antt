@@ -1,0 +1,5 @@
+use Rattle.bench_rules.proofs.Standing.{master_words_fit}
+use Rattle.bench_rules.proofs.laws.master_words_fit.Goals as goal
+
+pub returns : goal.returns
+returns c = master_words_fit

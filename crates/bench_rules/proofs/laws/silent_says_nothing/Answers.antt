@@ -1,0 +1,5 @@
+use Rattle.bench_rules.proofs.Hearing.{silent_says_nothing}
+use Rattle.bench_rules.proofs.laws.silent_says_nothing.Goals as goal
+
+pub returns : goal.returns
+returns c = silent_says_nothing

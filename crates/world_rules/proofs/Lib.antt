@@ -1,0 +1,5 @@
+pub mod Fields
+pub mod Votes
+pub mod Signed
+pub mod Agreeing
+pub mod Following

@@ -1,0 +1,5 @@
+pub mod Clients
+pub mod Frames
+pub mod Scenarios
+pub mod Headline
+pub mod Laws
