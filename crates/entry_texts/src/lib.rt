@@ -1,0 +1,14 @@
+//! Entries as keepers keep them: each as bytes with its stamp and its event, written and read back. The format is this
+//! project's own.
+#![tactic(auto)]
+
+mod fields;
+pub mod laws;
+mod ranges;
+mod read;
+mod spell;
+#[cfg(test)]
+mod tests;
+
+pub use crate::read::read_entry;
+pub use crate::spell::spell_entry;

@@ -1,0 +1,5 @@
+pub mod Said
+pub mod Texts
+pub mod Counting
+pub mod Prefixes
+pub mod Legal
