@@ -1,0 +1,18 @@
+-- A round takes the lowest bit's copy into the sum.
+use Rattle.std.proofs.Common.{◌≡◌, ◌∙◌, ◌-◌, ◌+◌, suc, ap, arith, bit_xor, sym}
+use lib.Bits.{xor_zero_l, xor_zero_r}
+use Rattle.parity_parts.specs.Field.{product, product_by}
+use Rattle.parity_parts.proofs.FieldLaws.{last_round, next_round, first_round}
+use Rattle.parity_parts.proofs.field.multiply.Goals as goal
+
+pub loop-bit-init : goal.loop-bit-init
+loop-bit-init c = first_round c.args.a c.args.b
+
+pub loop-bit-preserved : goal.loop-bit-preserved
+loop-bit-preserved c =
+    next_round c.loop-bit._bit c.loop-bit.sum c.loop-bit.left c.loop-bit.copy _ c.shifted-copy.result (omega arith)
+    c.loop-bit.invariant c.shifted-copy.ensures
+
+pub returns : goal.returns
+returns c = last_round c.loop-bit._bit c.loop-bit.sum c.loop-bit.left c.loop-bit.copy _ (omega arith)
+    c.loop-bit.invariant
