@@ -7,7 +7,7 @@ use Rattle.std.proofs.lemmas.List.FromFn.{map-range_with_len_more}
 use Rattle.std.proofs.lemmas.Nat.{le-div}
 use Rattle.std.proofs.lemmas.List.{get_or-drop}
 use Rattle.parity_parts.specs.Field.{product, value}
-use Rattle.parity_parts.specs.Parts.{AreBytes, column}
+use Rattle.parity_parts.specs.Parts.{column}
 
 pub column_value : (step count x : ℕ) (text rest : List ℕ) (first higher whole : ℕ) → count ≢ 0 → first ≡
     slice_index text 0

@@ -19,6 +19,11 @@ pub small_masters : (n f size : ℕ) (parts : List Part) → n ≤ 16 → AllByR
 small_masters n f size [] h fit = tt
 small_masters n f size (p ∷ ps) h fit = let below = fit.0.0 in (omega arith, small_masters n f size ps h fit.1)
 
+pub small_parts : (n f size : ℕ) (parts : List Part) → n ≤ 16 → AllByRecursion (Fits n f size) parts
+    → AllByRecursion (λ (part : Part). part.master < 16) parts
+small_parts n f size [] h fit = tt
+small_parts n f size (p ∷ ps) h fit = let below = fit.0.0 in (omega arith, small_parts n f size ps h fit.1)
+
 masters_length : (parts : List Part) → length (masters parts) ≡ length parts
 masters_length [] = refl
 masters_length (p ∷ ps) = let rest = masters_length ps in omega arith
@@ -97,3 +102,10 @@ own_joined f parts whole count differ small bytes own =
     ap (λ size. map (joined_byte (width f size) parts) (range_with_len 0 size)) (first_own f parts whole count own)
     ∙ sym (fill_by_all (joined_byte (width f (length whole)) parts) whole (length whole) 0 refl
     (own_byte f parts whole count differ small bytes own))
+
+-- a part of two bytes, of a text of four, where one master may be intruded
+pub two_bytes_fit : (n f size : ℕ) (p : Part) (bytes : List ℕ) → f ≡ 1 → size ≡ 4 → p.master < n → p.length ≡ 4 →
+    p.bytes ≡ bytes
+    → length bytes ≡ 2 → Fits n f size p
+two_bytes_fit n f size p bytes one four below long is two =
+    (below, long ∙ sym four, ap length is ∙ two ∙ sym (ap₂ width one four))

@@ -2,10 +2,10 @@
 -- Both are by induction on the points: a polynomial is y + (X + x) Q with y its value at x, and Q takes the quotients
 -- at the
 -- other points exactly where the whole takes the values.
-use Rattle.std.proofs.Common.{◌≡◌, ◌≢◌, ◌∙◌, ◌<◌, ◌+◌, ◌^◌, ℕ, zero, suc, List, [], ◌∷◌, length, map, refl, sym, ap}
+use Rattle.std.proofs.Common.{◌≡◌, ◌≢◌, ◌∙◌, ◌<◌, ℕ, List, [], ◌∷◌, length, map, refl, sym, ap}
 use Rattle.std.proofs.Common.{ap₂}
 use Rattle.std.proofs.Common.{arith, bit_xor}
-use lib.Bits.{xor_assoc, xor_self, xor_zero_r, xor_lt}
+use lib.Bits.{xor_assoc, xor_zero_r, xor_lt}
 use Rattle.std.proofs.lemmas.Nat.{xor_comm}
 use Rattle.parity_parts.specs.Field.{inverse, product, value}
 use Rattle.parity_parts.specs.Interpolation.{interpolated, quotients, raised}

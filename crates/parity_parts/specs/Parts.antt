@@ -1,8 +1,8 @@
 -- A text in parts, as Reed and Solomon's codes make them: any f + 1 parts of one text give it back.
-use Rattle.std.specs.Prelude.{◌≡◌, ◌≢◌, ◌<◌, ◌≤◌, ◌+◌, ◌*◌, ◌/◌, ◌%◌, ℕ, Bool, zero, suc, List, [], ◌∷◌, ◌&&◌}
-use Rattle.std.specs.Prelude.{length, map, take, drop}
+use Rattle.std.specs.Prelude.{◌≡◌, ◌≢◌, ◌<◌, ◌+◌, ◌/◌, ◌%◌, ℕ, Bool, zero, suc, List, [], ◌∷◌, ◌&&◌}
+use Rattle.std.specs.Prelude.{length, map, drop}
 use Rattle.std.specs.Prelude.{nat_eq, slice_index}
-use Rattle.std.specs.List.{All, AllByRecursion, range_with_len}
+use Rattle.std.specs.List.{AllByRecursion, range_with_len}
 use Rattle.std.specs.Str.{bytes_eq}
 use Rattle.parity_parts.specs.Field.{value}
 use Rattle.parity_parts.specs.Interpolation.{interpolated}

@@ -77,7 +77,7 @@ fn joined_text(alloc: Global, sizes: &Sizes, parts: &[Part]) -> Result<Vec<u8>, 
 pub fn join(alloc: Global, sizes: &Sizes, parts: &[Part]) -> Result<Vec<u8>, Want>
     requires count { length parts.now ≡ sizes.now.f + 1 }
     requires different { AreDifferent (masters parts.now) }
-    requires fit { All (Fits sizes.now.n sizes.now.f (first_length parts.now)) parts.now }
+    requires fit { AllByRecursion (Fits sizes.now.n sizes.now.f (first_length parts.now)) parts.now }
     requires some { 1 ≤ first_length parts.now }
     requires room { first_length parts.now ≤ 65536 }
     ensures joined { IfOk result (λ text. text.items ≡ joined sizes.now.f parts.now) }

