@@ -8,11 +8,12 @@ use Rattle.std.proofs.lemmas.List.FromFn.{fill_by_all, get_or-map-range_with_len
 use Rattle.std.proofs.lemmas.Nat.{div-add-mod', div_below, mod_below}
 use Rattle.parity_parts.specs.Field.{value}
 use Rattle.parity_parts.specs.Interpolation.{interpolated}
+use Rattle.parity_parts.specs.Parts.{OnlySolution, Solves}
 use Rattle.parity_parts.specs.Parts.{AreBytes, AreDifferent, AreSmall, Fits, IsPartOf, column, first_length, joined}
 use Rattle.parity_parts.specs.Parts.{joined_byte, masters, part_byte, part_bytes, symbols, width}
 use Rattle.parity_parts.specs.declared.part.Part.{Part}
 use Rattle.parity_parts.proofs.Columns.{column_at, column_length, width_some}
-use Rattle.parity_parts.proofs.Polynomials.{only_interpolated}
+use Rattle.parity_parts.proofs.Polynomials.{interpolated_takes, only_interpolated}
 
 pub small_masters : (n f size : ℕ) (parts : List Part) → n ≤ 16 → AllByRecursion (Fits n f size) parts → AreSmall
     (masters parts)
@@ -109,3 +110,20 @@ pub two_bytes_fit : (n f size : ℕ) (p : Part) (bytes : List ℕ) → f ≡ 1 �
     → length bytes ≡ 2 → Fits n f size p
 two_bytes_fit n f size p bytes one four below long is two =
     (below, long ∙ sym four, ap length is ∙ two ∙ sym (ap₂ width one four))
+
+-- ---- The coefficients at a place are the one solution.
+
+symbols_length : (parts : List Part) (place : ℕ) → length (symbols parts place) ≡ length parts
+symbols_length [] place = refl
+symbols_length (p ∷ ps) place = let rest = symbols_length ps place in omega arith
+
+pub solves : (parts : List Part) → AreSmall (masters parts) → AreDifferent (masters parts) → (place : ℕ) → Solves parts place
+solves parts small differ place bytes =
+    interpolated_takes (masters parts) (symbols parts place) (masters_length parts ∙ sym (symbols_length parts place)) small
+    differ bytes
+
+pub only_solution : (parts : List Part) → AreSmall (masters parts) → AreDifferent (masters parts) → (place : ℕ)
+    → OnlySolution parts place
+only_solution parts small differ place others many bytes is =
+    only_interpolated (masters parts) others (many ∙ sym (masters_length parts)) small differ bytes
+    ∙ ap (interpolated (masters parts)) is

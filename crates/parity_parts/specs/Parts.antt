@@ -69,9 +69,21 @@ masters = map (λ part. part.master)
 abbrev pub symbols : List Part → ℕ → List ℕ
 symbols parts place = map (λ part. slice_index part.bytes place) parts
 
+abbrev pub coefficients : List Part → ℕ → List ℕ
+coefficients parts place = interpolated (masters parts) (symbols parts place)
+
 abbrev pub joined_byte : ℕ → List Part → ℕ → ℕ
-joined_byte step parts place =
-    slice_index (interpolated (masters parts) (symbols parts (place % step))) (place / step)
+joined_byte step parts place = slice_index (coefficients parts (place % step)) (place / step)
+
+-- the coefficients at a place give the parts' bytes there
+abbrev pub Solves : List Part → ℕ → Type 0
+Solves parts place = AreBytes (symbols parts place)
+    → map (value (coefficients parts place)) (masters parts) ≡ symbols parts place
+
+-- and no others of that number do
+abbrev pub OnlySolution : List Part → ℕ → Type 0
+OnlySolution parts place = (others : List ℕ) → length others ≡ length parts → AreBytes others
+    → map (value others) (masters parts) ≡ symbols parts place → others ≡ coefficients parts place
 
 unfoldable pub joined : ℕ → List Part → List ℕ
 joined f parts =

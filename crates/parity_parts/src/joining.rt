@@ -1,7 +1,7 @@
 //! A text from f + 1 of its parts.
 ghost use Rattle.std.specs.Prelude.{◌≡◌, ◌<◌, ◌≤◌, ◌+◌, ℕ, List, IfOk, length, slice_index};
 ghost use Rattle.std.specs.List.{All, AllByRecursion};
-ghost use Rattle.parity_parts.specs.Parts.{AreBytes, AreDifferent, Fits, IsPartOf, first_length, joined, joined_byte, masters, symbols};
+ghost use Rattle.parity_parts.specs.Parts.{AreBytes, AreDifferent, Fits, IsPartOf, OnlySolution, Solves, first_length, joined, joined_byte, masters, symbols};
 
 use crate::interpolation::interpolate;
 use crate::part::{Part, width_of};
@@ -73,7 +73,8 @@ fn joined_text(alloc: Global, sizes: &Sizes, parts: &[Part]) -> Result<Vec<u8>, 
     Ok(text)
 }
 
-/// The text of which these are parts. Any f + 1 parts of one text give it back, whichever masters they are of.
+/// The text of which these are parts: at each place its pieces have the one list of coefficients that gives the parts' bytes.
+/// Any f + 1 parts of one text give it back, whichever masters they are of.
 pub fn join(alloc: Global, sizes: &Sizes, parts: &[Part]) -> Result<Vec<u8>, Want>
     requires count { length parts.now ≡ sizes.now.f + 1 }
     requires different { AreDifferent (masters parts.now) }
@@ -81,6 +82,8 @@ pub fn join(alloc: Global, sizes: &Sizes, parts: &[Part]) -> Result<Vec<u8>, Wan
     requires some { 1 ≤ first_length parts.now }
     requires room { first_length parts.now ≤ 65536 }
     ensures joined { IfOk result (λ text. text.items ≡ joined sizes.now.f parts.now) }
+    ensures solved { (place : ℕ) → Solves parts.now place }
+    ensures only { (place : ℕ) → OnlySolution parts.now place }
     ensures own { (whole : List ℕ) → AreBytes whole → AllByRecursion (IsPartOf sizes.now.f whole) parts.now → IfOk result (λ text. text.items ≡ whole) }
 {
     joined_text(alloc, sizes, parts)
