@@ -1,0 +1,5 @@
+pub mod Chains
+pub mod Found
+pub mod Walks
+pub mod Numbers
+pub mod Plain

@@ -1,0 +1,187 @@
+//! The command line as `clap` has it.
+ghost use Rattle.std.specs.Prelude.{◌≡◌, ◌∷◌, [], IfOk, codes, false, true};
+ghost use Rattle.clap.specs.Words.{app_of, rule_of, with_subcommand};
+ghost use Rattle.command_words.specs.CommandLine.{IsCommand, command, number_rule, option_rule, spire_app, text_rule, top_shape};
+ghost use Rattle.command_words.specs.CommandLine.{play_shape, run_shape, replay_shape, make_shape, keys_shape};
+ghost use Rattle.command_words.specs.CommandLine.{verify_shape, parts_shape, rebuild_shape, blame_shape, trend_shape};
+
+use clap::builder::ValueParser;
+use clap::{Arg, Command};
+use std::alloc::{AllocError, Global};
+
+/// How many hands `run` has at most.
+pub const MOST_HANDS: u64 = 4;
+
+/// How many turns each actor of `run` has at most.
+pub const MOST_TURNS: u64 = 4000;
+
+/// The greatest number of a word that only has to fit 32 bits.
+pub const MOST_NUMBER: u64 = 4294967295;
+
+// A required word.
+fn text<'a>(alloc: Global, id: &'a str) -> Arg<'a>
+    ensures rule { rule_of result ≡ text_rule id.entry.now }
+    ensures local { result.global ≡ false }
+{
+    Arg::new(alloc, id).required(true)
+}
+
+// A required number in a range.
+fn number<'a>(alloc: Global, id: &'a str, low: u64, high: u64) -> Arg<'a>
+    ensures rule { rule_of result ≡ number_rule id.entry.now low high }
+    ensures local { result.global ≡ false }
+{
+    text(alloc, id).value_parser(ValueParser::unsigned(low, high))
+}
+
+// A required number in a range, behind `--id`.
+fn option<'a>(alloc: Global, id: &'a str, low: u64, high: u64) -> Arg<'a>
+    ensures rule { rule_of result ≡ option_rule id.entry.now low high }
+    ensures local { result.global ≡ false }
+{
+    number(alloc, id, low, high).long(id)
+}
+
+fn over_a_history<'a>(alloc: Global, name: &'a str) -> Result<Command<'a>, AllocError>
+    ensures { IfOk result (IsCommand (command name.entry.now (text_rule (codes "scenario") ∷ text_rule (codes "history") ∷ []))) }
+{
+    Command::new(alloc, name)
+        .arg(text(alloc, "scenario"))?
+        .arg(text(alloc, "history"))
+}
+
+fn over_a_script<'a>(alloc: Global, name: &'a str) -> Result<Command<'a>, AllocError>
+    ensures { IfOk result (IsCommand (command name.entry.now (text_rule (codes "scenario") ∷ text_rule (codes "script") ∷ text_rule (codes "words") ∷ []))) }
+{
+    Command::new(alloc, name)
+        .arg(text(alloc, "scenario"))?
+        .arg(text(alloc, "script"))?
+        .arg(text(alloc, "words"))
+}
+
+fn play<'a>(alloc: Global) -> Result<Command<'a>, AllocError>
+    ensures { IfOk result (IsCommand play_shape) }
+{
+    over_a_script(alloc, "play")
+}
+
+fn run<'a>(alloc: Global) -> Result<Command<'a>, AllocError>
+    ensures { IfOk result (IsCommand run_shape) }
+{
+    over_a_script(alloc, "run")?
+        .arg(option(alloc, "hands", 1, MOST_HANDS))?
+        .arg(option(alloc, "turns", 1, MOST_TURNS))
+}
+
+fn replay<'a>(alloc: Global) -> Result<Command<'a>, AllocError>
+    ensures { IfOk result (IsCommand replay_shape) }
+{
+    over_a_history(alloc, "replay")
+}
+
+fn make<'a>(alloc: Global) -> Result<Command<'a>, AllocError>
+    ensures { IfOk result (IsCommand make_shape) }
+{
+    Command::new(alloc, "make").arg(number(alloc, "number", 0, MOST_NUMBER))
+}
+
+fn keys<'a>(alloc: Global) -> Result<Command<'a>, AllocError>
+    ensures { IfOk result (IsCommand keys_shape) }
+{
+    Command::new(alloc, "keys").arg(text(alloc, "scenario"))
+}
+
+fn verify<'a>(alloc: Global) -> Result<Command<'a>, AllocError>
+    ensures { IfOk result (IsCommand verify_shape) }
+{
+    Command::new(alloc, "verify")
+        .arg(text(alloc, "public"))?
+        .arg(text(alloc, "message"))?
+        .arg(text(alloc, "signature"))
+}
+
+fn parts<'a>(alloc: Global) -> Result<Command<'a>, AllocError>
+    ensures { IfOk result (IsCommand parts_shape) }
+{
+    over_a_history(alloc, "parts")?
+        .arg(number(alloc, "originator", 0, MOST_NUMBER))?
+        .arg(number(alloc, "number", 0, MOST_NUMBER))
+}
+
+fn rebuild<'a>(alloc: Global) -> Result<Command<'a>, AllocError>
+    ensures { IfOk result (IsCommand rebuild_shape) }
+{
+    Command::new(alloc, "rebuild")
+        .arg(text(alloc, "scenario"))?
+        .arg(text(alloc, "pieces"))
+}
+
+fn blame<'a>(alloc: Global) -> Result<Command<'a>, AllocError>
+    ensures { IfOk result (IsCommand blame_shape) }
+{
+    over_a_history(alloc, "blame")
+}
+
+fn trend<'a>(alloc: Global) -> Result<Command<'a>, AllocError>
+    ensures { IfOk result (IsCommand trend_shape) }
+{
+    over_a_history(alloc, "trend")?
+        .arg(number(alloc, "point", 0, MOST_NUMBER))?
+        .arg(number(alloc, "first", 0, MOST_NUMBER))?
+        .arg(number(alloc, "last", 0, MOST_NUMBER))
+}
+
+// The commands that make or read a history.
+
+fn with_histories<'a>(alloc: Global, top: Command<'a>) -> Result<Command<'a>, AllocError>
+    ensures { IfOk result (λ c. app_of c ≡ with_subcommand (with_subcommand (with_subcommand (app_of top.entry) play_shape) run_shape) replay_shape) }
+{
+    top.subcommand(play(alloc)?)?
+        .subcommand(run(alloc)?)?
+        .subcommand(replay(alloc)?)
+}
+
+// The commands on numbers, keys and signatures.
+
+fn with_keys<'a>(alloc: Global, top: Command<'a>) -> Result<Command<'a>, AllocError>
+    ensures { IfOk result (λ c. app_of c ≡ with_subcommand (with_subcommand (with_subcommand (app_of top.entry) make_shape) keys_shape) verify_shape) }
+{
+    top.subcommand(make(alloc)?)?
+        .subcommand(keys(alloc)?)?
+        .subcommand(verify(alloc)?)
+}
+
+// The commands on parts of requests.
+
+fn with_parts<'a>(alloc: Global, top: Command<'a>) -> Result<Command<'a>, AllocError>
+    ensures { IfOk result (λ c. app_of c ≡ with_subcommand (with_subcommand (app_of top.entry) parts_shape) rebuild_shape) }
+{
+    top.subcommand(parts(alloc)?)?.subcommand(rebuild(alloc)?)
+}
+
+// The commands that look something up in a history.
+
+fn with_reports<'a>(alloc: Global, top: Command<'a>) -> Result<Command<'a>, AllocError>
+    ensures { IfOk result (λ c. app_of c ≡ with_subcommand (with_subcommand (app_of top.entry) blame_shape) trend_shape) }
+{
+    top.subcommand(blame(alloc)?)?.subcommand(trend(alloc)?)
+}
+
+fn top<'a>(alloc: Global) -> Command<'a>
+    ensures { app_of result ≡ record { top = record top_shape { is_leaf = true }; subs = [] } }
+{
+    Command::new(alloc, "spire")
+        .no_binary_name(true)
+        .subcommand_required(true)
+}
+
+/// The whole command line.
+
+pub fn command_line<'a>(alloc: Global) -> Result<Command<'a>, AllocError>
+    ensures { IfOk result (λ c. app_of c ≡ spire_app) }
+{
+    let histories = with_histories(alloc, top(alloc))?;
+    let keys = with_keys(alloc, histories)?;
+    let parts = with_parts(alloc, keys)?;
+    with_reports(alloc, parts)
+}

@@ -1,0 +1,4 @@
+pub mod FieldLaws
+pub mod Polynomials
+pub mod Columns
+pub mod Joins

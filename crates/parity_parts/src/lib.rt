@@ -1,0 +1,14 @@
+//! A text in parts, one for each master, of which any f + 1 give it back: Reed and Solomon's code over the field of 256
+//! elements.
+#![tactic(auto)]
+
+mod field;
+mod interpolation;
+mod joining;
+mod part;
+#[cfg(test)]
+mod tests;
+
+pub use crate::joining::join;
+pub use crate::part::{Part, part_of};
+pub use plain_lists::Want;
