@@ -98,7 +98,7 @@ fn addressees(company: &Company<'_>, text: &str) -> Result<Vector, Fault>
 
 /// A master, whom it speaks to, and the word.
 #[tactic(auto, unfolding(crate::specs::Sayings::saying_in))]
-fn saying(company: &Company<'_>, words: &[&str]) -> Result<Saying, Fault>
+fn read_saying(company: &Company<'_>, words: &[&str]) -> Result<Saying, Fault>
     ensures { Answers result (saying_in company.now (texts words.now)) }
 {
     match words {
@@ -123,7 +123,7 @@ impl Grammar<Saying> for WordLines<'_> {
     ghost says = { λ lines number words. saying_in lines.company words };
 
     fn read(&self, _number: u64, words: &[&str]) -> Result<Saying, Fault> {
-        saying(&self.company, words)
+        read_saying(&self.company, words)
     }
 }
 

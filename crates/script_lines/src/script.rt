@@ -5,7 +5,7 @@ ghost use Rattle.script_grammar.specs.Lines.{Reads};
 ghost use Rattle.script_grammar.specs.Names.{who_of};
 ghost use Rattle.script_lines.specs.Scripts.{script_in, script_line_in};
 
-use crate::step::{Step, step};
+use crate::step::{Step, read_step};
 use plain_lists::{Copied, Items, Want};
 use scenario_file::Scenario;
 use script_grammar::{Company, Fault, Grammar, ScriptRefusal, read_lines};
@@ -58,7 +58,7 @@ impl Grammar<Line> for ScriptLines<'_> {
     fn read(&self, number: u64, words: &[&str]) -> Result<Line, Fault> {
         Ok(Line {
             number,
-            step: step(&self.company, words)?,
+            step: read_step(&self.company, words)?,
         })
     }
 }

@@ -1,7 +1,8 @@
-ghost use Rattle.std.specs.Prelude.{◌≡◌, Ok, option_copied};
+ghost use Rattle.std.specs.Prelude.{◌≡◌, Ok};
 ghost use Rattle.scenario_file.specs.PlantRows.{area_of};
 ghost use Rattle.script_grammar.specs.Faults.{Answers, said};
 ghost use Rattle.script_grammar.specs.Lines.{texts};
+ghost use Rattle.script_grammar.specs.Names.{device_of};
 ghost use Rattle.script_lines.specs.declared.step.Step.TheVariants.{Lose, Heal};
 ghost use Rattle.script_lines.specs.Steps.{times_in, ticking_in, tick_in, flow_in, one_actor_in, drop_in, take_in, set_in, ack_in, op_in, command_in, or_bad, change_in, has_place, places_of, in_place, field_in, poll_in, cry_in, restart_in, step_of, step_in};
 
@@ -72,7 +73,7 @@ fn times(fields: &[&str]) -> Result<u64, Fault>
     }
 }
 
-fn ticking(company: &Company<'_>, name: &str) -> Result<Ticking, Fault>
+fn who_ticks(company: &Company<'_>, name: &str) -> Result<Ticking, Fault>
     ensures { Answers result (ticking_in company.now name.now) }
 {
     match name {
@@ -88,7 +89,7 @@ fn tick(company: &Company<'_>, fields: &[&str]) -> Result<Step, Fault>
     match fields {
         [] => Err(Fault::BadLine),
         [name, repeats @ ..] => {
-            let (who, times) = both(ticking(company, name), times(repeats))?;
+            let (who, times) = both(who_ticks(company, name), times(repeats))?;
             Ok(Step::Tick { who, times })
         }
     }
@@ -196,7 +197,7 @@ fn area(name: &str) -> Result<Area, Fault>
     }
 }
 
-fn change(fields: &[&str]) -> Result<Change, Fault>
+fn read_change(fields: &[&str]) -> Result<Change, Fault>
     ensures { Answers result (change_in (texts fields.now)) }
 {
     match fields {
@@ -220,10 +221,11 @@ fn places(device: &DeviceSizes, area: Area) -> u16
     }
 }
 
-fn has_place(device: Option<&DeviceSizes>, change: Change) -> bool
-    ensures { result ≡ has_place (option_copied device) change.area change.place }
+/// Whether the device behind a proxy has a place.
+fn has_place(company: &Company<'_>, proxy: u32, change: Change) -> bool
+    ensures { result ≡ has_place (device_of company.now proxy) change.area change.place }
 {
-    match device {
+    match company.device(proxy) {
         Some(device) => change.place < places(device, change.area),
         None => false,
     }
@@ -235,7 +237,7 @@ fn field(company: &Company<'_>, fields: &[&str]) -> Result<Step, Fault>
     match fields {
         [] => Err(Fault::BadLine),
         [name, rest @ ..] => {
-            let (proxy, change) = both(company.proxy(name), change(rest))?;
+            let (proxy, change) = both(company.proxy(name), read_change(rest))?;
             in_place(company, proxy, change)
         }
     }
@@ -244,7 +246,7 @@ fn field(company: &Company<'_>, fields: &[&str]) -> Result<Step, Fault>
 fn in_place(company: &Company<'_>, proxy: u32, change: Change) -> Result<Step, Fault>
     ensures { Answers result (in_place company.now (Ok (proxy, change))) }
 {
-    if has_place(company.device(proxy), change) {
+    if has_place(company, proxy, change) {
         Ok(Step::Field {
             proxy,
             area: change.area,
@@ -328,7 +330,7 @@ fn step_of(company: &Company<'_>, what: &str, fields: &[&str]) -> Result<Step, F
 
 /// What the words of a line of a script say.
 #[tactic(auto, unfolding(crate::specs::Steps::step_in))]
-pub fn step(company: &Company<'_>, words: &[&str]) -> Result<Step, Fault>
+pub fn read_step(company: &Company<'_>, words: &[&str]) -> Result<Step, Fault>
     ensures { Answers result (step_in company.now (texts words.now)) }
 {
     match words {
