@@ -5,6 +5,8 @@ mod given;
 mod saying;
 mod script;
 mod step;
+#[cfg(test)]
+mod tests;
 mod word;
 mod word_fields;
 

@@ -1,7 +1,8 @@
 //! Lines whose verdicts another reader of these files gave, written from the same grammar by somebody else.
+ghost use Rattle.scenario_file.specs.Reading.{contents};
+ghost use Rattle.scenario_file.specs.Valid.{IsScenario};
+
 use crate::{Line, Script, ScriptRefusal, Step, Ticking, Words, inputs};
-use message_types::Op;
-use play_words::{Input, Word};
 use scenario_file::Scenario;
 use std::alloc::Global;
 use std::test::Fail;
