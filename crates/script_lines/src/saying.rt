@@ -1,4 +1,4 @@
-ghost use Rattle.std.specs.Prelude.{◌≡◌, ℕ, nat_eq, IfOk};
+ghost use Rattle.std.specs.Prelude.{◌≡◌, ◌++◌, ◌∷◌, [], if◌then◌else◌, ℕ, nat_eq, IfOk, OnOk};
 ghost use Rattle.std.specs.List.{list_any};
 ghost use Rattle.scenario_file.specs.Reading.{contents};
 ghost use Rattle.scenario_file.specs.Valid.{IsScenario};
@@ -73,15 +73,22 @@ fn is_named(named: &[u32], actor: u32) -> bool
     named.iter().any(|other| *other == actor)
 }
 
+fn push_if(actors: &mut Vector, actor: u32, is_there: bool) -> Result<(), Want>
+    ensures { OnOk result (actors.new ≡ actors.old ++ (if is_there then actor ∷ [] else [])) }
+{
+    if is_there {
+        actors.push(u64::from(actor))?;
+    }
+    Ok(())
+}
+
 /// The actors named, each once and in number order.
 fn among(company: &Company<'_>, named: &[u32]) -> Result<Vector, Want>
     ensures { IfOk result (λ actors. actors ≡ among company.now.cast named.now) }
 {
     let mut actors = Items::new(company.alloc());
     for actor in 0..company.cast().actors() {
-        if is_named(named, actor) {
-            actors.push(u64::from(actor))?;
-        }
+        push_if(&mut actors, actor, is_named(named, actor))?;
     }
     Ok(actors)
 }
