@@ -79,4 +79,3 @@ pub each_end : {A : Type 0} (read : List ℕ → Result A Fault) (absent : Bool)
     (parts : List (Bor (List ℕ))) (i : ℕ) → length parts ≤ i → onward absent front (each read (texts (drop i parts))) ≡ all
     → all ≡ onward absent front (Ok [])
 each_end read absent front all parts i end so_far = sym so_far ∙ ap (λ l. onward absent front (each read (texts l))) (drop_all i parts end)
-

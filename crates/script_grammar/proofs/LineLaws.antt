@@ -53,6 +53,7 @@ line_last text some none =
         → position_or_len is_feed text ≡ length text
     nowhere true is none = absurd (cc)
     nowhere false is none = let most : position_or_len is_feed text ≤ length text = prefix_len-le-length (λ b. not (is_feed b)) text in grind arith
+
     single : (line : List ℕ) → 0 < length line → lines_of_parts (line ∷ []) ≡ line ∷ []
     single [] some = absurd (omega arith)
     single (b ∷ bs) some = let no_end : (length (b ∷ bs) == 0) ≡ false = grind arith in rw no_end refl

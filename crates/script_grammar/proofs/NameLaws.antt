@@ -51,8 +51,10 @@ lengths_decide (c ∷ x) (d ∷ y) is it same differ =
   where
     mine : is_numeral x ≡ true
     mine = number_of_name c x is
+
     its : is_numeral y ≡ true
     its = number_of_name d y it
+
     by : (b : Bool) → nat_lt (length x) (length y) ≡ b → nat_lt (length (c ∷ x)) (length (d ∷ y)) ≡ comes_before (c ∷ x) (c ∷ y)
     by true less =
         let fewer : length x < length y = lt_from (length x) (length y) less in

@@ -126,7 +126,7 @@ lower_is_smaller n (x ∷ xs) (y ∷ ys) mine its same =
     by false true less more later =
         let digit : digit_value y < digit_value x = smaller_digit y x its.0 mine.0 (lt_from y x more) in
         let greater : digits_value_after 10 (n * 10 + digit_value y) ys < digits_value_after 10 (n * 10 + digit_value x) xs =
-            below (n * 10 + digit_value y) (n * 10 + digit_value x) ys xs (omega arith) its.1 (omega arith) in
+        below (n * 10 + digit_value y) (n * 10 + digit_value x) ys xs (omega arith) its.1 (omega arith) in
         ap (λ b. b && lower xs ys) (differ x y (lt_from y x more))
         ∙ sym (lt_false (digits_value_after 10 (n * 10 + digit_value x) xs) (digits_value_after 10 (n * 10 + digit_value y) ys) (omega arith))
     by false false less more later =

@@ -85,5 +85,3 @@ RefusesFile refusal.Want right = Unit {0}
 abbrev pub Reads : {A : Type 0} → Result A ScriptRefusal → Result A ScriptRefusal → Type 0
 Reads (Ok x) right = right ≡ Ok x
 Reads (Err e) right = RefusesFile e right
-
-

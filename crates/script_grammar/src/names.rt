@@ -52,9 +52,7 @@ pub fn names_rise(frames: &[&str]) -> bool
     ensures { result ≡ names_rise (map signer_in (texts frames.now)) }
 {
     match frames {
-        [first, second, ..] => {
-            rise(signer(first), signer(second)) && names_rise(&frames[1..])
-        }
+        [first, second, ..] => { rise(signer(first), signer(second)) && names_rise(&frames[1..]) }
         _ => true,
     }
 }

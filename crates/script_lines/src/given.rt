@@ -123,12 +123,7 @@ fn give<'a>(
 }
 
 /// What lines give an actor.
-fn given(
-    alloc: Global,
-    lines: &[Line],
-    words: &[Saying],
-    actor: u32,
-) -> Result<Vec<Input>, Want>
+fn given(alloc: Global, lines: &[Line], words: &[Saying], actor: u32) -> Result<Vec<Input>, Want>
     ensures { IfOk result (λ all. all.items ≡ given actor lines.now (own_words actor words.now)) }
 {
     let mut all = Vec::new(alloc);

@@ -7,8 +7,8 @@ ghost use Rattle.script_lines.specs.declared.step.Step.TheVariants.{Lose, Heal};
 ghost use Rattle.script_lines.specs.Steps.{times_in, ticking_in, tick_in, flow_in, one_actor_in, drop_in, take_in, set_in, ack_in, op_in, command_in, or_bad, change_in, has_place, places_of, in_place, field_in, poll_in, cry_in, restart_in, step_of, step_in};
 
 use message_types::Op;
-use play_words::Ref;
 use plain_lists::{Copied, Want};
+use play_words::Ref;
 use point_table::{Area, DeviceSizes};
 use script_grammar::{Allowed, Company, Fault, both, narrow, number, short, signed};
 
@@ -24,18 +24,33 @@ pub enum Ticking {
 #[derive(Clone, Copy, Debug, PartialEq, Eq)]
 pub enum Step {
     /// These tick, all of them so many times over.
-    Tick { who: Ticking, times: u64 },
+    Tick {
+        who: Ticking,
+        times: u64,
+    },
     /// All that waits is delivered, so many rounds.
-    Flow { rounds: u64 },
+    Flow {
+        rounds: u64,
+    },
     /// Nothing comes to the actor or from it.
-    Lose { actor: u32 },
+    Lose {
+        actor: u32,
+    },
     /// It does so no longer.
-    Heal { actor: u32 },
+    Heal {
+        actor: u32,
+    },
     /// All that waits is thrown away.
     Drop,
     /// The actor takes a frame, whether it is lost or not.
-    Take { actor: u32, frame: Ref },
-    Command { screen: u32, op: Op },
+    Take {
+        actor: u32,
+        frame: Ref,
+    },
+    Command {
+        screen: u32,
+        op: Op,
+    },
     /// The place of the area in the proxy's field holds this value from now on.
     Field {
         proxy: u32,
@@ -43,10 +58,17 @@ pub enum Step {
         place: u16,
         value: u16,
     },
-    Poll { proxy: u32 },
+    Poll {
+        proxy: u32,
+    },
     /// The master says so many of its next words.
-    Cry { master: u32, times: u64 },
-    Restart { actor: u32 },
+    Cry {
+        master: u32,
+        times: u64,
+    },
+    Restart {
+        actor: u32,
+    },
 }
 
 impl Copied for Step {

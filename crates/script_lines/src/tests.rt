@@ -255,7 +255,8 @@ fn each_line_of_words_has_its_verdict(rt: HostRuntime) -> Result<(), Fail> {
 }
 
 /// The third line ends with a carriage return too, and the last without a line feed.
-const SCRIPT: &str = "# begin\n\ntick all 2\r\ncommand s0 set 7 -3\ncry m3 2\ncry m3\ncry m3\npoll p0\nrestart s0";
+const SCRIPT: &str =
+    "# begin\n\ntick all 2\r\ncommand s0 set 7 -3\ncry m3 2\ncry m3\ncry m3\npoll p0\nrestart s0";
 
 #[test]
 fn a_script_gives_its_actors_their_inputs(rt: HostRuntime) -> Result<(), Fail> {

@@ -8,7 +8,7 @@ ghost use Rattle.script_lines.specs.WordFields.{number_in, numbers_in, one_and_n
 
 use crate::word_fields::{
     newview, one_and_number, one_number, poack, preprepare, raw, report, request, rtt, summary,
-    two_numbers, voucher, vote,
+    two_numbers, vote, voucher,
 };
 use play_words::Word;
 use script_grammar::{Company, Fault, Kind};

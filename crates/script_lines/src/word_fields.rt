@@ -241,10 +241,7 @@ fn based(base: &str) -> Result<Option<u64>, Fault>
 }
 
 /// The certificates of a report, with the number from which it goes on before them or not.
-fn base_and_items(
-    alloc: Global,
-    fields: &[&str],
-) -> Result<(Option<u64>, Items<Item>), Fault>
+fn base_and_items(alloc: Global, fields: &[&str]) -> Result<(Option<u64>, Items<Item>), Fault>
     ensures { Answers result (base_and_items_in (texts fields.now)) }
 {
     match fields {

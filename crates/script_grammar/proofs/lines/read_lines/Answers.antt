@@ -13,8 +13,8 @@ returns-in-Err g c =
     rw (c.at.ensures, file_is c.args.most says c.args.bytes.now)
     (fault_of_file c.in-Err.fault (line_in says (record { number = c.loop-number.number; line = c.in-Some.line.now })) c.loop-number.number _ c.in-Err.ensures
     (λ is. file_fault (limited c.args.most says) c.loop-number.all c.in-Err.fault c.loop-number.number c.in-Some.line.now (lines c.loop-number.rest.now)
-        (lines c.in-Some.after.now) _ c.loop-number.invariant c.in-Some.ensures
-        (allowed_line c.args.most says c.loop-number.number c.in-Some.line.now few ∙ is)))
+    (lines c.in-Some.after.now) _ c.loop-number.invariant c.in-Some.ensures
+    (allowed_line c.args.most says c.loop-number.number c.in-Some.line.now few ∙ is)))
 
 pub loop-number-preserved : goal.loop-number-preserved
 loop-number-preserved g c =
@@ -22,8 +22,8 @@ loop-number-preserved g c =
     let few : c.loop-number.number ≤ c.args.most = omega arith in
     rw c.in_ok-push_said-in-Ok.ensures
     (file_more (limited c.args.most says) c.loop-number.all c.in-Ok.said c.loop-number.number c.in-Some.line.now (lines c.loop-number.rest.now)
-        (lines c.in-Some.after.now) _ c.loop-number.invariant c.in-Some.ensures
-        (allowed_line c.args.most says c.loop-number.number c.in-Some.line.now few ∙ c.in-Ok.ensures))
+    (lines c.in-Some.after.now) _ c.loop-number.invariant c.in-Some.ensures
+    (allowed_line c.args.most says c.loop-number.number c.in-Some.line.now few ∙ c.in-Ok.ensures))
 
 pub returns-in-Some-first_line : goal.returns-in-Some-first_line
 returns-in-Some-first_line g c =
@@ -31,6 +31,6 @@ returns-in-Some-first_line g c =
     let last : c.loop-number.number ≡ c.args.most + 1 = omega arith in
     file_is c.args.most says c.args.bytes.now
     ∙ (file_fault (limited c.args.most says) c.loop-number.all fault.BadLine c.loop-number.number c.in-Some-first_line.field-0.0.now
-        (lines c.loop-number.rest.now) (lines c.in-Some-first_line.field-0.1.now) _ c.loop-number.invariant c.in-Some-first_line.ensures
-        (extra_line c.args.most says c.loop-number.number c.in-Some-first_line.field-0.0.now (omega arith))
+    (lines c.loop-number.rest.now) (lines c.in-Some-first_line.field-0.1.now) _ c.loop-number.invariant c.in-Some-first_line.ensures
+    (extra_line c.args.most says c.loop-number.number c.in-Some-first_line.field-0.0.now (omega arith))
     ∙ ap (λ (n : ℕ). Err (refusal.BadLine n)) last)

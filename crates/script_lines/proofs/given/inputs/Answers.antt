@@ -10,6 +10,6 @@ loop-actor-init c =
 pub loop-actor-preserved : goal.loop-actor-preserved
 loop-actor-preserved c =
     let own : c.in_ok-given.field-0.items ≡ given c.loop-actor.actor c.args.script.now (own_words c.loop-actor.actor c.args.words.now) =
-        cc (c.in_ok-given.ensures, c.lines.ensures, c.sayings.ensures) in
+    cc (c.in_ok-given.ensures, c.lines.ensures, c.sayings.ensures) in
     lists_more (λ v. v.items) (λ (a : ℕ). given a c.args.script.now (own_words a c.args.words.now)) c.loop-actor.actor c.loop-actor.lists.items
-        c.push.new.self.items c.in_ok-given.field-0 c.loop-actor.invariant own c.in_ok-push.ensures.items
+    c.push.new.self.items c.in_ok-given.field-0 c.loop-actor.invariant own c.in_ok-push.ensures.items

@@ -10,7 +10,7 @@ returns-in_default-clause-given c =
     let few : c.loop-said._said ≤ c.args.times = omega arith in
     c.loop-said.invariant.given
     ∙ ap (λ (l : List Input). c.args.all.now.items ++ l)
-        (sym (none_said (own_words c.args.master c.args.words.now) c.loop-said._said c.args.times (sym none ∙ c.loop-said.invariant.left) few))
+    (sym (none_said (own_words c.args.master c.args.words.now) c.loop-said._said c.args.times (sym none ∙ c.loop-said.invariant.left) few))
 
 pub returns-in_default-clause-left : goal.returns-in_default-clause-left
 returns-in_default-clause-left c =

@@ -10,4 +10,4 @@ loop-actor-init c = c.new-actors.ensures ∙ sym (voters-zero (λ (a : ℕ). lis
 pub loop-actor-preserved : goal.loop-actor-preserved
 loop-actor-preserved c =
     among_more (λ (a : ℕ). list_any (λ m. nat_eq m a) c.args.named.now) c.loop-actor.actor c.loop-actor.actors c.push_if.new.actors c.is_named.result
-        c.loop-actor.invariant c.is_named.ensures c.in_ok-push_if.ensures
+    c.loop-actor.invariant c.is_named.ensures c.in_ok-push_if.ensures
