@@ -1,0 +1,4 @@
+pub mod NumberLaws
+pub mod NameLaws
+pub mod FaultLaws
+pub mod LineLaws

@@ -1,0 +1,5 @@
+pub mod Steps
+pub mod Scripts
+pub mod WordFields
+pub mod Sayings
+pub mod Given
