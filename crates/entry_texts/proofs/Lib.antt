@@ -1,3 +1,4 @@
 pub mod TextLaws
 pub mod FieldReads
 pub mod EventReads
+pub mod KeptReads

@@ -83,7 +83,7 @@ op-inj a b xs ys fa fb e =
 pub frame_short : (f : Signed Body) → FitsFields f → IsTrue (has_spelling f) → IsShort (frame_text f)
 frame_short f wide spelled = omega (arith, frame_within f spelled wide)
 
-frame-inj : (f g : Signed Body) → FitsFields f → FitsFields g → IsTrue (has_spelling f) → IsTrue (has_spelling g)
+pub frame-inj : (f g : Signed Body) → FitsFields f → FitsFields g → IsTrue (has_spelling f) → IsTrue (has_spelling g)
     → frame_text f ≡ frame_text g → f ≡ g
 frame-inj f g wf wg sf sg e = (no_prefix f g [] [] wf wg sf sg (ap (λ t. t ++ []) e)).0
 

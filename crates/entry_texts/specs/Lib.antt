@@ -1,3 +1,4 @@
 pub mod Texts
 pub mod Fits
+pub mod Kept
 pub mod Reads

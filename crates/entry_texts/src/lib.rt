@@ -10,5 +10,5 @@ mod spell;
 #[cfg(test)]
 mod tests;
 
-pub use crate::read::read_entry;
+pub use crate::read::{read_entry, read_kept};
 pub use crate::spell::spell_entry;

@@ -1,9 +1,10 @@
-ghost use Rattle.std.specs.Prelude.{◌≡◌, ◌∷◌, ℕ, IfOk, IfSome};
+ghost use Rattle.std.specs.Prelude.{◌≡◌, ◌≢◌, ◌∷◌, ℕ, IfOk, IfSome};
 ghost use Rattle.checked_frames.specs.Standing.{Ring};
 ghost use Rattle.history_rules.specs.Events.{Event as HistoryEvent};
 ghost use Rattle.world_entries.specs.Entries.{event_of};
 ghost use Rattle.entry_texts.specs.Texts.{entry_text};
 ghost use Rattle.entry_texts.specs.Fits.{FitsEntry, TakenStands};
+ghost use Rattle.entry_texts.specs.Kept.{IsKeptEvent, IsKept, SpellsEvent};
 ghost use Rattle.entry_texts.specs.Reads.{ReadsSpelled, ReadsFrame, ReadsEvent, ReadsEntry, IsBare, IsEntry};
 
 use crate::fields::{read_change, read_counted, read_op, read_taken};
@@ -14,6 +15,9 @@ use plain_lists::{Bytes, Want};
 use std::alloc::Global;
 use wire_parts::Reader;
 use world_entries::Event;
+
+/// The kind of an event that takes a frame.
+const TOOK: u8 = 1;
 
 // The frame that the text spells, whether or not it stands.
 fn read_spelled(alloc: Global, text: &[u8]) -> Result<Option<Frame>, Want>
@@ -106,14 +110,12 @@ fn read_bare(reader: &Reader<'_>, event: Event) -> Option<Event>
     Some(event)
 }
 
-fn read_event(alloc: Global, ring: &KeyRing, reader: &mut Reader<'_>) -> Result<Option<Event>, Want>
-    ensures { IfOk result (ReadsEvent ring.now reader.old.rest) }
+// An event of any other kind than that of a frame taken.
+fn read_other(alloc: Global, kind: u8, reader: &mut Reader<'_>) -> Result<Option<Event>, Want>
+    requires { kind ≢ 1 }
+    ensures { IfOk result (λ read. (ring : Ring) → ReadsEvent ring (kind ∷ reader.old.rest) read) }
 {
-    let Ok(kind) = reader.u8() else {
-        return Ok(None);
-    };
     match kind {
-        1 => read_took(alloc, ring, reader),
         2 => Ok(read_bare(reader, Event::Tick)),
         3 => Ok(read_command(reader)),
         4 => Ok(read_field(reader)),
@@ -123,6 +125,18 @@ fn read_event(alloc: Global, ring: &KeyRing, reader: &mut Reader<'_>) -> Result<
         8 => Ok(read_bare(reader, Event::Restart)),
         _ => Ok(None),
     }
+}
+
+fn read_event(alloc: Global, ring: &KeyRing, reader: &mut Reader<'_>) -> Result<Option<Event>, Want>
+    ensures { IfOk result (ReadsEvent ring.now reader.old.rest) }
+{
+    let Ok(kind) = reader.u8() else {
+        return Ok(None);
+    };
+    if kind == TOOK {
+        return read_took(alloc, ring, reader);
+    }
+    read_other(alloc, kind, reader)
 }
 
 fn read_whole(alloc: Global, ring: &KeyRing, bytes: &[u8]) -> Result<Option<(u64, Event)>, Want>
@@ -151,4 +165,51 @@ pub fn read_entry(alloc: Global, ring: &KeyRing, bytes: &[u8]) -> Result<Option<
         → bytes.now ≡ entry_text stamp event → IfOk result (IsEntry stamp event) }
 {
     read_whole(alloc, ring, bytes)
+}
+
+// A frame taken, which stands.
+fn read_kept_took(alloc: Global, reader: &mut Reader<'_>) -> Result<Event, Want>
+    requires { IsKeptEvent (1 ∷ reader.old.rest) }
+    ensures { IfOk result (λ event. SpellsEvent (1 ∷ reader.old.rest) (event_of event)) }
+{
+    let Some(taken) = read_taken(reader) else {
+        unreachable!()
+    };
+    let read = read_spelled(alloc, taken.text)?;
+    let Some(frame) = read else { unreachable!() };
+    Ok(Event::Took {
+        stamp: taken.stamp,
+        place: taken.place,
+        frame: Checked::from_standing(alloc, frame)?,
+    })
+}
+
+fn read_kept_event(alloc: Global, reader: &mut Reader<'_>) -> Result<Event, Want>
+    requires { IsKeptEvent reader.old.rest }
+    ensures { IfOk result (λ event. SpellsEvent reader.old.rest (event_of event)) }
+{
+    let Ok(kind) = reader.u8() else {
+        unreachable!()
+    };
+    if kind == TOOK {
+        return read_kept_took(alloc, reader);
+    }
+    let read = read_other(alloc, kind, reader)?;
+    let Some(event) = read else { unreachable!() };
+    Ok(event)
+}
+
+/// The stamp and the event that the bytes spell, which are known to be what was kept of an entry. A frame that the event
+/// takes is known to stand, so none of its signatures is tried again.
+pub fn read_kept(alloc: Global, bytes: &[u8]) -> Result<(u64, Event), Want>
+    requires { IsKept bytes.now }
+    ensures found { IfOk result (λ e. bytes.now ≡ entry_text e.0 (event_of e.1)) }
+    ensures fits { IfOk result (λ e. FitsEntry e.0 (event_of e.1)) }
+{
+    let mut reader = Reader::over(bytes);
+    let Ok(stamp) = reader.u64() else {
+        unreachable!()
+    };
+    let event = read_kept_event(alloc, &mut reader)?;
+    Ok((stamp, event))
 }
