@@ -1,0 +1,15 @@
+pub mod Walks
+pub mod Which
+pub mod Voting
+pub mod Certified
+pub mod Giving
+pub mod Gathering
+pub mod Alike
+pub mod Heard
+pub mod Shortening
+pub mod MarksKnown
+pub mod Fits
+pub mod Whole
+pub mod Anyone
+pub mod Learning
+pub mod Spoken

@@ -1,0 +1,20 @@
+//! What an intruded master knows, each frame that it took or cried, part by part, and of these the body that a word of a
+//! play is.
+#![tactic(auto)]
+
+mod asked;
+mod bodies;
+pub mod crossing;
+mod digests;
+pub mod laws;
+mod marks;
+mod naming;
+pub mod overheard;
+mod plans;
+mod reports;
+mod requests;
+mod telling;
+#[cfg(test)]
+mod tests;
+
+pub use overheard::Overheard;
