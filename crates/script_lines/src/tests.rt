@@ -274,8 +274,9 @@ fn a_script_gives_its_actors_their_inputs(rt: HostRuntime) -> Result<(), Fail> {
             times: 2,
         },
     };
-    assert_eq!(rt; script.lines()[0], first);
-    assert_eq!(rt; script.lines().len(), 7);
+    let lines = script.lines();
+    assert_eq!(rt; lines.len(), 7);
+    assert_eq!(rt; lines[0], first);
     let given = inputs(rt.alloc(), &scenario, &script, &words)?;
     assert_eq!(rt; given.len(), 6);
     assert_eq!(rt; given[3].len(), 3);
