@@ -14,7 +14,5 @@ mod plans;
 mod reports;
 mod requests;
 mod telling;
-#[cfg(test)]
-mod tests;
 
 pub use overheard::Overheard;

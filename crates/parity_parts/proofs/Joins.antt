@@ -90,7 +90,7 @@ own_byte f parts whole count differ small bytes own place below =
     ∙ ap (λ (ys : List ℕ). slice_index (interpolated (masters parts) ys) (place / w))
     (sym (own_symbols f whole (place % w) parts inside own))
 
-first_own : (f : ℕ) (parts : List Part) (whole : List ℕ) → length parts ≡ f + 1 → AllByRecursion (IsPartOf f whole)
+pub first_own : (f : ℕ) (parts : List Part) (whole : List ℕ) → length parts ≡ f + 1 → AllByRecursion (IsPartOf f whole)
     parts
     → first_length parts ≡ length whole
 first_own f [] whole count own = absurd (omega arith)

@@ -1,3 +1,4 @@
 pub mod Field
 pub mod Interpolation
 pub mod Parts
+pub mod Rebuilding

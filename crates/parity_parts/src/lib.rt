@@ -6,9 +6,11 @@ mod field;
 mod interpolation;
 mod joining;
 mod part;
+mod rebuilding;
 #[cfg(test)]
 mod tests;
 
 pub use crate::joining::join;
 pub use crate::part::{Part, part_of};
+pub use crate::rebuilding::{RebuildAnswer, Rebuilt, rebuild};
 pub use plain_lists::Want;

@@ -5,8 +5,6 @@ mod given;
 mod saying;
 mod script;
 mod step;
-#[cfg(test)]
-mod tests;
 mod word;
 mod word_fields;
 

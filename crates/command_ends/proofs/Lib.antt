@@ -1,0 +1,4 @@
+pub mod Pieces
+pub mod Courses
+pub mod Endings
+pub mod Completes

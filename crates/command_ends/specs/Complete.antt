@@ -1,0 +1,42 @@
+-- What a call comes to where nothing is in its way.
+use Rattle.std.specs.Prelude.{◌≡◌, ◌≤◌, ℕ, List, [], ◌∷◌, ◌++◌, Some, length}
+use Rattle.outside.specs.Faults.{HasRisen}
+use Rattle.outside.specs.Piece.{with_piece}
+use Rattle.command_ends.specs.Refusals.{status_of}
+use Rattle.command_ends.specs.Steps.{Step}
+use Rattle.command_ends.specs.Steps.Step.{Load, Gives, Refuses}
+use Rattle.command_ends.specs.Calls.{Call, PutsNothing, most_bytes}
+use Rattle.command_ends.specs.Ended.{ErrorSink}
+
+-- What comes next is one step.
+abbrev pub IsCertain : (List (List ℕ) → List (List ℕ) → Step → Type 0) → Type 0
+IsCertain next = (words contents : List (List ℕ)) (one other : Step) → next words contents one → next words contents other → one ≡ other
+
+-- Each file that is due tells what it holds, isn't too long, and was loaded without a fault: these are their contents.
+abbrev pub Lies : (List (List ℕ) → Step → Type 0) → Call → List (List ℕ) → List (List ℕ) → Type 0
+Lies next call before [] = Unit {0}
+Lies next call before (content ∷ more) =
+    (name : List ℕ) × next before (Load name) × (call.held name ≡ Some content) × (length content ≤ most_bytes)
+    × (HasRisen (call.faults_before name) (call.faults_after name) → ⊥) × Lies next call (before ++ content ∷ []) more
+
+-- The files that the words name are there, nothing failed in the call, and this is what comes of them.
+pub record IsUntroubled (next : List (List ℕ) → List (List ℕ) → Step → Type 0) (call : Call) (last : Step) : Type 0 where
+  pub contents : List (List ℕ)
+  pub files : Lies (next call.words) call [] contents
+  pub comes : next call.words contents last
+  pub out : HasRisen call.out_faults_before call.out_faults_after → ⊥
+
+-- the whole text was put and nothing told to the error output; or nothing was put, and the status is that of the refusal
+abbrev pub IsDue : Call → ErrorSink → ℕ → Step → Type 0
+IsDue call err status (Load name) = Unit {0}
+IsDue call err status (Gives text) =
+    (status ≡ 0) × (call.put_after ≡ with_piece call.put_before text) × (err.put_after ≡ err.put_before)
+IsDue call err status (Refuses why) = (status ≡ status_of why) × PutsNothing call
+
+pub data IsDueOrWant (call : Call) (err : ErrorSink) (status : ℕ) (last : Step) : Type 0 where
+  due : IsDue call err status last → IsDueOrWant call err status last
+  memory : status ≡ 7 → IsDueOrWant call err status last
+
+-- Where nothing is in its way, a call ends with what its words and its files come to, or for want of memory.
+abbrev pub Completes : (List (List ℕ) → List (List ℕ) → Step → Type 0) → Call → ErrorSink → ℕ → Type 0
+Completes next call err status = (last : Step) → IsUntroubled next call last → IsDueOrWant call err status last

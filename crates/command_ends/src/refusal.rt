@@ -1,0 +1,48 @@
+use plain_lists::Text;
+
+/// What is wrong with a scenario: the first fault. A name is a key's.
+#[derive(Drop)]
+pub enum ScenarioFault {
+    BadToml,
+    MissingKey { name: Text },
+    BadValue { name: Text },
+    TooMany { name: Text },
+    UnknownKey { name: Text },
+}
+
+/// What is wrong with a line of a script or of words, with a play at a line of its script, or with a history.
+#[derive(Clone, Copy, Debug, PartialEq, Eq)]
+pub enum LineFault {
+    /// The line isn't of its form.
+    BadLine,
+    /// An actor that the line names isn't there, or hasn't the line's role.
+    NoActor,
+    /// A frame or a word that the line names isn't there.
+    NoFrame,
+    /// At the line the play would have too many entries.
+    TooMany,
+    /// No correct actors do what the history says.
+    NotLegal,
+}
+
+/// Why a call didn't put its whole text.
+#[derive(Drop)]
+pub enum Refusal {
+    /// The words aren't a command.
+    Usage,
+    /// The file could not be loaded.
+    Fault { name: Text },
+    /// The file is longer than files may be.
+    TooLong { name: Text },
+    Scenario { fault: ScenarioFault },
+    /// The script is refused, or its play is. Lines are counted from 1.
+    Script { fault: LineFault, line: u64 },
+    Words { fault: LineFault, line: u64 },
+    /// The number is a line's, counted from 1, or a stamp.
+    History { fault: LineFault, number: u64 },
+    /// The signature isn't one of the message.
+    NotVerified,
+    /// The output failed.
+    Output,
+    Memory,
+}

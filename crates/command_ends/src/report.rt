@@ -1,0 +1,123 @@
+ghost use Rattle.std.specs.Prelude.{◌≡◌, ◌≤◌, ◌++◌, IfOk, string_bytes, codes};
+ghost use Rattle.command_ends.specs.Output.{PutsBeginning};
+ghost use Rattle.command_ends.specs.Refusals.{status_of, line_text, fault_line, line_fault_name, scenario_fault_text};
+ghost use Rattle.command_ends.specs.Ended.{Told, ErrorSink};
+
+use crate::refusal::{LineFault, Refusal, ScenarioFault};
+use outside::{PutAnswer, Sink};
+use plain_lists::Want;
+use std::alloc::{AllocError, Global};
+
+/// Puts a refusal's line, and gives the status.
+pub fn report<E: Sink>(alloc: Global, refusal: &Refusal, err: &mut E) -> u8
+    ensures told { Told refusal.now record { faults_before = E.faults err.old; faults_after = E.faults err.new; put_before = E.told err.old; put_after = E.told err.new } result }
+{
+    match line_of(alloc, refusal) {
+        Ok(line) => match err.put(line.as_bytes()) {
+            Ok(()) | Err(PutAnswer::Failed) => status_of(refusal),
+            Err(PutAnswer::Want) => memory_line(err),
+        },
+        Err(_) => memory_line(err),
+    }
+}
+
+fn memory_line<E: Sink>(err: &mut E) -> u8
+    ensures status { result ≡ 7 }
+    ensures never_falls { E.faults err.old ≤ E.faults err.new }
+    ensures put { PutsBeginning (E.told err.old) (codes "spire: memory\n") (E.told err.new) }
+{
+    let _ = err.put(b"spire: memory\n");
+    7
+}
+
+fn status_of(refusal: &Refusal) -> u8
+    ensures { result ≡ status_of refusal.now }
+{
+    match refusal {
+        Refusal::Usage => 2,
+        Refusal::Fault { name: _ } | Refusal::TooLong { name: _ } => 3,
+        Refusal::Scenario { fault: _ } => 4,
+        Refusal::Script { fault: _, line: _ }
+        | Refusal::Words { fault: _, line: _ }
+        | Refusal::History {
+            fault: _,
+            number: _,
+        } => 5,
+        Refusal::Output => 6,
+        Refusal::Memory => 7,
+        Refusal::NotVerified => 8,
+    }
+}
+
+fn line_of(alloc: Global, refusal: &Refusal) -> Result<String, AllocError>
+    ensures { IfOk result (λ line. string_bytes line ≡ line_text refusal.now) }
+{
+    match refusal {
+        Refusal::Usage => String::from_str(alloc, "spire: usage\n"),
+        Refusal::Fault { name } => {
+            let name = name.as_str();
+            format!(in alloc; "spire: file {name} fault\n")
+        }
+        Refusal::TooLong { name } => {
+            let name = name.as_str();
+            format!(in alloc; "spire: file {name} too long\n")
+        }
+        Refusal::Scenario { fault } => scenario_line(alloc, fault),
+        Refusal::Script { fault, line } => fault_line(alloc, "script", *fault, *line),
+        Refusal::Words { fault, line } => fault_line(alloc, "words", *fault, *line),
+        Refusal::History { fault, number } => fault_line(alloc, "history", *fault, *number),
+        Refusal::NotVerified => String::from_str(alloc, "spire: not verified\n"),
+        Refusal::Output => String::from_str(alloc, "spire: output fault\n"),
+        Refusal::Memory => String::from_str(alloc, "spire: memory\n"),
+    }
+}
+
+fn scenario_line(alloc: Global, fault: &ScenarioFault) -> Result<String, AllocError>
+    ensures { IfOk result (λ line. string_bytes line ≡ codes "spire: scenario " ++ scenario_fault_text fault.now ++ codes "\n") }
+{
+    match fault {
+        ScenarioFault::BadToml => String::from_str(alloc, "spire: scenario BadToml\n"),
+        ScenarioFault::MissingKey { name } => {
+            let name = name.as_str();
+            format!(in alloc; "spire: scenario MissingKey {name}\n")
+        }
+        ScenarioFault::BadValue { name } => {
+            let name = name.as_str();
+            format!(in alloc; "spire: scenario BadValue {name}\n")
+        }
+        ScenarioFault::TooMany { name } => {
+            let name = name.as_str();
+            format!(in alloc; "spire: scenario TooMany {name}\n")
+        }
+        ScenarioFault::UnknownKey { name } => {
+            let name = name.as_str();
+            format!(in alloc; "spire: scenario UnknownKey {name}\n")
+        }
+    }
+}
+
+#[tactic(auto, unfolding(crate::specs::Refusals::fault_line))]
+fn fault_line(
+    alloc: Global,
+    file: &str,
+    fault: LineFault,
+    number: u64,
+) -> Result<String, AllocError>
+    ensures { IfOk result (λ line. string_bytes line ≡ fault_line file.now fault number) }
+{
+    let name = fault_name(fault);
+    let line = format!(in alloc; "spire: {file} {name} {number}\n")?;
+    Ok(line)
+}
+
+fn fault_name(fault: LineFault) -> &'static str
+    ensures { result.now ≡ line_fault_name fault }
+{
+    match fault {
+        LineFault::BadLine => "BadLine",
+        LineFault::NoActor => "NoActor",
+        LineFault::NoFrame => "NoFrame",
+        LineFault::TooMany => "TooMany",
+        LineFault::NotLegal => "NotLegal",
+    }
+}

@@ -1,0 +1,42 @@
+use command_ends::{LineFault, Refusal};
+use run_commands::Runs;
+use scenario_file::Scenario;
+use script_lines::{Script, Words};
+use std::alloc::Global;
+
+/// Plays that stop at their first line.
+#[derive(Drop)]
+pub struct Unplayed;
+
+impl Runs for Unplayed {
+    ghost use Rattle.command_tests.specs.Unplayed.{unplayed};
+
+    ghost readers = { unplayed };
+
+    fn play_text(
+        &self,
+        _alloc: Global,
+        _scenario: &Scenario,
+        _script: &Script,
+        _words: &Words,
+    ) -> Result<Vec<u8>, Refusal> {
+        Err(Refusal::Script {
+            fault: LineFault::NoFrame,
+            line: 1,
+        })
+    }
+
+    fn replay_text(
+        &self,
+        _alloc: Global,
+        _scenario: &Scenario,
+        _text: &[u8],
+    ) -> Result<Vec<u8>, Refusal> {
+        Err(Refusal::History {
+            fault: LineFault::BadLine,
+            number: 1,
+        })
+    }
+
+    fn keep_rules(&self) {}
+}

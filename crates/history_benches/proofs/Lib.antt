@@ -1,0 +1,5 @@
+mod Numbered
+mod Shown
+mod Steps
+mod Placing
+mod Joined

@@ -1,0 +1,162 @@
+//! Benches of all roles.
+ghost use Rattle.std.specs.Prelude.{IfOk, ◌≡◌, ◌+◌, ◌<◌, ◌^◌, length, map, nat_lt, true, IsTrue};
+ghost use Rattle.std.specs.List.{list_all};
+ghost use Rattle.play_words.specs.Accepted.{is_accepted};
+ghost use Rattle.scenario_file.specs.Reading.{contents};
+ghost use Rattle.scenario_file.specs.Valid.{IsScenario};
+ghost use Rattle.world_entries.specs.Entries.{entry_of};
+ghost use Rattle.world_rules.specs.Scenarios.{group_in};
+
+use crate::common::{has_actor, is_later};
+use message_forms::read_frame;
+use message_types::{Body, Frame, Op};
+use plain_lists::{Bytes, Want};
+use point_table::Area;
+use scenario_file::Scenario;
+use std::alloc::Global;
+use std::test::Fail;
+use world_history::{Bench, Event, Ref, Word};
+
+/// Masters 0 to 3, the last of them intruded, a proxy as actor 4 and a screen as actor 5. Each has 32 leaves.
+const OF_ALL_ROLES: &str =
+    "f = 1\nseed = \"0000000000000000000000000000000000000000000000000000000000000000\"\nlevels = [5]\nintruded = [3]\nscreens = 1\n[[proxy]]\ncoils = 1\ndiscrete = 0\nholding = 0\ninput = 0\n";
+
+fn command() -> Event {
+    Event::Command {
+        op: Op::Ack { alarm: 0 },
+    }
+}
+
+#[test]
+fn a_screen_signs_its_commands_until_its_key_is_spent(rt: HostRuntime) -> Result<(), Fail> {
+    let alloc = rt.alloc();
+    let scenario = Scenario::read(alloc, OF_ALL_ROLES.as_bytes())?;
+    assert!(rt; has_actor(&scenario, 5));
+    let mut screen = Bench::make(alloc, &scenario, 5)?;
+    assert_eq!(rt; screen.left(), 32);
+    for stamp in 0..34u64 {
+        assert!(rt; screen.fits(&command()));
+        assert!(rt; is_later(screen.list(), stamp));
+        assert!(rt; screen.list().len() < 40);
+        let frames = screen.act(stamp, command())?;
+        let want = if stamp < 32 { 1 } else { 0 };
+        assert_eq!(rt; frames.len(), want, "at {stamp}");
+        if let Some(frame) = frames.first() {
+            match &frame.body {
+                Body::Update(update) => assert_eq!(rt; update.t, stamp + 1),
+                _ => assert!(rt; false, "no update"),
+            }
+        }
+    }
+    assert_eq!(rt; screen.left(), 0);
+    assert_eq!(rt; screen.list().len(), 34);
+    assert_eq!(rt; screen.board().len(), 0);
+    Ok(())
+}
+
+#[test]
+fn each_actor_has_the_events_of_its_role(rt: HostRuntime) -> Result<(), Fail> {
+    let alloc = rt.alloc();
+    let scenario = Scenario::read(alloc, OF_ALL_ROLES.as_bytes())?;
+    // Of the events below, which ones each actor can have.
+    let roles = [
+        (0, [true, true, false, false, false, false, false]),
+        (3, [true, false, true, false, false, false, false]),
+        (4, [true, true, false, false, true, true, false]),
+        (5, [true, true, false, true, false, false, false]),
+    ];
+    for (actor, wanted) in roles {
+        assert!(rt; has_actor(&scenario, actor));
+        let bench = Bench::make(alloc, &scenario, actor)?;
+        assert_eq!(rt; bench.actor(), actor);
+        let events = [
+            Event::Tick,
+            Event::Restart,
+            Event::Cry {
+                bytes: Bytes::from_slice(alloc, &[])?,
+            },
+            command(),
+            Event::Poll,
+            Event::Field {
+                area: Area::Coil,
+                place: 0,
+                value: 1,
+            },
+            Event::Field {
+                area: Area::Coil,
+                place: 1,
+                value: 1,
+            },
+        ];
+        for (event, fits) in events.iter().zip(wanted) {
+            assert_eq!(rt; bench.fits(event), fits, "at {actor}");
+        }
+        assert_eq!(rt; bench.executions().len(), 0);
+        assert_eq!(rt; bench.view(), 0);
+        assert_eq!(rt; bench.writes().len(), 0);
+        assert!(rt; bench.certified(0, 1).is_none());
+    }
+    Ok(())
+}
+
+/// Bytes that spell no frame.
+#[tactic(auto, unfolding(play_words::specs::Accepted::is_accepted))]
+fn raw(alloc: Global) -> Result<Word, Want>
+    ensures { IfOk result (λ word. IsTrue (is_accepted word)) }
+{
+    Ok(Word::Raw {
+        bytes: Bytes::from_slice(alloc, &[1, 2, 3])?,
+    })
+}
+
+#[tactic(auto, unfolding(play_words::specs::Accepted::is_accepted))]
+fn ping(number: u64) -> Word
+    ensures { IsTrue (is_accepted result) }
+{
+    Word::Ping { number }
+}
+
+/// A request for the first update of actor 4.
+#[tactic(auto, unfolding(play_words::specs::Accepted::is_accepted))]
+fn request() -> Word
+    ensures { IsTrue (is_accepted result) }
+{
+    Word::PoRequest {
+        k: 1,
+        update: Ref {
+            actor: 4,
+            kind: 1,
+            number: 1,
+        },
+    }
+}
+
+#[test]
+fn an_intruded_master_signs_what_it_is_made_to_say(rt: HostRuntime) -> Result<(), Fail> {
+    let alloc = rt.alloc();
+    let scenario = Scenario::read(alloc, OF_ALL_ROLES.as_bytes())?;
+    assert!(rt; has_actor(&scenario, 3));
+    let mut master = Bench::make(alloc, &scenario, 3)?;
+    assert!(rt; master.is_intruded());
+    let bytes = master.speak(&raw(alloc)?)?;
+    assert!(rt; bytes.is_some_and(|bytes| bytes.as_slice() == [1, 2, 3].as_slice()));
+    // It knows no update.
+    assert!(rt; master.is_intruded());
+    assert!(rt; master.speak(&request())?.is_none());
+    assert_eq!(rt; master.left(), 32);
+    for number in 0..32u8 {
+        assert!(rt; master.is_intruded());
+        let Some(bytes) = master.speak(&ping(u64::from(number)))? else {
+            return Err("nothing said".into());
+        };
+        let frame = read_frame(alloc, &bytes)?;
+        assert_eq!(rt; frame.signer, 3);
+        assert!(rt; matches!(&frame.body, Body::Ping(_)));
+        // A signature of one level begins with four zeros and the number of its leaf.
+        assert_eq!(rt; frame.sig.as_slice().get(7).copied(), Some(number));
+    }
+    assert!(rt; master.is_intruded());
+    assert!(rt; master.speak(&ping(32))?.is_none());
+    assert_eq!(rt; master.left(), 0);
+    Ok(())
+}

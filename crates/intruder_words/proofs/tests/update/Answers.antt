@@ -1,9 +1,0 @@
-use Rattle.std.proofs.Common.{ℕ, List, ap}
-use Rattle.message_types.specs.declared.updates.Op.TheVariants as op
-use Rattle.message_types.specs.declared.body.Body.TheVariants as body
-use Rattle.message_types.specs.Spelling.{has_spelling}
-use Rattle.intruder_words.proofs.tests.update.Goals as goal
-
-pub returns : goal.returns
-unfolding has_spelling
-returns c = ap (λ (sig : List ℕ). has_spelling record { signer = 4; body = body.Update record { client = 0; t = 1; op = op.Ack 0 }; sig = sig }) c.in_ok-from_slice.ensures

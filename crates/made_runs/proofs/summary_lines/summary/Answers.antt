@@ -1,0 +1,16 @@
+use Rattle.std.proofs.Common.{arith, ap, ◌∙◌}
+use Rattle.std.specs.List.{flat_map}
+use Rattle.made_runs.specs.Summary.{summary, summary_line}
+use Rattle.made_runs.proofs.Pieces.{shown, line-more, lines-end}
+use Rattle.made_runs.proofs.summary_lines.summary.Goals as goal
+
+pub loop-line-preserved : goal.loop-line-preserved
+loop-line-preserved c =
+    line-more summary_line c.loop-line.line-index c.deref-line-items.result.now _ _ _ _ (omega arith) c.loop-line.invariant c.in_ok-put_line.ensures
+
+pub returns : goal.returns
+unfolding summary
+returns c =
+    lines-end summary_line c.loop-line.line-index c.deref-line-items.result.now _ _ (omega arith) c.loop-line.invariant
+    ∙ ap (λ ls. flat_map summary_line (shown ls)) c.deref-line-items.ensures.value
+    ∙ ap (flat_map summary_line) c.in_ok-lines_of.ensures

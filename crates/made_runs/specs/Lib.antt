@@ -1,0 +1,3 @@
+pub mod Scenario
+pub mod Script
+pub mod Summary

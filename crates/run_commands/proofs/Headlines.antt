@@ -1,0 +1,249 @@
+-- Why the headline holds of a play or a replay that ends well.
+use Rattle.std.proofs.Common.{◌≡◌, ◌<◌, ℕ, Bool, true, false, List, [], ◌∷◌, ◌++◌, Option, None, Some, Result, Ok, Err, refl, sym, ◌∙◌, ap, subst, arith, true≢false}
+use Rattle.std.specs.Prelude.{◌≤◌, length, if◌then◌else◌}
+use Rattle.std.specs.Str.{is_utf8}
+use Rattle.toml.specs.Data.{Members}
+use Rattle.toml.specs.Parse.{parse_document}
+use Rattle.outside.specs.Piece.{with_piece}
+use Rattle.scenario_file.specs.Reading.{Contents, scenario_in, scenario_of, or_no_toml}
+use Rattle.scenario_file.specs.Valid.{IsScenario}
+use Rattle.scenario_file.specs.Answers.{Answer}
+use Rattle.scenario_file.specs.declared.refusal.ScenarioRefusal.{ScenarioRefusal}
+use Rattle.scenario_file.specs.declared.refusal.ScenarioRefusal.TheVariants as scenario
+use Rattle.scenario_file.proofs.ValidLaws.{scenario_of-valid}
+use Rattle.history_rules.specs.Events.{Entry}
+use Rattle.world_rules.proofs.Following.{headline_of_legal}
+use Rattle.script_grammar.specs.Names.{who_of}
+use Rattle.script_lines.specs.Scripts.{script_in}
+use Rattle.script_lines.specs.Sayings.{words_in}
+use Rattle.script_lines.specs.declared.script.Line.{Line}
+use Rattle.script_lines.specs.declared.saying.Saying.{Saying}
+use Rattle.command_words.specs.Wanted.{Wanted, play, run, replay, make, keys, verify, parts, rebuild, blame, trend, is_command, wanted_in}
+use Rattle.command_ends.specs.Refusals.{status_of}
+use Rattle.command_ends.specs.Steps.{Step}
+use Rattle.command_ends.specs.Steps.Step.{Load, Gives, Refuses}
+use Rattle.command_ends.specs.Calls.{Call, CauseOf, Comes, Loaded, IsContent}
+use Rattle.command_ends.specs.Ended.{ErrorSink, Ends, Finishes, Told}
+use Rattle.command_ends.specs.declared.refusal.LineFault.{LineFault}
+use Rattle.command_ends.specs.declared.refusal.Refusal.{Refusal}
+use Rattle.command_ends.specs.declared.refusal.Refusal.TheVariants as refusal
+use Rattle.run_commands.specs.Readers.{Readers, Keeps}
+use Rattle.run_commands.specs.Reading.{accepted, scenario_at, scenario_refusal, script_refusal, words_refusal, with_scenario, with_script, with_words, with_play, with_history}
+use Rattle.run_commands.specs.Course.{CommandStep, AskedStep, NextStep}
+use Rattle.run_commands.specs.Headline.{IsRun, Headline, KeepsHeadline, asks_for_run}
+
+abbrev is_text : Step → Bool
+is_text (Gives text) = true
+is_text _ = false
+
+abbrev is_refusal : Step → Bool
+is_refusal (Refuses why) = true
+is_refusal _ = false
+
+abbrev text_in : Step → List ℕ
+text_in (Gives text) = text
+text_in _ = []
+
+abbrev file_of : Step → List ℕ
+file_of (Load name) = name
+file_of _ = []
+
+-- where a text comes of an answer, there was a value
+accepted-gives : {A E : Type 0} (refuse : E → Refusal) (answer : Result A E) (onward : A → Step) (text : List ℕ) → Gives text ≡ accepted refuse answer onward
+    → (value : A) × (answer ≡ Ok value) × (Gives text ≡ onward value)
+accepted-gives refuse (Ok value) onward text is = (value, refl, is)
+accepted-gives refuse (Err e) onward text is = absurd (true≢false (ap is_text is))
+
+no-text : (name text : List ℕ) → Gives text ≡ Load name → ⊥
+no-text name text is = true≢false (ap is_text is)
+
+-- what is read is a scenario
+document-valid : (doc : Option Members) (c : Contents) → or_no_toml doc ≡ Ok c → IsScenario c
+document-valid None c is = absurd (cc)
+document-valid (Some doc) c is = scenario_of-valid doc c is
+
+text-valid : (text : List ℕ) (c : Contents) → scenario_in text ≡ Ok c → IsScenario c
+unfolding scenario_in
+text-valid text c is = document-valid (parse_document text) c is
+
+abbrev read-if : Bool → List ℕ → Result Contents ScenarioRefusal
+read-if is text = if is then scenario_in text else Err scenario.BadToml
+
+read-valid : (is : Bool) (text : List ℕ) (c : Contents) → read-if is text ≡ Ok c → IsScenario c
+read-valid true text c is = text-valid text c is
+read-valid false text c is = absurd (cc)
+
+scenario-valid : (text : List ℕ) (c : Contents) → scenario_at text ≡ Ok c → IsScenario c
+unfolding scenario_at
+scenario-valid text c is = read-valid (is_utf8 text) text c is
+
+-- words that ask for a command and aren't refused
+as-command : (r : Readers) (is : Bool) (w : Wanted) (contents : List (List ℕ)) (step : Step) → is_refusal step ≡ false
+    → AskedStep r is (Some w) contents step → CommandStep r w contents step
+as-command r false w contents step other asked = absurd (true≢false (sym (ap is_refusal asked) ∙ other))
+as-command r true w contents step other asked = asked
+
+next-command : (r : Readers) (words : List (List ℕ)) (w : Wanted) (contents : List (List ℕ)) (step : Step) → wanted_in words ≡ Some w
+    → is_refusal step ≡ false → NextStep r words contents step → CommandStep r w contents step
+next-command r words w contents step asked other next =
+    as-command r (is_command words) w contents step other (subst (λ (o : Option Wanted). AskedStep r (is_command words) o contents step) asked next)
+
+-- the content is that of the file that is due
+same-file : (held : List ℕ → Option (List ℕ)) (name due content : List ℕ) → Load name ≡ Load due → IsContent (held name) content → IsContent (held due) content
+same-file held name due content is told = subst (λ n. IsContent (held n) content) (ap file_of is) told
+
+-- ---- A play.
+
+play-second : (scenario script : List ℕ) (first name : List ℕ) (c : Contents) → scenario_at first ≡ Ok c → Load name ≡ with_scenario first (λ d. Load script)
+    → Load name ≡ Load script
+play-second scenario script first name c one is = is ∙ ap (λ a. accepted scenario_refusal a (λ (d : Contents). Load script)) one
+
+play-third : (words : List ℕ) (first second name : List ℕ) (c : Contents) (lines : List Line) → scenario_at first ≡ Ok c
+    → script_in (who_of c) second ≡ Ok lines → Load name ≡ with_scenario first (λ d. with_script d second (λ ls. Load words)) → Load name ≡ Load words
+play-third words first second name c lines one two is =
+    is ∙ ap (λ a. accepted scenario_refusal a (λ (d : Contents). with_script d second (λ ls. Load words))) one
+    ∙ ap (λ a. accepted script_refusal a (λ (ls : List Line). Load words)) two
+
+play-whole : (r : Readers) → Keeps r → (call : Call) (scenario script words text first second third : List ℕ)
+    → wanted_in call.words ≡ Some (play scenario script words) → (a b d : List ℕ) → IsContent (call.held a) first → IsContent (call.held b) second → IsContent (call.held d) third
+    → Load a ≡ Load scenario → Load b ≡ with_scenario first (λ c. Load script) → Load d ≡ with_scenario first (λ c. with_script c second (λ lines. Load words))
+    → Gives text ≡ with_scenario first (λ c. with_script c second (λ lines. with_words c third (λ sayings. with_play r c lines sayings (λ history. Gives (r.text_of c history)))))
+    → call.put_after ≡ with_piece call.put_before text → Headline r call
+play-whole r laws call scenario script words text first second third asked a b d at_a at_b at_d due_a due_b due_d is put =
+    let one = accepted-gives scenario_refusal (scenario_at first) (λ c. with_script c second (λ lines. with_words c third (λ sayings. with_play r c lines sayings (λ history. Gives (r.text_of c history))))) text is in
+    let c : Contents = one.0 in
+    let two = accepted-gives script_refusal (script_in (who_of c) second) (λ lines. with_words c third (λ sayings. with_play r c lines sayings (λ history. Gives (r.text_of c history)))) text one.2 in
+    let lines : List Line = two.0 in
+    let three = accepted-gives words_refusal (words_in (who_of c) third) (λ sayings. with_play r c lines sayings (λ history. Gives (r.text_of c history))) text two.2 in
+    let sayings : List Saying = three.0 in
+    let four = accepted-gives (λ (e : LineFault × ℕ). refusal.Script e.0 e.1) (r.played c lines sayings) (λ history. Gives (r.text_of c history)) text three.2 in
+    let history : List Entry = four.0 in
+    let valid : IsScenario c = scenario-valid first c one.1 in
+    let legal = laws.played_legal c lines sayings history valid (second, two.1) (third, three.1) four.1 in
+    record {
+      scenario = c;
+      history = history;
+      run = IsRun.plays scenario script words asked first second third
+          (same-file call.held a scenario first due_a at_a)
+          (same-file call.held b script second (play-second scenario script first b c one.1 due_b) at_b)
+          (same-file call.held d words third (play-third words first second d c lines one.1 two.1 due_d) at_d)
+          lines sayings one.1 two.1 three.1 four.1
+          (laws.played_unforged c lines sayings history valid (second, two.1) (third, three.1) four.1);
+      legal = legal;
+      put = put ∙ ap (λ (s : Step). with_piece call.put_before (text_in s)) four.2;
+      agreed = headline_of_legal c history valid legal;
+    }
+
+play-run : (r : Readers) → Keeps r → (call : Call) (scenario script words text : List ℕ) → wanted_in call.words ≡ Some (play scenario script words)
+    → (contents : List (List ℕ)) → Loaded (NextStep r call.words) call.held [] contents → NextStep r call.words contents (Gives text)
+    → call.put_after ≡ with_piece call.put_before text → Headline r call
+play-run r laws call scenario script words text asked [] loaded next put =
+    absurd (no-text scenario text (next-command r call.words (play scenario script words) [] (Gives text) asked refl next))
+play-run r laws call scenario script words text asked (first ∷ []) loaded next put =
+    let one = accepted-gives scenario_refusal (scenario_at first) (λ c. Load script) text
+    (next-command r call.words (play scenario script words) (first ∷ []) (Gives text) asked refl next) in
+    absurd (no-text script text one.2)
+play-run r laws call scenario script words text asked (first ∷ second ∷ []) loaded next put =
+    let one = accepted-gives scenario_refusal (scenario_at first) (λ c. with_script c second (λ lines. Load words)) text
+    (next-command r call.words (play scenario script words) (first ∷ second ∷ []) (Gives text) asked refl next) in
+    let two = accepted-gives script_refusal (script_in (who_of one.0) second) (λ lines. Load words) text one.2 in
+    absurd (no-text words text two.2)
+play-run r laws call scenario script words text asked (first ∷ second ∷ third ∷ more) loaded next put =
+    let w : Wanted = play scenario script words in
+    play-whole r laws call scenario script words text first second third asked loaded.0 loaded.4.0 loaded.4.4.0 loaded.2 loaded.4.2 loaded.4.4.2
+    (next-command r call.words w [] (Load loaded.0) asked refl loaded.1)
+    (next-command r call.words w (first ∷ []) (Load loaded.4.0) asked refl loaded.4.1)
+    (next-command r call.words w (first ∷ second ∷ []) (Load loaded.4.4.0) asked refl loaded.4.4.1)
+    (next-command r call.words w (first ∷ second ∷ third ∷ more) (Gives text) asked refl next) put
+
+-- ---- A replay.
+
+replay-whole : (r : Readers) → Keeps r → (call : Call) (scenario spelt text first second : List ℕ)
+    → wanted_in call.words ≡ Some (replay scenario spelt) → (a b : List ℕ) → IsContent (call.held a) first → IsContent (call.held b) second
+    → Load a ≡ Load scenario → Load b ≡ with_scenario first (λ c. Load spelt)
+    → Gives text ≡ with_scenario first (λ c. with_history r c second (λ history. Gives (r.text_of c history)))
+    → call.put_after ≡ with_piece call.put_before text → Headline r call
+replay-whole r laws call scenario spelt text first second asked a b at_a at_b due_a due_b is put =
+    let one = accepted-gives scenario_refusal (scenario_at first) (λ c. with_history r c second (λ history. Gives (r.text_of c history))) text is in
+    let c : Contents = one.0 in
+    let two = accepted-gives (λ (e : LineFault × ℕ). refusal.History e.0 e.1) (r.history_in c second) (λ history. Gives (r.text_of c history)) text one.2 in
+    let history : List Entry = two.0 in
+    let valid : IsScenario c = scenario-valid first c one.1 in
+    let legal = laws.read_legal c second history valid two.1 in
+    record {
+      scenario = c;
+      history = history;
+      run = IsRun.replays scenario spelt asked first second
+          (same-file call.held a scenario first due_a at_a)
+          (same-file call.held b spelt second (play-second scenario spelt first b c one.1 due_b) at_b)
+          one.1 two.1;
+      legal = legal;
+      put = put ∙ ap (λ (s : Step). with_piece call.put_before (text_in s)) two.2;
+      agreed = headline_of_legal c history valid legal;
+    }
+
+replay-run : (r : Readers) → Keeps r → (call : Call) (scenario spelt text : List ℕ) → wanted_in call.words ≡ Some (replay scenario spelt)
+    → (contents : List (List ℕ)) → Loaded (NextStep r call.words) call.held [] contents → NextStep r call.words contents (Gives text)
+    → call.put_after ≡ with_piece call.put_before text → Headline r call
+replay-run r laws call scenario spelt text asked [] loaded next put =
+    absurd (no-text scenario text (next-command r call.words (replay scenario spelt) [] (Gives text) asked refl next))
+replay-run r laws call scenario spelt text asked (first ∷ []) loaded next put =
+    let one = accepted-gives scenario_refusal (scenario_at first) (λ c. Load spelt) text
+    (next-command r call.words (replay scenario spelt) (first ∷ []) (Gives text) asked refl next) in
+    absurd (no-text spelt text one.2)
+replay-run r laws call scenario spelt text asked (first ∷ second ∷ more) loaded next put =
+    let w : Wanted = replay scenario spelt in
+    replay-whole r laws call scenario spelt text first second asked loaded.0 loaded.4.0 loaded.2 loaded.4.2
+    (next-command r call.words w [] (Load loaded.0) asked refl loaded.1)
+    (next-command r call.words w (first ∷ []) (Load loaded.4.0) asked refl loaded.4.1)
+    (next-command r call.words w (first ∷ second ∷ more) (Gives text) asked refl next) put
+
+-- ---- Both.
+
+-- words that ask for neither
+not-asked : false ≡ true → {A : Type 0} → A
+not-asked is = absurd (true≢false (sym is))
+
+by-wanted : (r : Readers) → Keeps r → (call : Call) (text : List ℕ) (o : Option Wanted) → wanted_in call.words ≡ o → asks_for_run o ≡ true
+    → (contents : List (List ℕ)) → Loaded (NextStep r call.words) call.held [] contents → NextStep r call.words contents (Gives text)
+    → call.put_after ≡ with_piece call.put_before text → Headline r call
+by-wanted r laws call text (Some (play scenario script words)) asked asks contents loaded next put =
+    play-run r laws call scenario script words text asked contents loaded next put
+by-wanted r laws call text (Some (replay scenario history)) asked asks contents loaded next put =
+    replay-run r laws call scenario history text asked contents loaded next put
+by-wanted r laws call text None asked asks contents loaded next put = not-asked asks
+by-wanted r laws call text (Some (make number)) asked asks contents loaded next put = not-asked asks
+by-wanted r laws call text (Some (keys scenario)) asked asks contents loaded next put = not-asked asks
+by-wanted r laws call text (Some (verify public message sig)) asked asks contents loaded next put = not-asked asks
+by-wanted r laws call text (Some (run scenario script words hands turns)) asked asks contents loaded next put = not-asked asks
+by-wanted r laws call text (Some (parts scenario history originator number)) asked asks contents loaded next put = not-asked asks
+by-wanted r laws call text (Some (rebuild scenario pieces)) asked asks contents loaded next put = not-asked asks
+by-wanted r laws call text (Some (blame scenario history)) asked asks contents loaded next put = not-asked asks
+by-wanted r laws call text (Some (trend scenario history point first last)) asked asks contents loaded next put = not-asked asks
+
+status-some : (why : Refusal) → 0 < status_of why
+status-some refusal.Usage = omega arith
+status-some (refusal.Fault name) = omega arith
+status-some (refusal.TooLong name) = omega arith
+status-some (refusal.Scenario fault) = omega arith
+status-some (refusal.Script fault number) = omega arith
+status-some (refusal.Words fault number) = omega arith
+status-some (refusal.History fault number) = omega arith
+status-some refusal.NotVerified = omega arith
+status-some refusal.Output = omega arith
+status-some refusal.Memory = omega arith
+
+refused-not-well : (why : Refusal) (err : ErrorSink) (status : ℕ) → status ≡ 0 → Told why err status → ⊥
+refused-not-well why err status zero (Told.whole is none line) = let some = status-some why in absurd (omega arith)
+refused-not-well why err status zero (Told.begun is risen put) = let some = status-some why in absurd (omega arith)
+refused-not-well why err status zero (Told.memory is put) = absurd (omega arith)
+
+by-result : (r : Readers) → Keeps r → (call : Call) (err : ErrorSink) (status : ℕ) (result : Result (Unit {0}) Refusal)
+    → CauseOf (NextStep r) call result → Finishes result err status → KeepsHeadline r call status
+by-result r laws call err status (Ok done) cause finish zero asks =
+    by-wanted r laws call cause.0 (wanted_in call.words) refl asks cause.1.0 cause.1.1 cause.1.2 cause.2
+by-result r laws call err status (Err why) cause finish zero asks = absurd (refused-not-well why err status zero finish)
+
+-- The headline holds of each play and each replay that ends well.
+pub headline : (r : Readers) → Keeps r → (call : Call) (err : ErrorSink) (status : ℕ) → Ends (NextStep r) call err status → KeepsHeadline r call status
+headline r laws call err status ends = by-result r laws call err status ends.result ends.cause ends.finish

@@ -1,0 +1,5 @@
+pub mod Scenarios
+pub mod Openings
+pub mod Playing
+pub mod Certain
+pub mod Headlines

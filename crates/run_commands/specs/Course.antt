@@ -1,0 +1,83 @@
+-- What each command does, step by step. (This project's own.)
+use Rattle.std.specs.Prelude.{◌≡◌, ◌⊎◌, ℕ, Bool, true, false, List, [], ◌∷◌, Option, None, Some}
+use Rattle.scenario_file.specs.Reading.{Contents}
+use Rattle.history_rules.specs.Events.{Entry}
+use Rattle.hash_signatures.specs.Verification.{Verifies}
+use Rattle.command_words.specs.Wanted.{Wanted, play, run, replay, make, keys, verify, parts, rebuild, blame, trend, is_command, wanted_in}
+use Rattle.made_runs.specs.Scenario.{made_scenario}
+use Rattle.made_runs.specs.Script.{made_script}
+use Rattle.made_runs.specs.Summary.{summary}
+use Rattle.key_commands.specs.Keys.{keys_text}
+use Rattle.key_commands.specs.Verifying.{public_in, verified_text}
+use Rattle.command_ends.specs.Steps.{Step}
+use Rattle.command_ends.specs.Steps.Step.{Load, Gives, Refuses}
+use Rattle.command_ends.specs.declared.refusal.Refusal.TheVariants as refusal
+use Rattle.run_commands.specs.Readers.{Readers}
+use Rattle.run_commands.specs.Reading.{with_scenario, with_script, with_words, with_play, with_history}
+
+-- the files of a play are the scenario, the script and the words
+abbrev pub play_step : Readers → List ℕ → List ℕ → List ℕ → List (List ℕ) → Step
+play_step r scenario script words [] = Load scenario
+play_step r scenario script words (a ∷ []) = with_scenario a (λ c. Load script)
+play_step r scenario script words (a ∷ b ∷ []) = with_scenario a (λ c. with_script c b (λ lines. Load words))
+play_step r scenario script words (a ∷ b ∷ d ∷ more) =
+    with_scenario a (λ c. with_script c b (λ lines. with_words c d (λ sayings.
+    with_play r c lines sayings (λ history. Gives (r.text_of c history)))))
+
+-- those of a replay are the scenario and the history
+abbrev pub replay_step : Readers → List ℕ → List ℕ → List (List ℕ) → Step
+replay_step r scenario history [] = Load scenario
+replay_step r scenario history (a ∷ []) = with_scenario a (λ c. Load history)
+replay_step r scenario history (a ∷ b ∷ more) = with_scenario a (λ c. with_history r c b (λ h. Gives (r.text_of c h)))
+
+-- a made run is a play of a made scenario and a made script without words, of which the summary is given
+abbrev pub made_history : Readers → Contents → ℕ → (List Entry → Step) → Step
+made_history r c number onward =
+    with_script c (made_script number) (λ lines. with_words c [] (λ sayings. with_play r c lines sayings onward))
+
+abbrev pub made_run : Readers → Contents → ℕ → Step
+made_run r c number = made_history r c number (λ history. Gives (summary (r.text_of c history)))
+
+unfoldable pub make_step : Readers → ℕ → Step
+make_step r number = with_scenario (made_scenario number) (λ c. made_run r c number)
+
+abbrev pub keys_step : List ℕ → List (List ℕ) → Step
+keys_step scenario [] = Load scenario
+keys_step scenario (a ∷ more) = with_scenario a (λ c. Gives (keys_text c))
+
+abbrev pub KeysCourse : List ℕ → List (List ℕ) → Step → Type 0
+KeysCourse scenario contents step = step ≡ keys_step scenario contents
+
+-- the message and the signature are loaded, and the text is there where the key verifies
+abbrev pub VerifyStep : List ℕ → List ℕ → List ℕ → List (List ℕ) → Step → Type 0
+VerifyStep public message sig [] step = step ≡ Load message
+VerifyStep public message sig (a ∷ []) step = step ≡ Load sig
+VerifyStep public message sig (a ∷ b ∷ more) step =
+    (Verifies public a b × (step ≡ Gives verified_text)) ⊎ ((Verifies public a b → ⊥) × (step ≡ Refuses refusal.NotVerified))
+
+-- words whose public key isn't one are no command
+abbrev pub VerifyCourse : Option (List ℕ) → List ℕ → List ℕ → List (List ℕ) → Step → Type 0
+VerifyCourse None message sig contents step = step ≡ Refuses refusal.Usage
+VerifyCourse (Some public) message sig contents step = VerifyStep public message sig contents step
+
+-- What comes next in a command, after the contents of the files loaded so far. The commands that aren't built are refused.
+abbrev pub CommandStep : Readers → Wanted → List (List ℕ) → Step → Type 0
+CommandStep r (play scenario script words) contents step = step ≡ play_step r scenario script words contents
+CommandStep r (replay scenario history) contents step = step ≡ replay_step r scenario history contents
+CommandStep r (make number) contents step = step ≡ make_step r number
+CommandStep r (keys scenario) contents step = KeysCourse scenario contents step
+CommandStep r (verify public message sig) contents step = VerifyCourse (public_in public) message sig contents step
+CommandStep r (run scenario script words hands turns) contents step = step ≡ Refuses refusal.Usage
+CommandStep r (parts scenario history originator number) contents step = step ≡ Refuses refusal.Usage
+CommandStep r (rebuild scenario pieces) contents step = step ≡ Refuses refusal.Usage
+CommandStep r (blame scenario history) contents step = step ≡ Refuses refusal.Usage
+CommandStep r (trend scenario history point first last) contents step = step ≡ Refuses refusal.Usage
+
+-- The same of words: those that aren't a command are refused at once.
+abbrev pub AskedStep : Readers → Bool → Option Wanted → List (List ℕ) → Step → Type 0
+AskedStep r false asked contents step = step ≡ Refuses refusal.Usage
+AskedStep r true None contents step = ⊥
+AskedStep r true (Some wanted) contents step = CommandStep r wanted contents step
+
+abbrev pub NextStep : Readers → List (List ℕ) → List (List ℕ) → Step → Type 0
+NextStep r words contents step = AskedStep r (is_command words) (wanted_in words) contents step

@@ -1,0 +1,6 @@
+pub mod Readers
+pub mod Reading
+pub mod Course
+pub mod Opened
+pub mod Made
+pub mod Headline

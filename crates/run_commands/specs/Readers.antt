@@ -1,0 +1,69 @@
+-- What plays and printed runs are, by the names of their definitions.
+use Rattle.std.specs.Prelude.{◌≡◌, ℕ, Bool, true, false, not, List, Result, Ok, Err}
+use Rattle.std.specs.List.{list_all}
+use Rattle.std.specs.declared.vec.Vec.{Vec}
+use Rattle.std.specs.declared.alloc.Global.{Global}
+use Rattle.scenario_file.specs.Reading.{Contents}
+use Rattle.scenario_file.specs.Valid.{IsScenario}
+use Rattle.history_rules.specs.Events.{Entry}
+use Rattle.history_rules.specs.Legal.{IsLegal}
+use Rattle.history_rules.specs.Counts.{forged}
+use Rattle.world_rules.specs.Scenarios.{setup_of}
+use Rattle.play_words.specs.declared.words.Word.{Word}
+use Rattle.play_words.specs.declared.words.Word.TheVariants as word
+use Rattle.script_grammar.specs.Names.{who_of}
+use Rattle.script_lines.specs.Scripts.{script_in}
+use Rattle.script_lines.specs.Sayings.{words_in}
+use Rattle.script_lines.specs.declared.script.Line.{Line}
+use Rattle.script_lines.specs.declared.saying.Saying.{Saying}
+use Rattle.command_ends.specs.declared.refusal.LineFault.{LineFault}
+use Rattle.command_ends.specs.declared.refusal.Refusal.{Refusal}
+use Rattle.command_ends.specs.declared.refusal.Refusal.TheVariants as refusal
+
+-- the one history of a script and words, the history that a text spells, and the text of a history; or the first fault with
+-- its number
+pub record Readers : Type 0 where
+  pub played : Contents → List Line → List Saying → Result (List Entry) (LineFault × ℕ)
+  pub history_in : Contents → List ℕ → Result (List Entry) (LineFault × ℕ)
+  pub text_of : Contents → List Entry → List ℕ
+
+abbrev pub is_raw : Word → Bool
+is_raw (word.Raw bytes) = true
+is_raw _ = false
+
+-- no word of raw bytes is said
+abbrev pub AreNotRaw : List Saying → Type 0
+AreNotRaw sayings = list_all (λ (s : Saying). not (is_raw s.word)) sayings ≡ true
+
+-- lines that a script's file says, and what words' file says
+abbrev pub IsScriptOf : Contents → List Line → Type 0
+IsScriptOf c lines = (bytes : List ℕ) × (script_in (who_of c) bytes ≡ Ok lines)
+
+abbrev pub AreWordsOf : Contents → List Saying → Type 0
+AreWordsOf c sayings = (bytes : List ℕ) × (words_in (who_of c) bytes ≡ Ok sayings)
+
+-- What holds of these: a history played from files is legal, and without raw words nothing in it is forged; a history that a
+-- text spells is legal.
+pub record Keeps (r : Readers) : Type 0 where
+  pub played_legal : (c : Contents) (lines : List Line) (sayings : List Saying) (history : List Entry) → IsScenario c
+      → IsScriptOf c lines → AreWordsOf c sayings → r.played c lines sayings ≡ Ok history
+      → IsLegal (setup_of c) history
+  pub played_unforged : (c : Contents) (lines : List Line) (sayings : List Saying) (history : List Entry) → IsScenario c
+      → IsScriptOf c lines → AreWordsOf c sayings → r.played c lines sayings ≡ Ok history
+      → AreNotRaw sayings → forged (setup_of c) history ≡ 0
+  pub read_legal : (c : Contents) (text : List ℕ) (history : List Entry) → IsScenario c → r.history_in c text ≡ Ok history
+      → IsLegal (setup_of c) history
+
+-- the text of a play, or the line at which it stops
+abbrev pub PlayGives : Readers → Contents → List Line → List Saying → Result (Vec ℕ Global) Refusal → Type 0
+PlayGives r c lines sayings (Ok text) = (history : List Entry) × (r.played c lines sayings ≡ Ok history) × (text.items ≡ r.text_of c history)
+PlayGives r c lines sayings (Err (refusal.Script fault line)) = r.played c lines sayings ≡ Err (fault, line)
+PlayGives r c lines sayings (Err refusal.Memory) = Unit {0}
+PlayGives r c lines sayings (Err _) = ⊥
+
+-- the text of a history that is read, or why it isn't one
+abbrev pub ReplayGives : Readers → Contents → List ℕ → Result (Vec ℕ Global) Refusal → Type 0
+ReplayGives r c bytes (Ok text) = (history : List Entry) × (r.history_in c bytes ≡ Ok history) × (text.items ≡ r.text_of c history)
+ReplayGives r c bytes (Err (refusal.History fault number)) = r.history_in c bytes ≡ Err (fault, number)
+ReplayGives r c bytes (Err refusal.Memory) = Unit {0}
+ReplayGives r c bytes (Err _) = ⊥

@@ -1,0 +1,65 @@
+-- What a file's content leads to: the next step, where it is accepted, or the refusal. (This project's own.)
+use Rattle.std.specs.Prelude.{ℕ, List, Result, Ok, Err, if◌then◌else◌}
+use Rattle.std.specs.Str.{is_utf8}
+use Rattle.scenario_file.specs.Reading.{Contents, scenario_in}
+use Rattle.scenario_file.specs.declared.refusal.ScenarioRefusal.{ScenarioRefusal}
+use Rattle.scenario_file.specs.declared.refusal.ScenarioRefusal.TheVariants as scenario
+use Rattle.script_grammar.specs.declared.fault.ScriptRefusal.{ScriptRefusal}
+use Rattle.script_grammar.specs.declared.fault.ScriptRefusal.TheVariants as script
+use Rattle.script_grammar.specs.Names.{who_of}
+use Rattle.script_lines.specs.Scripts.{script_in}
+use Rattle.script_lines.specs.Sayings.{words_in}
+use Rattle.script_lines.specs.declared.script.Line.{Line}
+use Rattle.script_lines.specs.declared.saying.Saying.{Saying}
+use Rattle.history_rules.specs.Events.{Entry}
+use Rattle.command_ends.specs.Steps.{Step}
+use Rattle.command_ends.specs.Steps.Step.{Load, Gives, Refuses}
+use Rattle.command_ends.specs.declared.refusal.LineFault.{LineFault}
+use Rattle.command_ends.specs.declared.refusal.LineFault.TheVariants as line
+use Rattle.command_ends.specs.declared.refusal.ScenarioFault.TheVariants as fault
+use Rattle.command_ends.specs.declared.refusal.Refusal.{Refusal}
+use Rattle.command_ends.specs.declared.refusal.Refusal.TheVariants as refusal
+use Rattle.run_commands.specs.Readers.{Readers}
+
+-- bytes that are no text are no scenario either
+unfoldable pub scenario_at : List ℕ → Result Contents ScenarioRefusal
+scenario_at bytes = if is_utf8 bytes then scenario_in bytes else Err scenario.BadToml
+
+abbrev pub scenario_refusal : ScenarioRefusal → Refusal
+scenario_refusal scenario.BadToml = refusal.Scenario fault.BadToml
+scenario_refusal (scenario.MissingKey name) = refusal.Scenario (fault.MissingKey name)
+scenario_refusal (scenario.BadValue name) = refusal.Scenario (fault.BadValue name)
+scenario_refusal (scenario.TooMany name) = refusal.Scenario (fault.TooMany name)
+scenario_refusal (scenario.UnknownKey name) = refusal.Scenario (fault.UnknownKey name)
+scenario_refusal scenario.Want = refusal.Memory
+
+abbrev pub script_refusal : ScriptRefusal → Refusal
+script_refusal (script.BadLine number) = refusal.Script line.BadLine number
+script_refusal (script.NoActor number) = refusal.Script line.NoActor number
+script_refusal script.Want = refusal.Memory
+
+abbrev pub words_refusal : ScriptRefusal → Refusal
+words_refusal (script.BadLine number) = refusal.Words line.BadLine number
+words_refusal (script.NoActor number) = refusal.Words line.NoActor number
+words_refusal script.Want = refusal.Memory
+
+-- the next step after an answer: that of the value, or the refusal of the fault
+abbrev pub accepted : {A E : Type 0} → (E → Refusal) → Result A E → (A → Step) → Step
+accepted refuse (Ok value) onward = onward value
+accepted refuse (Err e) onward = Refuses (refuse e)
+
+abbrev pub with_scenario : List ℕ → (Contents → Step) → Step
+with_scenario bytes onward = accepted scenario_refusal (scenario_at bytes) onward
+
+abbrev pub with_script : Contents → List ℕ → (List Line → Step) → Step
+with_script c bytes onward = accepted script_refusal (script_in (who_of c) bytes) onward
+
+abbrev pub with_words : Contents → List ℕ → (List Saying → Step) → Step
+with_words c bytes onward = accepted words_refusal (words_in (who_of c) bytes) onward
+
+-- a play that stops counts as its script's fault
+abbrev pub with_play : Readers → Contents → List Line → List Saying → (List Entry → Step) → Step
+with_play r c lines sayings onward = accepted (λ (e : LineFault × ℕ). refusal.Script e.0 e.1) (r.played c lines sayings) onward
+
+abbrev pub with_history : Readers → Contents → List ℕ → (List Entry → Step) → Step
+with_history r c bytes onward = accepted (λ (e : LineFault × ℕ). refusal.History e.0 e.1) (r.history_in c bytes) onward

@@ -1,0 +1,13 @@
+//! The commands: what each loads, makes and prints, and the call of the program that runs them.
+#![tactic(auto)]
+
+mod made;
+mod opening;
+pub mod plain;
+mod program;
+mod runs;
+mod scripted;
+mod verifying;
+
+pub use crate::program::Program;
+pub use crate::runs::Runs;

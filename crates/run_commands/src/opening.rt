@@ -1,0 +1,133 @@
+ghost use Rattle.std.specs.Prelude.{◌≡◌, ℕ, List, IfOk};
+ghost use Rattle.scenario_file.specs.Reading.{contents};
+ghost use Rattle.scenario_file.specs.Valid.{IsScenario};
+ghost use Rattle.command_ends.specs.Calls.{FaultsOfFiles};
+ghost use Rattle.run_commands.specs.Readers.{IsScriptOf, AreWordsOf};
+ghost use Rattle.run_commands.specs.Reading.{scenario_refusal, with_scenario, with_script, with_words};
+ghost use Rattle.run_commands.specs.Opened.{Leads, OpenCause};
+
+use command_ends::{LineFault, Refusal, ScenarioFault, load};
+use outside::Files;
+use scenario_file::{Scenario, ScenarioRefusal};
+use script_lines::{Script, ScriptRefusal, Words};
+use std::alloc::Global;
+
+/// The scenario of a file.
+pub fn open_scenario<F: Files>(
+    alloc: Global,
+    name: &str,
+    files: &mut F,
+) -> Result<Scenario, Refusal>
+    ensures kept { (other : List ℕ) → F.held files.new other ≡ F.held files.old other }
+    ensures file_faults { FaultsOfFiles result (F.faults files.old) (F.faults files.new) }
+    ensures cause { OpenCause with_scenario contents (F.held files.old name.now) (F.faults files.old name.now) (F.faults files.new name.now) name.now result }
+    ensures valid { IfOk result (λ scenario. IsScenario (contents scenario)) }
+{
+    match load(alloc, name, files) {
+        Ok(content) => read_scenario(alloc, content.as_slice()),
+        Err(refusal) => Err(refusal),
+    }
+}
+
+/// The script of a file.
+pub fn open_script<F: Files>(
+    alloc: Global,
+    scenario: &Scenario,
+    name: &str,
+    files: &mut F,
+) -> Result<Script, Refusal>
+    requires { IsScenario (contents scenario.now) }
+    ensures kept { (other : List ℕ) → F.held files.new other ≡ F.held files.old other }
+    ensures file_faults { FaultsOfFiles result (F.faults files.old) (F.faults files.new) }
+    ensures cause { OpenCause (with_script (contents scenario.now)) (λ script. script) (F.held files.old name.now) (F.faults files.old name.now) (F.faults files.new name.now) name.now result }
+    ensures read { IfOk result (λ script. IsScriptOf (contents scenario.now) script) }
+{
+    match load(alloc, name, files) {
+        Ok(content) => read_script(alloc, scenario, content.as_slice()),
+        Err(refusal) => Err(refusal),
+    }
+}
+
+/// The words of a file.
+pub fn open_words<F: Files>(
+    alloc: Global,
+    scenario: &Scenario,
+    name: &str,
+    files: &mut F,
+) -> Result<Words, Refusal>
+    requires { IsScenario (contents scenario.now) }
+    ensures kept { (other : List ℕ) → F.held files.new other ≡ F.held files.old other }
+    ensures file_faults { FaultsOfFiles result (F.faults files.old) (F.faults files.new) }
+    ensures cause { OpenCause (with_words (contents scenario.now)) (λ words. words) (F.held files.old name.now) (F.faults files.old name.now) (F.faults files.new name.now) name.now result }
+    ensures read { IfOk result (λ words. AreWordsOf (contents scenario.now) words) }
+{
+    match load(alloc, name, files) {
+        Ok(content) => read_words(alloc, scenario, content.as_slice()),
+        Err(refusal) => Err(refusal),
+    }
+}
+
+/// The scenario of a content.
+pub fn read_scenario(alloc: Global, content: &[u8]) -> Result<Scenario, Refusal>
+    ensures leads { Leads with_scenario contents content.now result }
+    ensures valid { IfOk result (λ scenario. IsScenario (contents scenario)) }
+{
+    match Scenario::read(alloc, content) {
+        Ok(scenario) => Ok(scenario),
+        Err(refusal) => Err(scenario_refusal(refusal)),
+    }
+}
+
+fn scenario_refusal(refusal: ScenarioRefusal) -> Refusal
+    ensures { result ≡ scenario_refusal refusal }
+{
+    let fault = match refusal {
+        ScenarioRefusal::BadToml => ScenarioFault::BadToml,
+        ScenarioRefusal::MissingKey { name } => ScenarioFault::MissingKey { name },
+        ScenarioRefusal::BadValue { name } => ScenarioFault::BadValue { name },
+        ScenarioRefusal::TooMany { name } => ScenarioFault::TooMany { name },
+        ScenarioRefusal::UnknownKey { name } => ScenarioFault::UnknownKey { name },
+        ScenarioRefusal::Want => return Refusal::Memory,
+    };
+    Refusal::Scenario { fault }
+}
+
+/// The script of a content.
+pub fn read_script(alloc: Global, scenario: &Scenario, content: &[u8]) -> Result<Script, Refusal>
+    requires { IsScenario (contents scenario.now) }
+    ensures leads { Leads (with_script (contents scenario.now)) (λ script. script) content.now result }
+    ensures read { IfOk result (λ script. IsScriptOf (contents scenario.now) script) }
+{
+    match Script::read(alloc, content, scenario) {
+        Ok(script) => Ok(script),
+        Err(ScriptRefusal::BadLine { line }) => Err(Refusal::Script {
+            fault: LineFault::BadLine,
+            line,
+        }),
+        Err(ScriptRefusal::NoActor { line }) => Err(Refusal::Script {
+            fault: LineFault::NoActor,
+            line,
+        }),
+        Err(ScriptRefusal::Want) => Err(Refusal::Memory),
+    }
+}
+
+/// The words of a content.
+pub fn read_words(alloc: Global, scenario: &Scenario, content: &[u8]) -> Result<Words, Refusal>
+    requires { IsScenario (contents scenario.now) }
+    ensures leads { Leads (with_words (contents scenario.now)) (λ words. words) content.now result }
+    ensures read { IfOk result (λ words. AreWordsOf (contents scenario.now) words) }
+{
+    match Words::read(alloc, content, scenario) {
+        Ok(words) => Ok(words),
+        Err(ScriptRefusal::BadLine { line }) => Err(Refusal::Words {
+            fault: LineFault::BadLine,
+            line,
+        }),
+        Err(ScriptRefusal::NoActor { line }) => Err(Refusal::Words {
+            fault: LineFault::NoActor,
+            line,
+        }),
+        Err(ScriptRefusal::Want) => Err(Refusal::Memory),
+    }
+}

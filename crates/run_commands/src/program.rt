@@ -1,0 +1,66 @@
+ghost use Rattle.std.specs.Prelude.{◌≡◌, ℕ, List, []};
+ghost use Rattle.command_words.specs.Wanted.{wanted};
+ghost use Rattle.command_ends.specs.Calls.{TextCause, FaultsOfFiles};
+ghost use Rattle.run_commands.specs.Course.{CommandStep, NextStep};
+
+use crate::made::make;
+use crate::runs::Runs;
+use crate::scripted::{keys, play, replay};
+use crate::verifying::verify;
+use command_ends::Refusal;
+use command_ends::call::Commands;
+use command_words::{Asked, WordsAnswer, read_words};
+use outside::Files;
+use std::alloc::Global;
+
+/// The program's commands, over plays and replays.
+#[derive(Drop)]
+pub struct Program<R: Runs + Drop> {
+    pub runs: R,
+}
+
+impl<R: Runs + Drop> Commands for Program<R> {
+    ghost next = { NextStep R.readers };
+
+    fn text<F: Files>(
+        &self,
+        alloc: Global,
+        words: &[String],
+        files: &mut F,
+    ) -> Result<Vec<u8>, Refusal> {
+        match read_words(alloc, words) {
+            Ok(asked) => command_text(alloc, &self.runs, asked, files),
+            Err(WordsAnswer::Usage) => Err(Refusal::Usage),
+            Err(WordsAnswer::Want) => Err(Refusal::Memory),
+        }
+    }
+}
+
+/// The text of a command.
+fn command_text<R: Runs, F: Files>(
+    alloc: Global,
+    runs: &R,
+    asked: Asked<'_>,
+    files: &mut F,
+) -> Result<Vec<u8>, Refusal>
+    ensures file_faults { FaultsOfFiles result (F.faults files.old) (F.faults files.new) }
+    ensures cause { TextCause (CommandStep R.readers (wanted asked.entry)) (F.held files.old) (F.faults files.old) (F.faults files.new) [] result }
+{
+    match asked {
+        Asked::Play {
+            scenario,
+            script,
+            words,
+        } => play(alloc, runs, scenario, script, words, files),
+        Asked::Replay { scenario, history } => replay(alloc, runs, scenario, history, files),
+        Asked::Make { number } => make(alloc, runs, number),
+        Asked::Keys { scenario } => keys(alloc, scenario, files),
+        Asked::Verify {
+            public,
+            message,
+            signature,
+        } => verify(alloc, public, message, signature, files),
+        // The other commands aren't built yet.
+        _ => Err(Refusal::Usage),
+    }
+}

@@ -1,0 +1,138 @@
+ghost use Rattle.std.specs.Prelude.{◌≡◌, ℕ, List, [], ◌∷◌};
+ghost use Rattle.scenario_file.specs.Reading.{contents};
+ghost use Rattle.scenario_file.specs.Valid.{IsScenario};
+ghost use Rattle.command_words.specs.Wanted.{play, replay};
+ghost use Rattle.command_ends.specs.Steps.Step.{Gives};
+ghost use Rattle.command_ends.specs.Calls.{TextCause, FaultsOfFiles};
+ghost use Rattle.key_commands.specs.Keys.{keys_text};
+ghost use Rattle.run_commands.specs.Readers.{IsScriptOf};
+ghost use Rattle.run_commands.specs.Reading.{with_scenario, with_script};
+ghost use Rattle.run_commands.specs.Course.{CommandStep, KeysCourse};
+ghost use Rattle.run_commands.specs.Opened.{LeadsTo};
+ghost use Rattle.run_commands.specs.Made.{Makes};
+
+use crate::opening::{open_scenario, open_script, open_words};
+use crate::runs::Runs;
+use command_ends::{Refusal, load};
+use key_commands::keys_text;
+use outside::Files;
+use scenario_file::Scenario;
+use script_lines::Script;
+use std::alloc::Global;
+
+/// The text of a play of three files.
+pub fn play<R: Runs, F: Files>(
+    alloc: Global,
+    runs: &R,
+    scenario: &str,
+    script: &str,
+    words: &str,
+    files: &mut F,
+) -> Result<Vec<u8>, Refusal>
+    ensures file_faults { FaultsOfFiles result (F.faults files.old) (F.faults files.new) }
+    ensures cause { TextCause (CommandStep R.readers (play scenario.now script.now words.now)) (F.held files.old) (F.faults files.old) (F.faults files.new) [] result }
+{
+    match open_scenario(alloc, scenario, files) {
+        Ok(scenario) => play_script(alloc, runs, &scenario, script, words, files),
+        Err(refusal) => Err(refusal),
+    }
+}
+
+// The same, with the scenario read.
+fn play_script<R: Runs, F: Files>(
+    alloc: Global,
+    runs: &R,
+    scenario: &Scenario,
+    script: &str,
+    words: &str,
+    files: &mut F,
+) -> Result<Vec<u8>, Refusal>
+    requires { IsScenario (contents scenario.now) }
+    ensures file_faults { FaultsOfFiles result (F.faults files.old) (F.faults files.new) }
+    ensures cause { (name first : List ℕ) → LeadsTo with_scenario first (contents scenario.now)
+        → TextCause (CommandStep R.readers (play name script.now words.now)) (F.held files.old) (F.faults files.old) (F.faults files.new) (first ∷ []) result }
+{
+    match open_script(alloc, scenario, script, files) {
+        Ok(script) => play_words(alloc, runs, scenario, &script, words, files),
+        Err(refusal) => Err(refusal),
+    }
+}
+
+// The same, with the scenario and the script read.
+fn play_words<R: Runs, F: Files>(
+    alloc: Global,
+    runs: &R,
+    scenario: &Scenario,
+    script: &Script,
+    words: &str,
+    files: &mut F,
+) -> Result<Vec<u8>, Refusal>
+    requires valid { IsScenario (contents scenario.now) }
+    requires script { IsScriptOf (contents scenario.now) script.now }
+    ensures file_faults { FaultsOfFiles result (F.faults files.old) (F.faults files.new) }
+    ensures cause { (name named first second : List ℕ) → LeadsTo with_scenario first (contents scenario.now)
+        → LeadsTo (with_script (contents scenario.now)) second script.now
+        → TextCause (CommandStep R.readers (play name named words.now)) (F.held files.old) (F.faults files.old) (F.faults files.new) (first ∷ second ∷ []) result }
+{
+    match open_words(alloc, scenario, words, files) {
+        Ok(words) => runs.play_text(alloc, scenario, script, &words),
+        Err(refusal) => Err(refusal),
+    }
+}
+
+/// The text of a history that a file spells.
+pub fn replay<R: Runs, F: Files>(
+    alloc: Global,
+    runs: &R,
+    scenario: &str,
+    history: &str,
+    files: &mut F,
+) -> Result<Vec<u8>, Refusal>
+    ensures file_faults { FaultsOfFiles result (F.faults files.old) (F.faults files.new) }
+    ensures cause { TextCause (CommandStep R.readers (replay scenario.now history.now)) (F.held files.old) (F.faults files.old) (F.faults files.new) [] result }
+{
+    match open_scenario(alloc, scenario, files) {
+        Ok(scenario) => replay_history(alloc, runs, &scenario, history, files),
+        Err(refusal) => Err(refusal),
+    }
+}
+
+// The same, with the scenario read.
+fn replay_history<R: Runs, F: Files>(
+    alloc: Global,
+    runs: &R,
+    scenario: &Scenario,
+    history: &str,
+    files: &mut F,
+) -> Result<Vec<u8>, Refusal>
+    requires { IsScenario (contents scenario.now) }
+    ensures file_faults { FaultsOfFiles result (F.faults files.old) (F.faults files.new) }
+    ensures cause { (name first : List ℕ) → LeadsTo with_scenario first (contents scenario.now)
+        → TextCause (CommandStep R.readers (replay name history.now)) (F.held files.old) (F.faults files.old) (F.faults files.new) (first ∷ []) result }
+{
+    match load(alloc, history, files) {
+        Ok(text) => runs.replay_text(alloc, scenario, text.as_slice()),
+        Err(refusal) => Err(refusal),
+    }
+}
+
+/// The public keys of a scenario's actors.
+pub fn keys<F: Files>(alloc: Global, scenario: &str, files: &mut F) -> Result<Vec<u8>, Refusal>
+    ensures file_faults { FaultsOfFiles result (F.faults files.old) (F.faults files.new) }
+    ensures cause { TextCause (KeysCourse scenario.now) (F.held files.old) (F.faults files.old) (F.faults files.new) [] result }
+{
+    match open_scenario(alloc, scenario, files) {
+        Ok(scenario) => keys_of(alloc, &scenario),
+        Err(refusal) => Err(refusal),
+    }
+}
+
+fn keys_of(alloc: Global, scenario: &Scenario) -> Result<Vec<u8>, Refusal>
+    requires { IsScenario (contents scenario.now) }
+    ensures { Makes (Gives (keys_text (contents scenario.now))) result }
+{
+    match keys_text(alloc, scenario) {
+        Ok(text) => Ok(text.into_bytes()),
+        Err(_) => Err(Refusal::Memory),
+    }
+}

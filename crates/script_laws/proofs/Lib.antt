@@ -1,0 +1,9 @@
+pub mod Fitting
+pub mod Answering
+pub mod Filing
+pub mod Actors
+pub mod Naming
+pub mod Framing
+pub mod Stepping
+pub mod Saying
+pub mod Accepting

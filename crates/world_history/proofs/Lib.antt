@@ -1,0 +1,12 @@
+pub mod Answering
+pub mod Masters
+pub mod Clients
+pub mod Intruded
+pub mod Roles
+pub mod Joining
+pub mod Acting
+pub mod Stepping
+pub mod Starting
+pub mod Showing
+pub mod Saying
+pub mod Ringing

@@ -1,0 +1,21 @@
+//! The public keys of all actors of a scenario.
+ghost use Rattle.std.specs.Prelude.{◌≡◌, IfOk};
+ghost use Rattle.scenario_file.specs.Reading.{contents};
+ghost use Rattle.scenario_file.specs.Valid.{IsScenario};
+ghost use Rattle.bench_rules.specs.Lists.{ring_in};
+
+use checked_frames::KeyRing;
+use plain_lists::Want;
+use scenario_file::Scenario;
+use std::alloc::Global;
+
+/// The ring of a scenario's actors, by which frames are checked: each one's public key, in the order of their numbers.
+pub fn ring_of(alloc: Global, scenario: &Scenario) -> Result<KeyRing, Want>
+    requires { IsScenario (contents scenario.now) }
+    ensures { IfOk result (λ ring. ring ≡ ring_in (contents scenario.now)) }
+{
+    let cast = scenario.cast();
+    let clients = cast.proxies + cast.screens;
+    let heights = scenario.heights.as_slice();
+    actor_keys::ring_of(alloc, scenario.sizes, clients, &scenario.seed, heights)
+}
