@@ -1,17 +1,11 @@
 //! Benches of all roles.
-ghost use Rattle.std.specs.Prelude.{IfOk, ◌≡◌, ◌+◌, ◌<◌, ◌^◌, length, map, nat_lt, true, IsTrue};
-ghost use Rattle.std.specs.List.{list_all};
+ghost use Rattle.std.specs.Prelude.{IfOk, IsTrue};
 ghost use Rattle.play_words.specs.Accepted.{is_accepted};
-ghost use Rattle.scenario_file.specs.Reading.{contents};
-ghost use Rattle.scenario_file.specs.Valid.{IsScenario};
-ghost use Rattle.world_entries.specs.Entries.{entry_of};
-ghost use Rattle.world_rules.specs.Scenarios.{group_in};
 
 use crate::common::{has_actor, is_later};
 use message_forms::read_frame;
 use message_types::{Body, Frame, Op};
 use plain_lists::{Bytes, Want};
-use point_table::Area;
 use scenario_file::Scenario;
 use std::alloc::Global;
 use std::test::Fail;
@@ -35,10 +29,11 @@ fn a_screen_signs_its_commands_until_its_key_is_spent(rt: HostRuntime) -> Result
     let mut screen = Bench::make(alloc, &scenario, 5)?;
     assert_eq!(rt; screen.left(), 32);
     for stamp in 0..34u64 {
-        assert!(rt; screen.fits(&command()));
+        let event = command();
+        assert!(rt; screen.fits(&event));
         assert!(rt; is_later(screen.list(), stamp));
         assert!(rt; screen.list().len() < 40);
-        let frames = screen.act(stamp, command())?;
+        let frames = screen.act(stamp, event)?;
         let want = if stamp < 32 { 1 } else { 0 };
         assert_eq!(rt; frames.len(), want, "at {stamp}");
         if let Some(frame) = frames.first() {
@@ -51,51 +46,6 @@ fn a_screen_signs_its_commands_until_its_key_is_spent(rt: HostRuntime) -> Result
     assert_eq!(rt; screen.left(), 0);
     assert_eq!(rt; screen.list().len(), 34);
     assert_eq!(rt; screen.board().len(), 0);
-    Ok(())
-}
-
-#[test]
-fn each_actor_has_the_events_of_its_role(rt: HostRuntime) -> Result<(), Fail> {
-    let alloc = rt.alloc();
-    let scenario = Scenario::read(alloc, OF_ALL_ROLES.as_bytes())?;
-    // Of the events below, which ones each actor can have.
-    let roles = [
-        (0, [true, true, false, false, false, false, false]),
-        (3, [true, false, true, false, false, false, false]),
-        (4, [true, true, false, false, true, true, false]),
-        (5, [true, true, false, true, false, false, false]),
-    ];
-    for (actor, wanted) in roles {
-        assert!(rt; has_actor(&scenario, actor));
-        let bench = Bench::make(alloc, &scenario, actor)?;
-        assert_eq!(rt; bench.actor(), actor);
-        let events = [
-            Event::Tick,
-            Event::Restart,
-            Event::Cry {
-                bytes: Bytes::from_slice(alloc, &[])?,
-            },
-            command(),
-            Event::Poll,
-            Event::Field {
-                area: Area::Coil,
-                place: 0,
-                value: 1,
-            },
-            Event::Field {
-                area: Area::Coil,
-                place: 1,
-                value: 1,
-            },
-        ];
-        for (event, fits) in events.iter().zip(wanted) {
-            assert_eq!(rt; bench.fits(event), fits, "at {actor}");
-        }
-        assert_eq!(rt; bench.executions().len(), 0);
-        assert_eq!(rt; bench.view(), 0);
-        assert_eq!(rt; bench.writes().len(), 0);
-        assert!(rt; bench.certified(0, 1).is_none());
-    }
     Ok(())
 }
 
