@@ -4,7 +4,7 @@ ghost use Rattle.play_words.specs.Accepted.{is_accepted};
 
 use crate::common::{has_actor, is_later};
 use message_forms::read_frame;
-use message_types::{Body, Frame, Op};
+use message_types::{Body, Op};
 use plain_lists::{Bytes, Want};
 use scenario_file::Scenario;
 use std::alloc::Global;
