@@ -2,52 +2,18 @@
 ghost use Rattle.std.specs.Prelude.{IfOk, IsTrue};
 ghost use Rattle.play_words.specs.Accepted.{is_accepted};
 
-use crate::common::{has_actor, is_later};
+use crate::common::has_actor;
 use message_forms::read_frame;
-use message_types::{Body, Op};
+use message_types::Body;
 use plain_lists::{Bytes, Want};
 use scenario_file::Scenario;
 use std::alloc::Global;
 use std::test::Fail;
-use world_history::{Bench, Event, Ref, Word};
+use world_history::{Bench, Ref, Word};
 
 /// Masters 0 to 3, the last of them intruded, a proxy as actor 4 and a screen as actor 5. Each has 32 leaves.
 const OF_ALL_ROLES: &str =
     "f = 1\nseed = \"0000000000000000000000000000000000000000000000000000000000000000\"\nlevels = [5]\nintruded = [3]\nscreens = 1\n[[proxy]]\ncoils = 1\ndiscrete = 0\nholding = 0\ninput = 0\n";
-
-fn command() -> Event {
-    Event::Command {
-        op: Op::Ack { alarm: 0 },
-    }
-}
-
-#[test]
-fn a_screen_signs_its_commands_until_its_key_is_spent(rt: HostRuntime) -> Result<(), Fail> {
-    let alloc = rt.alloc();
-    let scenario = Scenario::read(alloc, OF_ALL_ROLES.as_bytes())?;
-    assert!(rt; has_actor(&scenario, 5));
-    let mut screen = Bench::make(alloc, &scenario, 5)?;
-    assert_eq!(rt; screen.left(), 32);
-    for stamp in 0..34u64 {
-        let event = command();
-        assert!(rt; screen.fits(&event));
-        assert!(rt; is_later(screen.list(), stamp));
-        assert!(rt; screen.list().len() < 40);
-        let frames = screen.act(stamp, event)?;
-        let want = if stamp < 32 { 1 } else { 0 };
-        assert_eq!(rt; frames.len(), want, "at {stamp}");
-        if let Some(frame) = frames.first() {
-            match &frame.body {
-                Body::Update(update) => assert_eq!(rt; update.t, stamp + 1),
-                _ => assert!(rt; false, "no update"),
-            }
-        }
-    }
-    assert_eq!(rt; screen.left(), 0);
-    assert_eq!(rt; screen.list().len(), 34);
-    assert_eq!(rt; screen.board().len(), 0);
-    Ok(())
-}
 
 /// Bytes that spell no frame.
 #[tactic(auto, unfolding(play_words::specs::Accepted::is_accepted))]
