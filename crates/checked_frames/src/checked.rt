@@ -17,9 +17,15 @@ use std::sync::Arc;
 
 /// A frame that stands, which copies share. It keeps that the frame stands in some ring, and so that it has a spelling and
 /// that in each of its lists the signers rise. In which ring it stands, the calls say that make it.
-#[derive(Drop)]
 pub struct Checked {
     shared: Arc<Frame, Global>,
+}
+
+// Taken apart here once, so that no crate above proves it again.
+impl Drop for Checked {
+    fn drop(self) {
+        let Checked { shared: _ } = self;
+    }
 }
 
 impl Model for Checked {

@@ -11,11 +11,21 @@ use std::alloc::Global;
 use std::marker::Model;
 
 /// The public keys of all actors: those of the masters of a group by their numbers, then those of its clients.
-#[derive(Drop)]
 pub struct KeyRing {
     sizes: Sizes,
     clients: u32,
     publics: Vec<[u8; 60]>,
+}
+
+// Taken apart here once, so that no crate above proves it again.
+impl Drop for KeyRing {
+    fn drop(self) {
+        let KeyRing {
+            sizes: _,
+            clients: _,
+            publics: _,
+        } = self;
+    }
 }
 
 impl Model for KeyRing {

@@ -18,7 +18,6 @@ use std::marker::Model;
 use summary_matrix::{Reach, eligible};
 
 /// One master's execution of the ordered rows.
-#[derive(Drop)]
 pub struct Run {
     alloc: Global,
     sizes: Sizes,
@@ -33,6 +32,24 @@ pub struct Run {
     executed: Vec<Update>,
     /// How many updates of each client are executed.
     counts: [u64; 12],
+}
+
+// Taken apart here once, so that no crate above proves it again.
+impl Drop for Run {
+    fn drop(self) {
+        let Run {
+            alloc: _,
+            sizes: _,
+            clients: _,
+            numbers: _,
+            reach: _,
+            requests: _,
+            at: _,
+            certificates: _,
+            executed: _,
+            counts: _,
+        } = self;
+    }
 }
 
 impl Model for Run {

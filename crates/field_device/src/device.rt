@@ -21,13 +21,25 @@ use thiserror::Error;
 pub struct NoPlace;
 
 /// A field device: bits and registers, which the field changes and Modbus requests read and write.
-#[derive(Drop)]
 pub struct Device {
     alloc: Global,
     coils: Vec<bool, Global>,
     discrete: Vec<bool, Global>,
     holding: Vec<u16, Global>,
     input: Vec<u16, Global>,
+}
+
+// Taken apart here once, so that no crate above proves it again.
+impl Drop for Device {
+    fn drop(self) {
+        let Device {
+            alloc: _,
+            coils: _,
+            discrete: _,
+            holding: _,
+            input: _,
+        } = self;
+    }
 }
 
 impl Model for Device {

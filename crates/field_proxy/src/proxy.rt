@@ -18,7 +18,6 @@ use std::marker::Model;
 use vouched_orders::{Vote, Vouched};
 
 /// A proxy and the field device behind it.
-#[derive(Drop)]
 pub struct Proxy {
     alloc: Global,
     client: u32,
@@ -30,6 +29,24 @@ pub struct Proxy {
     updates: u64,
     vouched: Vouched,
     writes: Vec<Write, Global>,
+}
+
+// Taken apart here once, so that no crate above proves it again.
+impl Drop for Proxy {
+    fn drop(self) {
+        let Proxy {
+            alloc: _,
+            client: _,
+            sizes: _,
+            points: _,
+            device: _,
+            line: _,
+            lasts: _,
+            updates: _,
+            vouched: _,
+            writes: _,
+        } = self;
+    }
 }
 
 impl Model for Proxy {

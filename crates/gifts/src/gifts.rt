@@ -21,12 +21,23 @@ use std::marker::Model;
 type Requests = IndexMap<(u32, u64, [u8; 32]), Signed<PoRequest>>;
 
 /// The requests and acknowledgements that a master knows, from which it makes its gifts.
-#[derive(Drop)]
 pub struct Gifts {
     alloc: Global,
     sizes: Sizes,
     requests: Requests,
     acks: Acks,
+}
+
+// Taken apart here once, so that no crate above proves it again.
+impl Drop for Gifts {
+    fn drop(self) {
+        let Gifts {
+            alloc: _,
+            sizes: _,
+            requests: _,
+            acks: _,
+        } = self;
+    }
 }
 
 impl Model for Gifts {

@@ -31,7 +31,6 @@ use std::marker::Model;
 const WINDOW: u64 = 16;
 
 /// One master's global order. Contracts see the facts that it was handed, in order, and what it said.
-#[derive(Drop)]
 pub struct Order {
     alloc: Global,
     sizes: Sizes,
@@ -46,6 +45,27 @@ pub struct Order {
     told: Said,
     stable: u64,
     gapless: u64,
+}
+
+// Taken apart here once, so that no crate above proves it again.
+impl Drop for Order {
+    fn drop(self) {
+        let Order {
+            alloc: _,
+            sizes: _,
+            facts: _,
+            said: _,
+            prepares: _,
+            commits: _,
+            marks: _,
+            choices: _,
+            views: _,
+            offers: _,
+            told: _,
+            stable: _,
+            gapless: _,
+        } = self;
+    }
 }
 
 impl Model for Order {

@@ -58,7 +58,6 @@ impl From<Want> for SignAnswer {
 
 /// A key that signs in order, each signature with the next leaf. It keeps the trees on the way to the
 /// present leaf, so that a lower tree is made only when the leaf above moves.
-#[derive(Drop)]
 pub struct KeyState {
     seed: [u8; 32],
     id: [u8; 16],
@@ -68,6 +67,22 @@ pub struct KeyState {
     public: [u8; 60],
     path: Option<Path>,
     alloc: Global,
+}
+
+// Taken apart here once, so that no crate above proves it again.
+impl Drop for KeyState {
+    fn drop(self) {
+        let KeyState {
+            seed: _,
+            id: _,
+            heights: _,
+            ots: _,
+            used: _,
+            public: _,
+            path: _,
+            alloc: _,
+        } = self;
+    }
 }
 
 impl Model for KeyState {

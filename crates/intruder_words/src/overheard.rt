@@ -20,10 +20,16 @@ use std::alloc::Global;
 use std::marker::Model;
 
 /// What an intruded master knows. Contracts see the parts of all frames that it took or cried, as they became known.
-#[derive(Drop)]
 pub struct Overheard {
     alloc: Global,
     known: Vec<Frame>,
+}
+
+// Taken apart here once, so that no crate above proves it again.
+impl Drop for Overheard {
+    fn drop(self) {
+        let Overheard { alloc: _, known: _ } = self;
+    }
 }
 
 impl Model for Overheard {

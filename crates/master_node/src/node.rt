@@ -24,10 +24,19 @@ use std::alloc::Global;
 use std::marker::Model;
 
 /// One correct master. It signs nothing: who drives it signs what it says, and hands it the frames.
-#[derive(Drop)]
 pub struct Node {
     running: Running,
     is_spent: bool,
+}
+
+// Taken apart here once, so that no crate above proves it again.
+impl Drop for Node {
+    fn drop(self) {
+        let Node {
+            running: _,
+            is_spent: _,
+        } = self;
+    }
 }
 
 impl Model for Node {

@@ -5,12 +5,23 @@ use point_table::{DeviceSizes, Point};
 
 /// What a scenario says of the plant: one field device behind each proxy, the points, the alarms over
 /// them, and the interlocks.
-#[derive(Drop)]
 pub struct Plant {
     pub devices: Items<DeviceSizes>,
     pub points: Items<Point>,
     pub alarms: Items<AlarmRule>,
     pub interlocks: Items<Interlock>,
+}
+
+// Taken apart here once, so that no crate above proves it again.
+impl Drop for Plant {
+    fn drop(self) {
+        let Plant {
+            devices: _,
+            points: _,
+            alarms: _,
+            interlocks: _,
+        } = self;
+    }
 }
 
 impl Copied for Plant {

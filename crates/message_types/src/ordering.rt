@@ -11,11 +11,21 @@ pub type Rows = Items<Vector>;
 pub type FrameList = Items<Signed<PoSummary>>;
 
 /// The leader of view `v` offers summaries as global number `s` (Prime's PRE-PREPARE).
-#[derive(Drop)]
 pub struct PrePrepare {
     pub v: u64,
     pub s: u64,
     pub frames: FrameList,
+}
+
+// Taken apart here once, so that no crate above proves it again.
+impl Drop for PrePrepare {
+    fn drop(self) {
+        let PrePrepare {
+            v: _,
+            s: _,
+            frames: _,
+        } = self;
+    }
 }
 
 impl Copied for PrePrepare {
@@ -93,12 +103,23 @@ impl Same for Mark {
 }
 
 /// The prepares of a quorum for the rows of number `s` in view `v`, as in PBFT.
-#[derive(Drop)]
 pub struct Certificate {
     pub s: u64,
     pub v: u64,
     pub rows: Rows,
     pub prepares: Items<Signed<Prepare>>,
+}
+
+// Taken apart here once, so that no crate above proves it again.
+impl Drop for Certificate {
+    fn drop(self) {
+        let Certificate {
+            s: _,
+            v: _,
+            rows: _,
+            prepares: _,
+        } = self;
+    }
 }
 
 impl Copied for Certificate {

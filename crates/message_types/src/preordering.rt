@@ -5,10 +5,16 @@ use crate::updates::Update;
 use plain_lists::{Copied, Same, Vector, Want};
 
 /// A master introduces a client's update as its own number `k`, from 1 (Prime's PO-REQUEST).
-#[derive(Drop)]
 pub struct PoRequest {
     pub k: u64,
     pub update: Signed<Update>,
+}
+
+// Taken apart here once, so that no crate above proves it again.
+impl Drop for PoRequest {
+    fn drop(self) {
+        let PoRequest { k: _, update: _ } = self;
+    }
 }
 
 impl Copied for PoRequest {
@@ -47,9 +53,15 @@ impl Same for PoAck {
 }
 
 /// How far each master's requests are certified without a gap, as a master knows it (Prime's PO-SUMMARY).
-#[derive(Drop)]
 pub struct PoSummary {
     pub numbers: Vector,
+}
+
+// Taken apart here once, so that no crate above proves it again.
+impl Drop for PoSummary {
+    fn drop(self) {
+        let PoSummary { numbers: _ } = self;
+    }
 }
 
 impl Copied for PoSummary {

@@ -25,10 +25,19 @@ impl Same for AskUpdate {
 }
 
 /// A request with the acknowledgements of a quorum.
-#[derive(Drop)]
 pub struct Give {
     pub request: Signed<PoRequest>,
     pub acks: Items<Signed<PoAck>>,
+}
+
+// Taken apart here once, so that no crate above proves it again.
+impl Drop for Give {
+    fn drop(self) {
+        let Give {
+            request: _,
+            acks: _,
+        } = self;
+    }
 }
 
 impl Copied for Give {
@@ -65,12 +74,23 @@ impl Same for AskOrder {
 }
 
 /// The rows of number `s` with the commits of a quorum in view `v`.
-#[derive(Drop)]
 pub struct GiveOrdered {
     pub s: u64,
     pub v: u64,
     pub rows: Rows,
     pub commits: Items<Signed<Commit>>,
+}
+
+// Taken apart here once, so that no crate above proves it again.
+impl Drop for GiveOrdered {
+    fn drop(self) {
+        let GiveOrdered {
+            s: _,
+            v: _,
+            rows: _,
+            commits: _,
+        } = self;
+    }
 }
 
 impl Copied for GiveOrdered {

@@ -5,12 +5,23 @@ use crate::signed::Signed;
 use plain_lists::{Copied, Items, Same, Want};
 
 /// What a master brings into view `v`: its stable number with the marks that show it, and a certificate for each later number that it knows prepared (PBFT's VIEW-CHANGE).
-#[derive(Drop)]
 pub struct Report {
     pub v: u64,
     pub base: u64,
     pub marks: Items<Signed<Mark>>,
     pub certificates: Items<Certificate>,
+}
+
+// Taken apart here once, so that no crate above proves it again.
+impl Drop for Report {
+    fn drop(self) {
+        let Report {
+            v: _,
+            base: _,
+            marks: _,
+            certificates: _,
+        } = self;
+    }
 }
 
 impl Copied for Report {
@@ -34,10 +45,16 @@ impl Same for Report {
 }
 
 /// The leader opens view `v` with the reports of a quorum (PBFT's NEW-VIEW).
-#[derive(Drop)]
 pub struct NewView {
     pub v: u64,
     pub reports: Items<Signed<Report>>,
+}
+
+// Taken apart here once, so that no crate above proves it again.
+impl Drop for NewView {
+    fn drop(self) {
+        let NewView { v: _, reports: _ } = self;
+    }
 }
 
 impl Copied for NewView {
@@ -56,10 +73,16 @@ impl Same for NewView {
 }
 
 /// What a view offers first: the rows of the numbers after `base`, in order.
-#[derive(Drop)]
 pub struct Plan {
     pub base: u64,
     pub rows: Items<Rows>,
+}
+
+// Taken apart here once, so that no crate above proves it again.
+impl Drop for Plan {
+    fn drop(self) {
+        let Plan { base: _, rows: _ } = self;
+    }
 }
 
 impl Copied for Plan {

@@ -21,7 +21,6 @@ use std::marker::Model;
 const MOST_TICKS: u64 = 4_294_967_296;
 
 /// A correct master with the place that it has in its group. It is handed its own frames as soon as it has said them.
-#[derive(Drop)]
 pub struct Seat {
     alloc: Global,
     node: Node,
@@ -30,6 +29,21 @@ pub struct Seat {
     number: u32,
     ticks: u64,
     is_spent: bool,
+}
+
+// Taken apart here once, so that no crate above proves it again.
+impl Drop for Seat {
+    fn drop(self) {
+        let Seat {
+            alloc: _,
+            node: _,
+            sizes: _,
+            clients: _,
+            number: _,
+            ticks: _,
+            is_spent: _,
+        } = self;
+    }
 }
 
 impl Model for Seat {

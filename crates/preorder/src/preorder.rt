@@ -20,7 +20,6 @@ use std::alloc::Global;
 use std::marker::Model;
 
 /// One master's pre-ordering. Contracts see what it took, in order, and what it said.
-#[derive(Drop)]
 pub struct Preorder {
     alloc: Global,
     sizes: Sizes,
@@ -35,6 +34,27 @@ pub struct Preorder {
     reach: [u64; 14],
     pending: Pending,
     counts: Counts,
+}
+
+// Taken apart here once, so that no crate above proves it again.
+impl Drop for Preorder {
+    fn drop(self) {
+        let Preorder {
+            alloc: _,
+            sizes: _,
+            clients: _,
+            me: _,
+            took: _,
+            said: _,
+            updates: _,
+            firsts: _,
+            ballots: _,
+            certificates: _,
+            reach: _,
+            pending: _,
+            counts: _,
+        } = self;
+    }
 }
 
 impl Model for Preorder {

@@ -37,9 +37,15 @@ impl Copied for Saying {
 }
 
 /// What the intruded masters of a play are made to say, in order. Contracts see the list of it.
-#[derive(Drop)]
 pub struct Words {
     sayings: Items<Saying>,
+}
+
+// Taken apart here once, so that no crate above proves it again.
+impl Drop for Words {
+    fn drop(self) {
+        let Words { sayings: _ } = self;
+    }
 }
 
 impl Model for Words {

@@ -29,9 +29,15 @@ impl Copied for Line {
 }
 
 /// What is to happen in a play, line by line. Contracts see the list of the lines.
-#[derive(Drop)]
 pub struct Script {
     lines: Items<Line>,
+}
+
+// Taken apart here once, so that no crate above proves it again.
+impl Drop for Script {
+    fn drop(self) {
+        let Script { lines: _ } = self;
+    }
 }
 
 impl Model for Script {

@@ -19,11 +19,21 @@ use std::alloc::Global;
 use std::marker::Model;
 
 /// The latest summary of each master.
-#[derive(Drop)]
 pub struct Matrix {
     alloc: Global,
     sizes: Sizes,
     latest: [Option<Signed<PoSummary>>; 14],
+}
+
+// Taken apart here once, so that no crate above proves it again.
+impl Drop for Matrix {
+    fn drop(self) {
+        let Matrix {
+            alloc: _,
+            sizes: _,
+            latest: _,
+        } = self;
+    }
 }
 
 impl Model for Matrix {

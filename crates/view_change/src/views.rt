@@ -25,7 +25,6 @@ use std::marker::Model;
 const MOST_VIEW: u64 = 255;
 
 /// Which view a master is in, and what it knows and said of changes of view.
-#[derive(Drop)]
 pub struct Views {
     alloc: Global,
     sizes: Sizes,
@@ -37,6 +36,24 @@ pub struct Views {
     plans: BTreeMap<u64, Plan, Global>,
     reported: [bool; 256],
     opened: [bool; 256],
+}
+
+// Taken apart here once, so that no crate above proves it again.
+impl Drop for Views {
+    fn drop(self) {
+        let Views {
+            alloc: _,
+            sizes: _,
+            me: _,
+            view: _,
+            first: _,
+            suspects: _,
+            reports: _,
+            plans: _,
+            reported: _,
+            opened: _,
+        } = self;
+    }
 }
 
 impl Model for Views {

@@ -17,7 +17,6 @@ use std::marker::Model;
 
 /// The votes taken for a client's orders, and a tally of them by number and order, so that a further vote looks
 /// through none of them.
-#[derive(Drop)]
 pub struct Vouched {
     alloc: Global,
     sizes: Sizes,
@@ -25,6 +24,20 @@ pub struct Vouched {
     masters: BTreeMap<[u64; 5], VoterSet, Global>,
     settled: BTreeMap<u64, Order, Global>,
     count: u64,
+}
+
+// Taken apart here once, so that no crate above proves it again.
+impl Drop for Vouched {
+    fn drop(self) {
+        let Vouched {
+            alloc: _,
+            sizes: _,
+            votes: _,
+            masters: _,
+            settled: _,
+            count: _,
+        } = self;
+    }
 }
 
 impl Model for Vouched {
