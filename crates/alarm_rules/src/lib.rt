@@ -3,8 +3,6 @@
 
 pub mod alarm;
 pub mod alarms;
-#[cfg(test)]
-mod tests;
 
 pub use alarm::{AlarmKind, AlarmRule};
 pub use alarms::{Alarms, Change, NoAlarm};

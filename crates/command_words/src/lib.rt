@@ -6,8 +6,6 @@
 mod asked;
 mod command_line;
 mod read;
-#[cfg(test)]
-mod tests;
 
 pub use crate::asked::Asked;
 pub use crate::read::{WordsAnswer, read_words};

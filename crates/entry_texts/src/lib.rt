@@ -7,8 +7,6 @@ pub mod laws;
 mod ranges;
 mod read;
 mod spell;
-#[cfg(test)]
-mod tests;
 
 pub use crate::read::{read_entry, read_kept};
 pub use crate::spell::spell_entry;

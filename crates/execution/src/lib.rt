@@ -6,7 +6,5 @@ pub mod laws;
 mod progress;
 mod requests;
 pub mod run;
-#[cfg(test)]
-mod tests;
 
 pub use run::Run;

@@ -5,7 +5,5 @@
 mod bits;
 pub mod device;
 mod registers;
-#[cfg(test)]
-mod tests;
 
 pub use device::{Device, NoPlace};

@@ -8,8 +8,6 @@ pub mod line;
 mod orders;
 pub mod proxy;
 mod readings;
-#[cfg(test)]
-mod tests;
 mod undo;
 pub mod writes;
 

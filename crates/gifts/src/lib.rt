@@ -7,8 +7,6 @@ mod acks;
 pub mod gifts;
 pub mod giving;
 pub mod laws;
-#[cfg(test)]
-mod tests;
 
 pub use gifts::Gifts;
 pub use giving::{gives, note_given, numbers_wanted};

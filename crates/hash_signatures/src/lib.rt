@@ -13,6 +13,3 @@ mod verification;
 pub use crate::key_state::{KeyAnswer, KeyState, SignAnswer};
 pub use crate::verification::verify;
 pub use ots_keys::Ots;
-
-#[cfg(test)]
-mod tests;

@@ -7,8 +7,6 @@ pub mod laws;
 mod prefixes;
 mod rows;
 mod said;
-#[cfg(test)]
-mod tests;
 mod texts;
 
 pub use counting::{Counts, audit, audit_entries};

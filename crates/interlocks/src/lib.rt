@@ -7,8 +7,6 @@ mod reader;
 pub mod refusal;
 pub mod rule;
 mod scan;
-#[cfg(test)]
-mod tests;
 pub mod token;
 pub mod tree;
 

@@ -7,8 +7,6 @@ pub mod laws;
 pub mod offers;
 pub mod progress;
 pub mod summary;
-#[cfg(test)]
-mod tests;
 pub mod vouchers;
 
 pub use offers::Offers;

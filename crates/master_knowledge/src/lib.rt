@@ -9,8 +9,6 @@ mod numbers;
 mod order_words;
 mod requests;
 mod summaries;
-#[cfg(test)]
-mod tests;
 mod view_words;
 
 pub use knowledge::Knowledge;

@@ -6,8 +6,6 @@ pub mod laws;
 pub mod lists;
 pub mod master;
 pub mod plant;
-#[cfg(test)]
-mod tests;
 
 pub use master::Master;
 pub use plant::Plant;

@@ -9,8 +9,6 @@ pub mod laws;
 mod pieces;
 mod read;
 mod refusal;
-#[cfg(test)]
-mod tests;
 mod words;
 mod write;
 mod written;

@@ -9,8 +9,6 @@ mod read;
 mod refusal;
 mod reply;
 mod request;
-#[cfg(test)]
-mod tests;
 mod write;
 
 pub use crate::read::{read_reply, read_request};

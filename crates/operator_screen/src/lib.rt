@@ -3,7 +3,5 @@
 
 pub mod laws;
 pub mod screen;
-#[cfg(test)]
-mod tests;
 
 pub use screen::Screen;

@@ -11,6 +11,3 @@ mod parameters;
 pub use crate::keys::{ots_candidate, ots_public, ots_sign};
 pub use crate::parameters::Ots;
 pub use lane_chains::{hash_parts, hasher_under};
-
-#[cfg(test)]
-mod tests;

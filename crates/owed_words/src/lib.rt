@@ -4,8 +4,6 @@
 
 pub mod giving;
 pub mod split;
-#[cfg(test)]
-mod tests;
 pub mod vector;
 pub mod vouchers;
 

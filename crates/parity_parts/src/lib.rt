@@ -7,8 +7,6 @@ mod interpolation;
 mod joining;
 mod part;
 mod rebuilding;
-#[cfg(test)]
-mod tests;
 
 pub use crate::joining::join;
 pub use crate::part::{Part, part_of};

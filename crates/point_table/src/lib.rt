@@ -3,8 +3,6 @@
 
 pub mod point;
 pub mod points;
-#[cfg(test)]
-mod tests;
 
 pub use point::{Area, DeviceSizes, Point};
 pub use points::{PointRefusal, Points};

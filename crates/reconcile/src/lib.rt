@@ -4,8 +4,6 @@
 
 pub mod asks;
 pub mod laws;
-#[cfg(test)]
-mod tests;
 pub mod wanted;
 
 pub use asks::Asks;

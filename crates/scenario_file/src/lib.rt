@@ -10,8 +10,6 @@ pub mod refusal;
 mod rows;
 pub mod scenario;
 mod settings;
-#[cfg(test)]
-mod tests;
 mod unknown;
 mod values;
 

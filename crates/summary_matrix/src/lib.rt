@@ -5,8 +5,6 @@
 pub mod laws;
 pub mod matrix;
 pub mod reach;
-#[cfg(test)]
-mod tests;
 
 pub use matrix::Matrix;
 pub use reach::{MOST_NUMBER, Reach, eligible};

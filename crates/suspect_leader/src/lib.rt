@@ -9,8 +9,6 @@ pub mod measure;
 pub mod ranked;
 pub mod saying;
 pub mod tables;
-#[cfg(test)]
-mod tests;
 
 pub use measure::Measure;
 pub use saying::Saying;

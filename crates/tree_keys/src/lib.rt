@@ -10,6 +10,3 @@ mod tree;
 
 pub use crate::public_key::{PublicKey, number_of, tree_verify};
 pub use crate::tree::{Tree, TreeAnswer};
-
-#[cfg(test)]
-mod tests;

@@ -4,8 +4,6 @@
 
 pub mod laws;
 pub mod plans;
-#[cfg(test)]
-mod tests;
 pub mod views;
 
 pub use plans::{plan_of, plan_of_new_view};

@@ -3,8 +3,6 @@
 #![tactic(auto)]
 
 mod ballots;
-#[cfg(test)]
-mod tests;
 pub mod vote;
 pub mod vouched;
 
