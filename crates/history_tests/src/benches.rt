@@ -1,19 +1,115 @@
 //! Benches of all roles.
-ghost use Rattle.std.specs.Prelude.{IfOk, IsTrue};
+ghost use Rattle.std.specs.Prelude.{IfOk, ◌≡◌, ◌+◌, ◌<◌, ◌^◌, length, map, nat_lt, true, IsTrue};
+ghost use Rattle.std.specs.List.{list_all};
 ghost use Rattle.play_words.specs.Accepted.{is_accepted};
+ghost use Rattle.scenario_file.specs.Reading.{contents};
+ghost use Rattle.scenario_file.specs.Valid.{IsScenario};
+ghost use Rattle.world_entries.specs.Entries.{entry_of};
+ghost use Rattle.world_rules.specs.Scenarios.{group_in};
 
-use crate::common::has_actor;
+use crate::common::{has_actor, is_later};
 use message_forms::read_frame;
-use message_types::Body;
+use message_types::{Body, Frame, Op};
 use plain_lists::{Bytes, Want};
+use point_table::Area;
 use scenario_file::Scenario;
 use std::alloc::Global;
+use std::process::Abort;
 use std::test::Fail;
-use world_history::{Bench, Ref, Word};
+use world_history::{Bench, Event, Ref, Word};
 
 /// Masters 0 to 3, the last of them intruded, a proxy as actor 4 and a screen as actor 5. Each has 32 leaves.
 const OF_ALL_ROLES: &str =
     "f = 1\nseed = \"0000000000000000000000000000000000000000000000000000000000000000\"\nlevels = [5]\nintruded = [3]\nscreens = 1\n[[proxy]]\ncoils = 1\ndiscrete = 0\nholding = 0\ninput = 0\n";
+
+fn command() -> Event {
+    Event::Command {
+        op: Op::Ack { alarm: 0 },
+    }
+}
+
+/// One command of a screen, with the frames of what it says.
+fn one_more(rt: &impl Abort, screen: &mut Bench, stamp: u64) -> Result<Vec<Frame>, Want> {
+    let event = Event::Command {
+        op: Op::Ack { alarm: 0 },
+    };
+    assert!(rt; screen.fits(&event));
+    assert!(rt; is_later(screen.list(), stamp));
+    assert!(rt; screen.list().len() < 40);
+    screen.act(stamp, event)
+}
+
+/// Whether these frames are one update of that number.
+fn is_update(frames: &[Frame], number: u64) -> bool {
+    match frames.first() {
+        Some(frame) => matches!(&frame.body, Body::Update(update) if update.t == number),
+        None => false,
+    }
+}
+
+#[test]
+fn a_screen_signs_its_commands_until_its_key_is_spent(rt: HostRuntime) -> Result<(), Fail> {
+    let alloc = rt.alloc();
+    let scenario = Scenario::read(alloc, OF_ALL_ROLES.as_bytes())?;
+    assert!(rt; has_actor(&scenario, 5));
+    let mut screen = Bench::make(alloc, &scenario, 5)?;
+    assert_eq!(rt; screen.left(), 32);
+    for stamp in 0..32u64 {
+        let frames = one_more(&rt, &mut screen, stamp)?;
+        assert!(rt; is_update(&frames, stamp + 1), "at {stamp}");
+    }
+    assert_eq!(rt; screen.left(), 0);
+    // Its key is spent: the command is an entry, and nothing is said.
+    let frames = one_more(&rt, &mut screen, 32)?;
+    assert_eq!(rt; frames.len(), 0);
+    assert_eq!(rt; screen.list().len(), 33);
+    Ok(())
+}
+
+#[test]
+fn each_actor_has_the_events_of_its_role(rt: HostRuntime) -> Result<(), Fail> {
+    let alloc = rt.alloc();
+    let scenario = Scenario::read(alloc, OF_ALL_ROLES.as_bytes())?;
+    // Of the events below, which ones each actor can have.
+    let roles = [
+        (0, [true, true, false, false, false, false, false]),
+        (3, [true, false, true, false, false, false, false]),
+        (4, [true, true, false, false, true, true, false]),
+        (5, [true, true, false, true, false, false, false]),
+    ];
+    for (actor, wanted) in roles {
+        assert!(rt; has_actor(&scenario, actor));
+        let bench = Bench::make(alloc, &scenario, actor)?;
+        assert_eq!(rt; bench.actor(), actor);
+        let events = [
+            Event::Tick,
+            Event::Restart,
+            Event::Cry {
+                bytes: Bytes::from_slice(alloc, &[])?,
+            },
+            command(),
+            Event::Poll,
+            Event::Field {
+                area: Area::Coil,
+                place: 0,
+                value: 1,
+            },
+            Event::Field {
+                area: Area::Coil,
+                place: 1,
+                value: 1,
+            },
+        ];
+        for (event, fits) in events.iter().zip(wanted) {
+            assert_eq!(rt; bench.fits(event), fits, "at {actor}");
+        }
+        assert_eq!(rt; bench.executions().len(), 0);
+        assert_eq!(rt; bench.view(), 0);
+        assert_eq!(rt; bench.writes().len(), 0);
+        assert!(rt; bench.certified(0, 1).is_none());
+    }
+    Ok(())
+}
 
 /// Bytes that spell no frame.
 #[tactic(auto, unfolding(play_words::specs::Accepted::is_accepted))]

@@ -142,7 +142,8 @@ fn rows_up_to(
         certificates,
     };
     let plan = plan_of(alloc, sizes, &[report])?;
-    Ok(plan.rows.into_vec())
+    let rows = plan.rows.copy()?;
+    Ok(rows.into_vec())
 }
 
 /// The certificates for a number.

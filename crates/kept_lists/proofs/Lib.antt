@@ -1,0 +1,8 @@
+pub mod Answering
+pub mod Ending
+pub mod Replaying
+pub mod Calls
+pub mod Acting
+pub mod Rereading
+pub mod Together
+pub mod Beginning
