@@ -1,0 +1,8 @@
+pub mod Numbered
+pub mod Benches
+pub mod Posting
+pub mod Calls
+pub mod Cries
+pub mod Hands
+pub mod Showing
+pub mod Wholes

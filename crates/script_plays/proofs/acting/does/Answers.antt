@@ -1,0 +1,51 @@
+use Rattle.std.proofs.Common.{◌≡◌, arith, refl, ap, true, sym, ◌∙◌}
+use Rattle.std.proofs.lemmas.Bool.{and_parts}
+use Rattle.std.proofs.lemmas.Result.{err_from_is_err_and}
+use Rattle.world_entries.specs.Entries.{event_of}
+use Rattle.world_rules.specs.Scenarios.{fits_in}
+use Rattle.scenario_file.specs.Reading.{contents}
+use Rattle.script_laws.specs.Accepted.{is_there}
+use Rattle.script_plays.specs.Making.{does, most_entries}
+use Rattle.script_plays.specs.Playing.{given_in}
+use Rattle.script_plays.proofs.Going.{wants}
+use Rattle.script_plays.proofs.Acted.{place_there, halted_goes, runs_on, full_goes, act_goes}
+use Rattle.script_plays.proofs.acting.does.Goals as goal
+
+pub index-requires : goal.index-requires
+index-requires c =
+    let there = (and_parts (is_there (contents c.args.world.now.scenario.now) c.args.actor) (fits_in (contents c.args.world.now.scenario.now) c.args.actor (event_of c.args.event)) c.requires.role).0 in
+    omega (arith, place_there (given_in c.args.world.now) c.args.playing.now c.args.actor c.requires.playing there, c.args.playing.now.kept.ok)
+
+pub returns-then-halted : goal.returns-then-halted
+returns-then-halted c = λ m is.
+    let there = (and_parts (is_there (contents c.args.world.now.scenario.now) c.args.actor) (fits_in (contents c.args.world.now.scenario.now) c.args.actor (event_of c.args.event)) c.requires.role).0 in
+    halted_goes (given_in c.args.world.now) m c.args.playing.now c.args.actor (event_of c.args.event) c.index.result.now c.halted.result is there c.index.ensures c.halted.ensures c.if-halted.true
+
+pub returns-then-playing-ge-MOST_ENTRIES : goal.returns-then-playing-ge-MOST_ENTRIES
+unfolding most_entries
+returns-then-playing-ge-MOST_ENTRIES c = λ m is.
+    let there = (and_parts (is_there (contents c.args.world.now.scenario.now) c.args.actor) (fits_in (contents c.args.world.now.scenario.now) c.args.actor (event_of c.args.event)) c.requires.role).0 in
+    full_goes (given_in c.args.world.now) m c.args.playing.now c.args.actor (event_of c.args.event) is
+    (runs_on (given_in c.args.world.now) m c.args.playing.now c.args.actor c.index.result.now c.halted.result is there c.index.ensures c.halted.ensures c.if-halted.false) c.if-playing-ge-MOST_ENTRIES.true
+
+pub act-requires-clause-running : goal.act-requires-clause-running
+act-requires-clause-running c = λ m is.
+    let there = (and_parts (is_there (contents c.args.world.now.scenario.now) c.args.actor) (fits_in (contents c.args.world.now.scenario.now) c.args.actor (event_of c.args.event)) c.requires.role).0 in
+    runs_on (given_in c.args.world.now) m c.args.playing.now c.args.actor c.index.result.now c.halted.result is there c.index.ensures c.halted.ensures c.if-halted.false
+
+pub act-requires-clause-room : goal.act-requires-clause-room
+unfolding most_entries
+act-requires-clause-room c = omega (arith, c.if-playing-ge-MOST_ENTRIES.false)
+
+pub returns-in_err-act : goal.returns-in_err-act
+returns-in_err-act c = λ m is.
+    let p = err_from_is_err_and c.from_residual.result c.from_residual.ensures.1 in
+    wants (given_in c.args.world.now) c.from_residual.result p.0 _ _ p.1 p.2
+
+pub returns : goal.returns
+unfolding most_entries
+returns c = λ m is.
+    let there = (and_parts (is_there (contents c.args.world.now.scenario.now) c.args.actor) (fits_in (contents c.args.world.now.scenario.now) c.args.actor (event_of c.args.event)) c.requires.role).0 in
+    act_goes (given_in c.args.world.now) m c.args.playing.now _ c.args.actor (event_of c.args.event) is
+    (runs_on (given_in c.args.world.now) m c.args.playing.now c.args.actor c.index.result.now c.halted.result is there c.index.ensures c.halted.ensures c.if-halted.false)
+    (omega (arith, c.if-playing-ge-MOST_ENTRIES.false)) (c.in_ok-act.ensures m is)

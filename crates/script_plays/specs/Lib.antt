@@ -1,0 +1,7 @@
+pub mod Addressing
+pub mod Mail
+pub mod Making
+pub mod Playing
+pub mod Crying
+pub mod Laws
+pub mod Posting

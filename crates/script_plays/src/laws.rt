@@ -1,0 +1,7 @@
+//! What holds of each history that a script and words define. A function that does nothing has a law as its contract.
+ghost use Rattle.script_plays.specs.Laws.{PlayedIsLegal};
+
+/// The history is legal and has at most 50,000 entries.
+pub fn played_is_legal()
+    ensures { PlayedIsLegal }
+{}
