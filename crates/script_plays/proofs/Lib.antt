@@ -17,3 +17,11 @@ pub mod Taken
 pub mod Lost
 pub mod Begun
 pub mod Played
+pub mod UnforgedFields
+pub mod UnforgedKnown
+pub mod UnforgedWords
+pub mod UnforgedParts
+pub mod UnforgedSaid
+pub mod UnforgedCries
+pub mod UnforgedPosts
+pub mod UnforgedPlay
