@@ -1,0 +1,5 @@
+mod Sums
+pub mod Counts
+mod Places
+mod Keeping
+mod Closing
