@@ -1,0 +1,33 @@
+use plain_lists::{Copied, Same};
+use scenario_file::{Cast, Scenario};
+use std::test::Fail;
+
+/// The three keys that have no default.
+const SMALLEST: &str =
+    "f = 1\nseed = \"0000000000000000000000000000000000000000000000000000000000000000\"\nscreens = 1\n";
+
+#[test]
+fn the_smallest_scenario_is_read(rt: HostRuntime) -> Result<(), Fail> {
+    let alloc = rt.alloc();
+    let read = Scenario::read(alloc, SMALLEST.as_bytes())?;
+    let made = Scenario::s1(alloc)?.copy()?;
+    assert_eq!(rt; read.sizes.n, made.sizes.n);
+    assert_eq!(rt; read.seed, made.seed);
+    assert!(rt; read.heights.is_same(&made.heights));
+    assert!(rt; read.failing.is_same(&made.failing));
+    assert_eq!(rt; read.frames, made.frames);
+    Ok(())
+}
+
+#[test]
+fn actors_are_found_by_their_names(rt: HostRuntime) -> Result<(), Fail> {
+    let cast = Cast {
+        masters: 4,
+        proxies: 2,
+        screens: 1,
+    };
+    assert_eq!(rt; cast.name(rt.alloc(), 5)?.as_str(), "p1");
+    assert_eq!(rt; cast.named(rt.alloc(), "s0")?, Some(6));
+    assert_eq!(rt; cast.named(rt.alloc(), "m4")?, None);
+    Ok(())
+}

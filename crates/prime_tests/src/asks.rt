@@ -1,0 +1,40 @@
+use message_types::{AskOrder, AskUpdate, Body, Ping};
+use quorum_sets::Sizes;
+use reconcile::{Asks, Wanted};
+use std::test::Fail;
+
+#[test]
+fn others_want_each_once(rt: HostRuntime) -> Result<(), Fail> {
+    let mut asks = Asks::new(rt.alloc(), Sizes::new(1, 0)?, 0);
+    asks.take(1, &Body::AskOrder(AskOrder { s: 2 }))?;
+    asks.take(2, &Body::AskUpdate(AskUpdate { j: 3, k: 1 }))?;
+    asks.take(1, &Body::AskUpdate(AskUpdate { j: 2, k: 9 }))?;
+    asks.take(0, &Body::AskUpdate(AskUpdate { j: 1, k: 1 }))?;
+    asks.take(3, &Body::AskUpdate(AskUpdate { j: 2, k: 9 }))?;
+    asks.take(3, &Body::Ping(Ping { number: 1 }))?;
+    let first = Wanted::Request { j: 2, k: 9 };
+    let list = asks.wanted()?;
+    assert_eq!(rt;
+        list.as_slice(),
+        [
+            first,
+            Wanted::Request { j: 3, k: 1 },
+            Wanted::Number { s: 2 }
+        ]
+        .as_slice()
+    );
+    asks.given(&first)?;
+    asks.take(1, &Body::AskUpdate(AskUpdate { j: 2, k: 9 }))?;
+    assert_eq!(rt; asks.wanted()?.len(), 2);
+    Ok(())
+}
+
+#[test]
+fn asks_at_ticks_and_once(rt: HostRuntime) -> Result<(), Fail> {
+    let mut asks = Asks::new(rt.alloc(), Sizes::new(1, 0)?, 0);
+    assert_eq!(rt; asks.due(false, Some((1, 4)), Some(3))?.len(), 0);
+    assert_eq!(rt; asks.due(true, Some((1, 4)), Some(3))?.len(), 2);
+    assert_eq!(rt; asks.due(true, Some((1, 4)), Some(5))?.len(), 1);
+    assert_eq!(rt; asks.due(true, Some((1, 5)), None)?.len(), 1);
+    Ok(())
+}
