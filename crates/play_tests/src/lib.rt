@@ -1,5 +1,4 @@
-//! Tests of plays that end in a refusal, from the program's words to its status and line. That a play is printed is shown by
-//! the stored run of `spire`.
+//! Tests of whole calls of the program, over files and output in memory.
 #![tactic(auto)]
 
 #[cfg(test)]

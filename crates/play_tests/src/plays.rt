@@ -1,90 +1,122 @@
 use outside::{MemoryFiles, MemorySink};
-use run_program::spire::spire;
 use std::alloc::Global;
 use std::test::Fail;
+use whole_runs::call::spire;
 
-const FIRST: &str = "command s0 ack 0\nflow 3\n";
+/// Four masters and a screen. Each has 32 one-time keys.
+const SCENARIO: &str =
+    "f = 1\nseed = \"0000000000000000000000000000000000000000000000000000000000000000\"\nscreens = 1\nlevels = [5]\n";
 
-/// Its text has more than two pieces of 512 bytes.
-const LONG: &str = "command s0 ack 0\ncommand s0 ack 1\ncommand s0 ack 2\nflow 3\n";
+/// The operator's command reaches its two doors, which introduce it, and all masters certify it.
+const SCRIPT: &str = "command s0 ack 0\nflow 3\n";
 
-/// What a play ends in: its status, the line on the error output, and how many bytes were put to the output.
+/// Its text, by the reference program.
+const TEXT: &[u8] = b"spire 1\nmaster m0 view 0 executed 0\nmaster m1 view 0 executed 0\nmaster m2 view 0 executed 0\nmaster m3 view 0 executed 0\nscreen s0 notices 0\naudit forged 0 alike 0 intruded 0 limit 1\nagree yes\nhistory 33\n0 s0 command ack 0 says update\n1 m0 took 0.0 says porequest\n2 m1 took 0.0 says porequest\n3 m1 took 1.0 says poack poack\n4 m2 took 1.0 says poack\n5 m3 took 1.0 says poack\n6 m0 took 2.0 says poack poack\n7 m2 took 2.0 says poack\n8 m3 took 2.0 says poack\n9 m0 took 3.0\n10 m2 took 3.0\n11 m3 took 3.0\n12 m0 took 3.1\n13 m2 took 3.1\n14 m3 took 3.1\n15 m0 took 4.0\n16 m1 took 4.0\n17 m3 took 4.0\n18 m0 took 5.0\n19 m1 took 5.0\n20 m2 took 5.0\n21 m1 took 6.0\n22 m2 took 6.0\n23 m3 took 6.0\n24 m1 took 6.1\n25 m2 took 6.1\n26 m3 took 6.1\n27 m0 took 7.0\n28 m1 took 7.0\n29 m3 took 7.0\n30 m0 took 8.0\n31 m1 took 8.0\n32 m2 took 8.0\n";
+
+/// What a call ends in: its status, the line on the error output, and what was put to the output.
 #[derive(Drop)]
 struct Ending {
     status: u8,
     line: Vec<u8>,
-    put: usize,
+    put: Vec<u8>,
 }
 
-fn files_of(alloc: Global, script: &str) -> Result<MemoryFiles, Fail> {
-    let name = String::from_str(alloc, "a.script")?;
-    let content = Vec::from_slice(alloc, script.as_bytes())?;
-    Ok(MemoryFiles::make(alloc, vec![in alloc; (name, content)]?, Vec::new(alloc)))
+fn add_file(
+    alloc: Global,
+    files: &mut Vec<(String, Vec<u8>)>,
+    name: &str,
+    content: &[u8],
+) -> Result<(), Fail> {
+    files.push((
+        String::from_str(alloc, name)?,
+        Vec::from_slice(alloc, content)?,
+    ))?;
+    Ok(())
 }
 
-// The words of the command, with its file's name or without.
-fn words_of(alloc: Global, with_name: bool) -> Result<Vec<String>, Fail> {
+/// The words of a command in one line.
+fn words_of(alloc: Global, line: &str) -> Result<Vec<String>, Fail> {
     let mut words = Vec::new(alloc);
-    words.push(String::from_str(alloc, "play")?)?;
-    if with_name {
-        words.push(String::from_str(alloc, "a.script")?)?;
+    for word in line.split(' ') {
+        words.push(String::from_str(alloc, word)?)?;
     }
     Ok(words)
 }
 
-// Plays a script over an output whose put of this number fails, and an error output whose second put would.
-fn play(alloc: Global, script: &str, with_name: bool, failing: u64) -> Result<Ending, Fail> {
-    let words = words_of(alloc, with_name)?;
-    let mut files = files_of(alloc, script)?;
-    let mut out = MemorySink::make(alloc, vec![in alloc; failing]?);
-    let mut err = MemorySink::make(alloc, vec![in alloc; 2]?);
-    let status = spire(alloc, &words, &mut files, &mut out, &mut err);
+/// Runs a command over the scenario, the script, no words and a history, where one load fails (0: none) and one put.
+fn run(
+    alloc: Global,
+    line: &str,
+    history: &[u8],
+    failing_load: u64,
+    failing_put: u64,
+) -> Result<Ending, Fail> {
+    let words = words_of(alloc, line)?;
+    let mut listed = Vec::new(alloc);
+    add_file(alloc, &mut listed, "scenario", SCENARIO.as_bytes())?;
+    add_file(alloc, &mut listed, "script", SCRIPT.as_bytes())?;
+    add_file(alloc, &mut listed, "words", &[])?;
+    add_file(alloc, &mut listed, "history", history)?;
+    let mut files = MemoryFiles::make(alloc, listed, vec![in alloc; failing_load]?);
+    let mut out = MemorySink::make(alloc, vec![in alloc; failing_put]?);
+    let mut err = MemorySink::make(alloc, Vec::new(alloc));
+    let status = spire(alloc, words.as_slice(), &mut files, &mut out, &mut err);
     Ok(Ending {
         status,
         line: Vec::from_slice(alloc, err.bytes())?,
-        put: out.bytes().len(),
+        put: Vec::from_slice(alloc, out.bytes())?,
     })
 }
 
 #[test]
-fn a_failing_output_is_told(rt: HostRuntime) -> Result<(), Fail> {
-    let ending = play(rt.alloc(), FIRST, true, 1)?;
+fn a_play_is_printed_and_replayed(rt: HostRuntime) -> Result<(), Fail> {
+    let played = run(rt.alloc(), "play scenario script words", &[], 0, 0)?;
+    assert_eq!(rt; played.status, 0);
+    assert!(rt; played.line.is_empty());
+    assert_eq!(rt; played.put.as_slice(), TEXT);
+    let replayed = run(rt.alloc(), "replay scenario history", TEXT, 0, 0)?;
+    assert_eq!(rt; replayed.status, 0);
+    assert_eq!(rt; replayed.put.as_slice(), TEXT);
+    Ok(())
+}
+
+#[test]
+fn a_failing_output_and_each_failing_load_are_told(rt: HostRuntime) -> Result<(), Fail> {
+    let ending = run(rt.alloc(), "play scenario script words", &[], 0, 2)?;
     assert_eq!(rt; ending.status, 6);
     assert_eq!(rt; ending.line.as_slice(), b"spire: output fault\n".as_slice());
-    assert_eq!(rt; ending.put, 0);
+    assert_eq!(rt; ending.put.len(), 512);
+    for load in 1..4u64 {
+        let ending = run(rt.alloc(), "play scenario script words", &[], load, 0)?;
+        assert_eq!(rt; ending.status, 3);
+        assert!(rt; ending.put.is_empty());
+    }
     Ok(())
 }
 
 #[test]
-fn the_output_takes_pieces_of_512_bytes(rt: HostRuntime) -> Result<(), Fail> {
-    let ending = play(rt.alloc(), LONG, true, 3)?;
-    assert_eq!(rt; ending.status, 6);
-    assert_eq!(rt; ending.put, 1024);
-    Ok(())
-}
-
-#[test]
-fn a_line_that_is_none_is_named(rt: HostRuntime) -> Result<(), Fail> {
-    let ending = play(rt.alloc(), "command s0 ack 0\ndance\n", true, 9)?;
+fn a_history_that_none_can_have_is_named(rt: HostRuntime) -> Result<(), Fail> {
+    // The first entry is a tick of a master that isn't there, and then one of the screen, at which it says nothing.
+    let ending = run(
+        rt.alloc(),
+        "replay scenario history",
+        b"spire 1\nhistory 1\n0 m4 tick\n",
+        0,
+        0,
+    )?;
     assert_eq!(rt; ending.status, 5);
     assert_eq!(rt;
         ending.line.as_slice(),
-        b"spire: script NotBuilt 2\n".as_slice()
+        b"spire: history NotLegal 0\n".as_slice()
     );
-    assert_eq!(rt; ending.put, 0);
-    let ending = play(rt.alloc(), "flow 1", true, 9)?;
-    assert_eq!(rt;
-        ending.line.as_slice(),
-        b"spire: script NotBuilt 1\n".as_slice()
-    );
-    Ok(())
-}
-
-#[test]
-fn a_play_without_a_file_is_refused(rt: HostRuntime) -> Result<(), Fail> {
-    let ending = play(rt.alloc(), FIRST, false, 9)?;
-    assert_eq!(rt; ending.status, 2);
-    assert_eq!(rt; ending.line.as_slice(), b"spire: usage\n".as_slice());
-    assert_eq!(rt; ending.put, 0);
+    let ending = run(
+        rt.alloc(),
+        "replay scenario history",
+        b"spire 1\nhistory 1\n0 s0 tick says update\n",
+        0,
+        0,
+    )?;
+    assert_eq!(rt; ending.status, 5);
+    assert!(rt; ending.put.is_empty());
     Ok(())
 }

@@ -1,11 +1,11 @@
 //! The program: runs the command that its words are, over real files and standard output.
 #![tactic(auto)]
 
+use command_ends::no_words::{NoWords, spire_without_words};
 use outside::{RealErr, RealFiles, RealOut};
-use run_program::no_words::{NoWords, spire_without_words};
-use run_program::spire::spire;
 use std::process::ExitCode;
 use std::{env, io};
+use whole_runs::call::spire;
 
 fn main(rt: HostRuntime) -> ExitCode {
     let alloc = rt.alloc();
@@ -14,7 +14,7 @@ fn main(rt: HostRuntime) -> ExitCode {
         Ok(words) => {
             let mut files = RealFiles::make(alloc, &rt);
             let mut out = RealOut::make(io::writer(&rt));
-            spire(alloc, &words, &mut files, &mut out, &mut err)
+            spire(alloc, words.as_slice(), &mut files, &mut out, &mut err)
         }
         Err(why) => spire_without_words(alloc, why, &mut err),
     };

@@ -1,5 +1,0 @@
-pub mod ScriptSteps
-pub mod Pieces
-pub mod Loads
-pub mod Parts
-pub mod Completes

@@ -1,0 +1,5 @@
+mod Stamps
+mod Benches
+mod Legality
+mod Rules
+mod Giving

@@ -1,0 +1,49 @@
+ghost use Rattle.whole_runs.specs.Whole.{whole_runs};
+
+use crate::played::played_text;
+use crate::replayed::replayed_text;
+use command_ends::Refusal;
+use run_commands::Runs;
+use scenario_file::Scenario;
+use script_laws::laws::{read_lines_are_of_scenario, read_words_are_of_scenario};
+use script_lines::{Script, Words};
+use script_plays::laws::{played_is_legal, played_is_unforged};
+use std::alloc::Global;
+
+/// Plays and replays of whole runs.
+#[derive(Drop)]
+pub struct WholeRuns;
+
+impl Runs for WholeRuns {
+    ghost use Rattle.whole_runs.specs.Whole.{whole_runs};
+
+    ghost readers = { whole_runs };
+
+    fn play_text(
+        &self,
+        alloc: Global,
+        scenario: &Scenario,
+        script: &Script,
+        words: &Words,
+    ) -> Result<Vec<u8>, Refusal> {
+        read_lines_are_of_scenario();
+        read_words_are_of_scenario();
+        played_text(alloc, scenario, script, words)
+    }
+
+    fn replay_text(
+        &self,
+        alloc: Global,
+        scenario: &Scenario,
+        text: &[u8],
+    ) -> Result<Vec<u8>, Refusal> {
+        replayed_text(alloc, scenario, text)
+    }
+
+    fn keep_rules(&self) {
+        read_lines_are_of_scenario();
+        read_words_are_of_scenario();
+        played_is_legal();
+        played_is_unforged();
+    }
+}
