@@ -1,0 +1,9 @@
+mod Places
+mod Numbered
+mod Framing
+pub mod Taking
+pub mod Nexts
+mod Begins
+mod Lines
+mod Acted
+mod Telling

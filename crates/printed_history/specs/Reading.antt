@@ -1,0 +1,89 @@
+-- A history as it stands while its text is read. (This project's own.)
+use Rattle.std.specs.Prelude.{◌≡◌, ℕ, Bool, true, false, if◌then◌else◌, List, [], ◌∷◌, ◌++◌, Option, Some, None, filter, length, map, slice_get}
+use Rattle.message_types.specs.declared.signed.Signed.{Signed}
+use Rattle.message_types.specs.declared.body.Body.{Body}
+use Rattle.checked_frames.specs.declared.refusal.CheckRefusal.{CheckRefusal}
+use Rattle.checked_frames.specs.declared.refusal.CheckRefusal.TheVariants as refusal
+use Rattle.checked_frames.specs.Standing.{Ring}
+use Rattle.checked_frames.specs.Standing as checked
+use Rattle.quorum_sets.specs.Masters.{numbers_below}
+use Rattle.scenario_file.specs.Reading.{Contents, contents}
+use Rattle.scenario_file.specs.Valid.{IsScenario}
+use Rattle.history_rules.specs.Events.{Event, Cry, Entry}
+use Rattle.history_rules.specs.Setup.{Setup, stands, own}
+use Rattle.history_rules.specs.Keeping.{keeper_calls}
+use Rattle.history_rules.specs.Legal.{IsLegal}
+use Rattle.world_rules.specs.Frames.{cried, frames_at_stamp}
+use Rattle.world_rules.specs.Scenarios.{setup_of}
+use Rattle.world_entries.specs.Entries.{event_of}
+use Rattle.world_entries.specs.declared.entry.Event.{Event as EventWord}
+use Rattle.world_history.specs.State.{BenchState, setup_in}
+use Rattle.world_history.specs.Seats.{frames_of_each}
+use Rattle.bench_rules.specs.Lists.{ring_in}
+use Rattle.history_benches.specs.Benches.{actors_in, benches_of}
+use Rattle.printed_history.specs.declared.reading.SoFar.{SoFar}
+
+-- how many calls of its keeper an actor made
+abbrev pub calls_by : List Entry → ℕ → ℕ
+calls_by history actor = length (keeper_calls (own history actor))
+
+-- a frame, where there is one and it stands
+abbrev pub standing_frame : Setup → Option (Signed Body) → Option (Signed Body)
+standing_frame w None = None
+standing_frame w (Some frame) = if stands w frame then Some frame else None
+
+-- the frame at a stamp and a place of lists of frames, one list a stamp
+abbrev pub frame_in : List (List (Signed Body)) → ℕ → ℕ → Option (Signed Body)
+frame_in posted stamp place = elim (slice_get posted stamp) [ None ↦ None | Some frames ↦ slice_get frames place ]
+
+-- a refusal that is want of memory
+abbrev pub is_want : CheckRefusal → Bool
+is_want refusal.Want = true
+is_want _ = false
+
+-- what a list of lists has at a place, or nothing
+abbrev pub list_at : {X : Type 0} → Option (List X) → List X
+list_at None = []
+list_at (Some xs) = xs
+
+-- Of the frames of the entry at a place of its bench, those that stand: of a cry what its bytes spell, else all that was said.
+abbrev pub posted_of : Ring → BenchState → ℕ → Event → List (Signed Body)
+posted_of ring b place (Cry bytes) = filter (checked.stands ring) (cried (Cry bytes))
+posted_of ring b place _ = list_at (slice_get (frames_of_each (setup_in b) b.actor [] b.list) place)
+
+-- the scenario and its setup
+abbrev pub contents_in : SoFar → Contents
+contents_in r = contents r.scenario.now
+
+abbrev pub world_in : SoFar → Setup
+world_in r = setup_of (contents_in r)
+
+-- What is at hand of the entries of a scenario that are read so far: their benches, the calls of their keepers, and the frames
+-- that stand.
+pub record IsAtHand (c : Contents) (r : SoFar) : Type 0 where
+  pub scenario : IsScenario c
+  pub is_legal : IsLegal (setup_of c) r.history
+  pub is_ring : r.ring ≡ ring_in c
+  pub are_benches : r.benches.items ≡ benches_of c r.history
+  pub are_calls : r.calls.items ≡ map (calls_by r.history) (numbers_below (actors_in c))
+  pub as_many : length r.posted ≡ length r.history
+  pub are_frames : (stamp place : ℕ) → frame_in r.posted stamp place ≡ standing_frame (setup_of c) (slice_get (frames_at_stamp (setup_of c) r.history stamp) place)
+
+abbrev pub IsSoFar : SoFar → Type 0
+IsSoFar r = IsAtHand (contents_in r) r
+
+-- an event as it is kept, as one of histories
+abbrev pub event_found : Option EventWord → Option Event
+event_found None = None
+event_found (Some event) = Some (event_of event)
+
+-- The same scenario's entries with one more.
+pub record HasMore (old new : SoFar) (e : Entry) : Type 0 where
+  pub same : contents_in new ≡ contents_in old
+  pub is_so_far : IsSoFar new
+  pub longer : new.history ≡ old.history ++ e ∷ []
+
+-- An entry that may come is added; another one isn't.
+abbrev pub Comes : Option Entry → Bool → SoFar → SoFar → Type 0
+Comes None comes old new = comes ≡ false
+Comes (Some e) comes old new = (comes ≡ true) × HasMore old new e

@@ -1,0 +1,11 @@
+//! Printed runs read again: the history that a run's text tells, if it is a legal one of its scenario.
+#![tactic(auto)]
+
+mod acting;
+mod events;
+mod frames;
+mod histories;
+mod reading;
+
+pub use histories::read_history;
+pub use run_lines::HistoryRefusal;

@@ -1,0 +1,182 @@
+//! A history that is read entry by entry: each is added where it may come after those before it.
+ghost use Rattle.std.specs.Prelude.{◌≡◌, ◌++◌, [], ◌^◌, ◌<◌, ◌&&◌, Some, length, true, nat_eq, IfOk};
+ghost use Rattle.scenario_file.specs.Reading.{contents};
+ghost use Rattle.scenario_file.specs.Valid.{IsScenario};
+ghost use Rattle.history_rules.specs.Legal.{TakesWell};
+ghost use Rattle.world_entries.specs.Entries.{event_of};
+ghost use Rattle.printed_history.specs.Histories.{entry_from, entry_of_event, event_from, standing_event, is_running, are_kinds};
+ghost use Rattle.printed_history.specs.Reading.{IsSoFar, Comes, contents_in, world_in};
+
+use crate::acting::act_at;
+use checked_frames::{Checked, KeyRing};
+use history_benches::all_benches;
+use message_types::Body;
+use plain_lists::{Items, Want};
+use printed_run::{calls_at, fails};
+use run_lines::{EntryLine, EventLine, kind_of};
+use scenario_file::Scenario;
+use script_grammar::Kind;
+use std::alloc::Global;
+use world_entries::{Event, History};
+use world_history::{Bench, ring_of};
+
+/// The entries read so far, with what is at hand of them.
+pub struct SoFar<'a> {
+    pub alloc: Global,
+    pub scenario: &'a Scenario,
+    pub ring: KeyRing,
+    pub benches: Vec<Bench>,
+    /// How many calls each actor's keeper had.
+    pub calls: Vec<u64>,
+    /// The frames that stand of each entry.
+    pub posted: Items<Items<Checked>>,
+    pub history: History,
+}
+
+// Taken apart here once, so that no function proves it again.
+impl Drop for SoFar<'_> {
+    fn drop(self) {
+        let SoFar {
+            alloc: _,
+            scenario: _,
+            ring: _,
+            benches: _,
+            calls: _,
+            posted: _,
+            history: _,
+        } = self;
+    }
+}
+
+impl<'a> SoFar<'a> {
+    /// Before the first entry.
+    pub(crate) fn begin(alloc: Global, scenario: &'a Scenario) -> Result<SoFar<'a>, Want>
+        requires { IsScenario (contents scenario.now) }
+        ensures { IfOk result (λ so_far. IsSoFar so_far × (contents_in so_far ≡ contents scenario.now) × (so_far.history ≡ [])) }
+    {
+        let benches = all_benches(alloc, scenario)?;
+        let calls = vec![in alloc; 0u64; benches.len()]?;
+        let ring = ring_of(alloc, scenario)?;
+        let posted = Items::new(alloc);
+        let history = History::new(alloc);
+        Ok(SoFar {
+            alloc,
+            scenario,
+            ring,
+            benches,
+            calls,
+            posted,
+            history,
+        })
+    }
+
+    /// The entries read.
+    pub(crate) fn into_history(self) -> History
+        ensures { result ≡ self.entry.history }
+    {
+        let SoFar {
+            alloc: _,
+            scenario: _,
+            ring: _,
+            benches: _,
+            calls: _,
+            posted: _,
+            history,
+        } = self;
+        history
+    }
+
+    /// Adds the entry of a line, and tells whether it may come. Where not, what is at hand is of no use any more.
+    pub(crate) fn add(&mut self, line: EntryLine) -> Result<bool, Want>
+        requires at_hand { IsSoFar self.old }
+        requires short { length self.old.history < 2 ^ 32 }
+        ensures { IfOk result (λ comes. Comes (entry_from (world_in self.old) self.old.history line) comes self.old self.new) }
+    {
+        let EntryLine {
+            stamp,
+            actor,
+            event,
+            kinds,
+        } = line;
+        let Some(actor) = actor else {
+            return Ok(false);
+        };
+        if !self.is_next(stamp, actor) {
+            return Ok(false);
+        }
+        self.add_event(actor, event, kinds.as_slice())
+    }
+
+    /// Whether an actor's entry of this stamp is the next one, the actor being there and not halted.
+    fn is_next(&self, stamp: u64, actor: u32) -> bool
+        requires { IsSoFar self.now }
+        ensures { result ≡ (nat_eq stamp (length self.now.history) && is_running (world_in self.now) self.now.history actor) }
+    {
+        stamp == self.history.len() as u64 && self.is_running(actor)
+    }
+
+    /// Whether an actor is there and isn't halted.
+    fn is_running(&self, actor: u32) -> bool
+        requires { IsSoFar self.now }
+        ensures { result ≡ is_running (world_in self.now) self.now.history actor }
+    {
+        match self.calls.get(actor as usize) {
+            Some(calls) => !fails(self.scenario, actor, *calls),
+            None => false,
+        }
+    }
+
+    /// Adds the entry of an event that a line tells of a running actor, and tells whether it may come with these kinds.
+    fn add_event(&mut self, actor: u32, line: EventLine, kinds: &[Kind]) -> Result<bool, Want>
+        requires at_hand { IsSoFar self.old }
+        requires short { length self.old.history < 2 ^ 32 }
+        requires running { is_running (world_in self.old) self.old.history actor ≡ true }
+        ensures { IfOk result (λ comes. Comes (entry_of_event (world_in self.old) self.old.history actor kinds.now (standing_event (world_in self.old) (event_from (world_in self.old) self.old.history line))) comes self.old self.new) }
+    {
+        let found = self.event(line)?;
+        let Some(event) = found else {
+            return Ok(false);
+        };
+        if !self.benches[actor as usize].fits(&event) {
+            return Ok(false);
+        }
+        self.act(actor, event, kinds)
+    }
+
+    /// Adds the entry of an event that the actor can have, and tells whether it says bodies of these kinds there.
+    fn act(&mut self, actor: u32, event: Event, kinds: &[Kind]) -> Result<bool, Want>
+        requires at_hand { IsSoFar self.old }
+        requires short { length self.old.history < 2 ^ 32 }
+        requires running { is_running (world_in self.old) self.old.history actor ≡ true }
+        requires fits { (world_in self.old).fits actor (event_of event) ≡ true }
+        requires taken { TakesWell (world_in self.old) (length self.old.history) (event_of event) }
+        ensures { IfOk result (λ comes. Comes (entry_of_event (world_in self.old) self.old.history actor kinds.now (Some (event_of event))) comes self.old self.new) }
+    {
+        let place = actor as usize;
+        let stamp = self.history.len() as u64;
+        let bench = &mut self.benches[place];
+        let (entry, posted) = act_at(self.alloc, &self.ring, bench, stamp, event)?;
+        if !are_kinds(kinds, entry.said.as_slice()) {
+            return Ok(false);
+        }
+        self.calls[place] += calls_at(&entry);
+        self.posted.push(posted)?;
+        self.history.push(entry)?;
+        Ok(true)
+    }
+}
+
+/// Whether these are the kinds of the bodies.
+fn are_kinds(kinds: &[Kind], said: &[Body]) -> bool
+    ensures { result ≡ are_kinds kinds.now said.now }
+{
+    if kinds.len() != said.len() {
+        return false;
+    }
+    for (place, kind) in kinds.iter().enumerate() {
+        if kind.number() != kind_of(&said[place]).number() {
+            return false;
+        }
+    }
+    true
+}
