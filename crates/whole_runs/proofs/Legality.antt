@@ -12,7 +12,7 @@ use Rattle.own_histories.proofs.Building.{none_is_legal, one_more_is_legal}
 use Rattle.run_lines.specs.declared.entry_line.EntryLine.{EntryLine}
 use Rattle.run_lines.specs.Runs.{Reading, run_in}
 use Rattle.printed_run.specs.Printed.{cast_in}
-use Rattle.printed_history.specs.Histories.{is_running, are_kinds, entry_with, entry_by, entry_of_event, entry_from, entries_from, event_from, standing_event, history_of, history_in}
+use Rattle.printed_history.specs.Histories.{is_running, are_kinds, entry_with, entry_by, entry_of_event, entry_from, entries_from, event_from, standing_event, not_legal, history_of, history_in}
 use Rattle.printed_history.proofs.Nexts.{MayCome, next_legal}
 use Rattle.printed_history.proofs.Taking.{taken_well}
 
@@ -55,7 +55,7 @@ all_legal : (w : Setup) (before : List Entry) (lines : List EntryLine) (history 
 all_legal w before [] history legal is = subst (IsLegal w) (same_ok is) legal
 all_legal w before (l ∷ rest) history legal is = by (entry_from w before l) refl is (λ e. all_legal w (before ++ e ∷ []) rest history)
   where
-    by : (o : Option Entry) → entry_from w before l ≡ o → elim o [ None ↦ Err _ | Some e ↦ entries_from w (before ++ e ∷ []) rest ] ≡ Ok history
+    by : (o : Option Entry) → entry_from w before l ≡ o → ◌≡◌ {A = Reading (List Entry)} (elim o [ None ↦ not_legal (length before) | Some e ↦ entries_from w (before ++ e ∷ []) rest ]) (Ok history)
         → ((e : Entry) → IsLegal w (before ++ e ∷ []) → entries_from w (before ++ e ∷ []) rest ≡ Ok history → IsLegal w history) → IsLegal w history
     by None none same onward = absurd (cc)
     by (Some e) found same onward = onward e (one_more_is_legal w before e legal (told_is_legal w before l e found)) same

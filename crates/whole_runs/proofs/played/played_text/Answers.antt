@@ -1,4 +1,8 @@
+use Rattle.std.specs.declared.vec.Vec.{Vec}
+use Rattle.std.specs.declared.alloc.Global.{Global}
 use Rattle.scenario_file.specs.Reading.{contents}
+use Rattle.kept_lists.specs.State.{KeptState}
+use Rattle.script_plays.specs.Playing.{ArePlayed}
 use Rattle.whole_runs.proofs.Benches.{are_after}
 use Rattle.whole_runs.proofs.Giving.{gives_play, gives_refused}
 use Rattle.whole_runs.proofs.played.played_text.Goals as goal
@@ -20,4 +24,4 @@ returns-in-Ok-text_of_kept c =
 
 pub returns-in-Err : goal.returns-in-Err
 returns-in-Err c =
-    gives_refused _ (contents c.args.scenario.now) c.args.script.now c.args.words.now c.in-Err.answer c.play_refusal.result c.play_refusal.ensures c.in-Err.ensures
+    gives_refused {A = Vec KeptState Global} (λ kept history. ArePlayed (record { scenario = contents c.args.scenario.now; sayings = c.args.words.now }) history kept.items) (contents c.args.scenario.now) c.args.script.now c.args.words.now c.in-Err.answer c.play_refusal.result c.play_refusal.ensures c.in-Err.ensures

@@ -6,6 +6,6 @@ pub returns-in-Ok-write_run : goal.returns-in-Ok-write_run
 returns-in-Ok-write_run c =
     gives_replay (contents c.args.scenario.now) c.args.text.now c.in-Ok-write_run.text c.in-Ok.history c.in-Ok.ensures.history c.in-Ok-write_run.ensures
 
-pub returns-in-Err : goal.returns-in-Err
-returns-in-Err c =
+pub returns : goal.returns
+returns c =
     gives_no_history (contents c.args.scenario.now) c.args.text.now c.in-Err.refusal c.history_refusal.result c.history_refusal.ensures c.in-Err.ensures.history
