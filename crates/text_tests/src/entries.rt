@@ -25,6 +25,9 @@ const SKIP: [u8; 9] = [0, 0, 0, 0, 0, 0, 0, 4, 7];
 
 const RESTART: [u8; 9] = [0, 0, 0, 0, 0, 0, 0, 5, 8];
 
+// There is no kind 9.
+const NO_KIND: [u8; 9] = [0, 0, 0, 0, 0, 0, 0, 5, 9];
+
 // What stands before the length of a frame that is taken at stamp 6 and was said at stamp 3 in place 1.
 const TAKES: [u8; 21] = [
     0, 0, 0, 0, 0, 0, 0, 6, 1, 0, 0, 0, 0, 0, 0, 0, 3, 0, 0, 0, 1,
@@ -111,6 +114,14 @@ fn a_frame_that_does_not_stand_is_no_entry(rt: HostRuntime) -> Result<(), Fail> 
     }
     let took = taking(rt.alloc(), &sig)?;
     let read = read_entry(rt.alloc(), &ring, &took)?;
+    assert!(rt; read.is_none());
+    Ok(())
+}
+
+#[test]
+fn bytes_of_another_kind_are_no_entry(rt: HostRuntime) -> Result<(), Fail> {
+    let ring = ring_with(rt.alloc(), [0; 60])?;
+    let read = read_entry(rt.alloc(), &ring, &NO_KIND)?;
     assert!(rt; read.is_none());
     Ok(())
 }
