@@ -1,5 +1,5 @@
-mod Sums
+pub mod Sums
 pub mod Counts
-mod Places
+pub mod Places
 mod Keeping
 mod Closing

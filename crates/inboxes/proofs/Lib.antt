@@ -1,0 +1,3 @@
+pub mod Standing
+mod Keeping
+mod Telling
