@@ -1,0 +1,5 @@
+pub mod Rivals
+pub mod FirstPairs
+pub mod Rising
+pub mod Taken
+pub mod Worth

@@ -1,0 +1,3 @@
+pub mod Contradictions
+pub mod Kept
+pub mod Laws
