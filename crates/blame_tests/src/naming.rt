@@ -41,7 +41,8 @@ fn standing(alloc: Global, ring: &KeyRing, bytes: &[u8]) -> Result<Checked, Fail
 }
 
 // The ring of four masters and one client of which only master 0 has a key.
-fn ring_with(alloc: Global, sizes: Sizes, public: [u8; 60]) -> Result<KeyRing, Fail> {
+fn ring_with(alloc: Global, public: [u8; 60]) -> Result<KeyRing, Fail> {
+    let sizes = Sizes::new(1, 0)?;
     let publics = [public, [0; 60], [0; 60], [0; 60], [0; 60]];
     let ring = KeyRing::make(alloc, sizes, 1, &publics)?;
     Ok(ring)
@@ -49,10 +50,9 @@ fn ring_with(alloc: Global, sizes: Sizes, public: [u8; 60]) -> Result<KeyRing, F
 
 #[test]
 fn a_master_of_two_prepares_is_named(rt: HostRuntime) -> Result<(), Fail> {
-    let sizes = Sizes::new(1, 0)?;
     let mut key = KeyState::make(rt.alloc(), &[7; 32], &[0; 16], &[5], Ots::W4)?;
-    let ring = ring_with(rt.alloc(), sizes, key.public())?;
-    let mut blame = Blame::make(rt.alloc(), sizes);
+    let ring = ring_with(rt.alloc(), key.public())?;
+    let mut blame = Blame::make(rt.alloc(), Sizes::new(1, 0)?);
     let bytes = prepare_by(rt.alloc(), &mut key, 1)?;
     let first = standing(rt.alloc(), &ring, &bytes)?;
     blame.take(rt.alloc(), &first)?;
