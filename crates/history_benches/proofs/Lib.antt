@@ -1,5 +1,5 @@
 mod Numbered
 mod Shown
-mod Steps
+pub mod Steps
 mod Placing
 mod Joined

@@ -10,6 +10,8 @@ use Rattle.run_lines.specs.declared.entry_line.EntryLine.{EntryLine}
 use Rattle.run_lines.specs.declared.refusal.HistoryRefusal.{HistoryRefusal}
 use Rattle.run_lines.specs.declared.refusal.HistoryRefusal.TheVariants as refusal
 use Rattle.run_lines.specs.Runs.{Reading, run_in, RefusesRun, ReadsRun}
+use Rattle.world_history.specs.State.{BenchState}
+use Rattle.history_benches.specs.Benches.{benches_of}
 use Rattle.printed_history.specs.declared.reading.SoFar.{SoFar}
 use Rattle.printed_history.specs.Histories.{entry_from, entries_from, not_legal, history_of, history_in}
 use Rattle.printed_history.specs.Reading.{contents_in, world_in, IsSoFar, Comes}
@@ -111,6 +113,11 @@ read_short c lines yielded rest limit r history amid whole few is =
     let many : length r.history ≡ length yielded = amid.many in
     let all : length lines ≡ length yielded + length rest = ap length (sym whole) ∙ length-append yielded rest in
     omega (arith, same, many, all, few)
+
+pub read_benches : (c : Contents) (lines yielded rest : List EntryLine) (r : SoFar) (history : List Entry) (benches : List BenchState) → IsAmid c lines rest (length yielded) r
+    → history ≡ r.history → benches ≡ r.benches.items → benches ≡ benches_of c history
+read_benches c lines yielded rest r history benches amid is are =
+    are ∙ amid.is_so_far.are_benches ∙ ap (λ (x : Contents). benches_of x r.history) amid.same ∙ ap (benches_of c) (sym is)
 
 -- The history that a text's lines tell.
 pub lines_told : (c : Contents) (bytes : List ℕ) (lines : List EntryLine) (result : Reading (List Entry)) → run_in (cast_of c.settings c.plant) bytes ≡ Ok lines

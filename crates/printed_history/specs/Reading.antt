@@ -1,5 +1,5 @@
 -- A history as it stands while its text is read. (This project's own.)
-use Rattle.std.specs.Prelude.{◌≡◌, ℕ, Bool, true, false, if◌then◌else◌, List, [], ◌∷◌, ◌++◌, Option, Some, None, filter, length, map, slice_get}
+use Rattle.std.specs.Prelude.{◌≡◌, ℕ, Bool, true, false, if◌then◌else◌, List, [], ◌∷◌, ◌++◌, Option, Some, None, Result, Ok, Err, filter, length, map, slice_get}
 use Rattle.message_types.specs.declared.signed.Signed.{Signed}
 use Rattle.message_types.specs.declared.body.Body.{Body}
 use Rattle.checked_frames.specs.declared.refusal.CheckRefusal.{CheckRefusal}
@@ -21,6 +21,9 @@ use Rattle.world_history.specs.State.{BenchState, setup_in}
 use Rattle.world_history.specs.Seats.{frames_of_each}
 use Rattle.bench_rules.specs.Lists.{ring_in}
 use Rattle.history_benches.specs.Benches.{actors_in, benches_of}
+use Rattle.run_lines.specs.declared.refusal.HistoryRefusal.{HistoryRefusal}
+use Rattle.run_lines.specs.Runs.{Reading}
+use Rattle.printed_history.specs.declared.histories.Replay.{Replay}
 use Rattle.printed_history.specs.declared.reading.SoFar.{SoFar}
 
 -- how many calls of its keeper an actor made
@@ -87,3 +90,8 @@ pub record HasMore (old new : SoFar) (e : Entry) : Type 0 where
 abbrev pub Comes : Option Entry → Bool → SoFar → SoFar → Type 0
 Comes None comes old new = comes ≡ false
 Comes (Some e) comes old new = (comes ≡ true) × HasMore old new e
+
+-- the history of a replay, if there is one
+abbrev pub told_history : Result Replay HistoryRefusal → Reading (List Entry)
+told_history (Ok replay) = Ok replay.history
+told_history (Err e) = Err e

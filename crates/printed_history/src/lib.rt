@@ -7,5 +7,5 @@ mod frames;
 mod histories;
 mod reading;
 
-pub use histories::read_history;
+pub use histories::{Replay, read_history, read_replay};
 pub use run_lines::HistoryRefusal;

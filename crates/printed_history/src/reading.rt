@@ -8,6 +8,7 @@ ghost use Rattle.printed_history.specs.Histories.{entry_from, entry_of_event, ev
 ghost use Rattle.printed_history.specs.Reading.{IsSoFar, Comes, contents_in, world_in};
 
 use crate::acting::act_at;
+use crate::histories::Replay;
 use checked_frames::{Checked, KeyRing};
 use history_benches::all_benches;
 use message_types::Body;
@@ -70,20 +71,21 @@ impl<'a> SoFar<'a> {
         })
     }
 
-    /// The entries read.
-    pub(crate) fn into_history(self) -> History
-        ensures { result ≡ self.entry.history }
+    /// The entries read, with their benches.
+    pub(crate) fn into_replay(self) -> Replay
+        ensures history { result.history ≡ self.entry.history }
+        ensures benches { result.benches ≡ self.entry.benches }
     {
         let SoFar {
             alloc: _,
             scenario: _,
             ring: _,
-            benches: _,
+            benches,
             calls: _,
             posted: _,
             history,
         } = self;
-        history
+        Replay { history, benches }
     }
 
     /// Adds the entry of a line, and tells whether it may come. Where not, what is at hand is of no use any more.

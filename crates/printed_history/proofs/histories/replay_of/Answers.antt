@@ -1,7 +1,7 @@
-use Rattle.std.proofs.Common.{◌∙◌, arith}
+use Rattle.std.proofs.Common.{◌∙◌, ap, arith}
 use Rattle.scenario_file.specs.Reading.{contents}
-use Rattle.printed_history.proofs.Lines.{first_line, line_read, line_refused, lines_whole, line_short, last_read, read_legal, read_short}
-use Rattle.printed_history.proofs.histories.history_of.Goals as goal
+use Rattle.printed_history.proofs.Lines.{first_line, line_read, line_refused, lines_whole, line_short, last_read, read_legal, read_short, read_benches}
+use Rattle.printed_history.proofs.histories.replay_of.Goals as goal
 
 pub loop-line-init : goal.loop-line-init
 loop-line-init c = record {
@@ -32,15 +32,20 @@ loop-line-preserved c = record {
 
 pub returns-clause-history : goal.returns-clause-history
 returns-clause-history c =
-    last_read (contents c.args.scenario.now) c.args.lines c.loop-line.yielded c.loop-line.line-iterator.rest.items c.loop-line.so_far c.into_history.result c.loop-line.invariant.amid
-    (omega (arith, c.in-None.ensures.steps, c.loop-line.line-iterator.rest.ok)) c.into_history.ensures
+    last_read (contents c.args.scenario.now) c.args.lines c.loop-line.yielded c.loop-line.line-iterator.rest.items c.loop-line.so_far c.into_replay.result.history c.loop-line.invariant.amid
+    (omega (arith, c.in-None.ensures.steps, c.loop-line.line-iterator.rest.ok)) c.into_replay.ensures.history
 
 pub returns-clause-legal : goal.returns-clause-legal
 returns-clause-legal c =
-    read_legal (contents c.args.scenario.now) c.args.lines c.loop-line.yielded c.loop-line.line-iterator.rest.items c.loop-line.so_far c.into_history.result c.loop-line.invariant.amid
-    c.into_history.ensures
+    read_legal (contents c.args.scenario.now) c.args.lines c.loop-line.yielded c.loop-line.line-iterator.rest.items c.loop-line.so_far c.into_replay.result.history c.loop-line.invariant.amid
+    c.into_replay.ensures.history
 
 pub returns-clause-short : goal.returns-clause-short
 returns-clause-short c =
-    read_short (contents c.args.scenario.now) c.args.lines c.loop-line.yielded c.loop-line.line-iterator.rest.items _ c.loop-line.so_far c.into_history.result c.loop-line.invariant.amid
-    c.loop-line.invariant.whole c.requires.few c.into_history.ensures
+    read_short (contents c.args.scenario.now) c.args.lines c.loop-line.yielded c.loop-line.line-iterator.rest.items _ c.loop-line.so_far c.into_replay.result.history c.loop-line.invariant.amid
+    c.loop-line.invariant.whole c.requires.few c.into_replay.ensures.history
+
+pub returns-clause-benches : goal.returns-clause-benches
+returns-clause-benches c =
+    read_benches (contents c.args.scenario.now) c.args.lines c.loop-line.yielded c.loop-line.line-iterator.rest.items c.loop-line.so_far c.into_replay.result.history c.into_replay.result.benches.items
+    c.loop-line.invariant.amid c.into_replay.ensures.history (ap (λ b. b.items) c.into_replay.ensures.benches)

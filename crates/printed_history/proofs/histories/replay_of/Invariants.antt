@@ -1,7 +1,7 @@
 use Rattle.std.proofs.Common.{◌≡◌, ◌++◌, length}
 use Rattle.scenario_file.specs.Reading.{contents}
 use Rattle.printed_history.proofs.Lines.{IsAmid}
-use Rattle.printed_history.proofs.histories.history_of.Given as goal
+use Rattle.printed_history.proofs.histories.replay_of.Given as goal
 
 -- the lines that are left tell the rest
 abbrev pub invariant-loop-line : goal.invariant-loop-line

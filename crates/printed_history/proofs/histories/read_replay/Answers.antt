@@ -2,8 +2,9 @@ use Rattle.std.proofs.Common.{sym, ◌∙◌, ap, subst}
 use Rattle.scenario_file.specs.Reading.{contents}
 use Rattle.script_grammar.specs.Names.{Who}
 use Rattle.run_lines.specs.Runs.{run_in, RefusesRun}
+use Rattle.printed_history.specs.Reading.{told_history}
 use Rattle.printed_history.proofs.Lines.{lines_refused, lines_told}
-use Rattle.printed_history.proofs.histories.read_history.Goals as goal
+use Rattle.printed_history.proofs.histories.read_replay.Goals as goal
 
 pub returns-in-Err-clause-history : goal.returns-in-Err-clause-history
 returns-in-Err-clause-history c =
@@ -12,5 +13,5 @@ returns-in-Err-clause-history c =
 
 pub returns-in-Ok-clause-history : goal.returns-in-Ok-clause-history
 returns-in-Ok-clause-history c =
-    lines_told (contents c.args.scenario.now) c.args.bytes.now c.in-Ok.lines c.history_of.result
-    (sym (ap (λ (w : Who). run_in w.cast c.args.bytes.now) c.of-company.ensures) ∙ c.in-Ok.ensures.lines) c.history_of.ensures.history
+    lines_told (contents c.args.scenario.now) c.args.bytes.now c.in-Ok.lines (told_history c.replay_of.result)
+    (sym (ap (λ (w : Who). run_in w.cast c.args.bytes.now) c.of-company.ensures) ∙ c.in-Ok.ensures.lines) c.replay_of.ensures.history
