@@ -1,0 +1,4 @@
+pub mod Posted
+pub mod Placed
+pub mod Steps
+pub mod Plays
