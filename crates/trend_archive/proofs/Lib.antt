@@ -1,0 +1,4 @@
+pub mod RangeLaws
+pub mod TrendLaws
+pub mod BoardLaws
+pub mod ShownLaws

@@ -1,0 +1,2 @@
+pub mod Trends
+pub mod Boards

@@ -1,0 +1,5 @@
+mod Filters
+mod Reached
+mod Asking
+mod Benches
+mod Agreeing

@@ -1,0 +1,14 @@
+use Rattle.std.proofs.Common.{sym, subst, ap, arith, length}
+use Rattle.master_points.specs.Orders.{AreOwned}
+use Rattle.trend_tests.proofs.changes.plant.Goals as goal
+
+pub returns : goal.returns
+returns c = record {
+  devices = omega (arith, c.in_ok-devices.ensures);
+  points = omega (arith, c.in_ok-points.ensures.many);
+  usable = c.in_ok-points.ensures.usable;
+  owned = subst (λ n. AreOwned n c.in_ok-points.points) (sym c.in_ok-devices.ensures) c.in_ok-points.ensures.owned;
+  alarms = omega (arith, ap length c.new-alarms.ensures);
+  interlocks = omega (arith, ap length c.new-interlocks.ensures);
+  shown = omega arith;
+}
