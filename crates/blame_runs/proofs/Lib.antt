@@ -1,0 +1,4 @@
+pub mod OneMore
+pub mod Spelled
+pub mod Naming
+pub mod Worth

@@ -1,0 +1,20 @@
+use Rattle.std.proofs.Common.{ap, ◌∙◌}
+use Rattle.std.specs.Prelude.{string_bytes}
+use Rattle.scenario_file.specs.Reading.{contents}
+use Rattle.blame_runs.proofs.Spelled.{pairs_spelled}
+use Rattle.blame_runs.proofs.Naming.{pairs_are, text_put}
+use Rattle.blame_runs.proofs.printing.blame_text.Goals as goal
+
+pub put_named-requires : goal.put_named-requires
+put_named-requires c =
+    pairs_spelled (contents c.args.scenario.now) c.args.history.now c.named.result.now c.requires
+    (pairs_are (contents c.args.scenario.now) c.args.history.now c.entries.result.now c.args.scenario.now.sizes.n c.named.result.now c.args.scenario.now.sizes.all
+    c.entries.ensures (c.named.ensures _ _ c.in_ok-blame.ensures))
+
+pub returns : goal.returns
+returns c =
+    ap (λ v. v.items) c.into_bytes.ensures.value
+    ∙ text_put (contents c.args.scenario.now) c.args.history.now c.named.result.now (string_bytes c.new-text.result) (string_bytes c.put_named.new.text)
+    c.new-text.ensures.bytes c.in_ok-put_named.ensures
+    (pairs_are (contents c.args.scenario.now) c.args.history.now c.entries.result.now c.args.scenario.now.sizes.n c.named.result.now c.args.scenario.now.sizes.all
+    c.entries.ensures (c.named.ensures _ _ c.in_ok-blame.ensures))
