@@ -31,7 +31,7 @@ masters_length (p ∷ ps) = let rest = masters_length ps in omega arith
 
 -- ---- Bytes of columns.
 
-drop_bytes : (n : ℕ) (xs : List ℕ) → AreBytes xs → AreBytes (drop n xs)
+pub drop_bytes : (n : ℕ) (xs : List ℕ) → AreBytes xs → AreBytes (drop n xs)
 drop_bytes zero xs h = h
 drop_bytes (suc n) [] h = tt
 drop_bytes (suc n) (x ∷ xs) h = drop_bytes n xs h.1
@@ -40,7 +40,7 @@ first_byte : (xs : List ℕ) → AreBytes xs → slice_index xs 0 < 256
 first_byte [] h = omega arith
 first_byte (x ∷ xs) h = h.0
 
-column_bytes : (step count : ℕ) (text : List ℕ) → AreBytes text → AreBytes (column step count text)
+pub column_bytes : (step count : ℕ) (text : List ℕ) → AreBytes text → AreBytes (column step count text)
 column_bytes step zero text h = tt
 column_bytes step (suc count) text h =
     (first_byte text h, column_bytes step count (drop step text) (drop_bytes step text h))

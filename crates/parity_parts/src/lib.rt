@@ -9,6 +9,6 @@ mod part;
 mod rebuilding;
 
 pub use crate::joining::join;
-pub use crate::part::{Part, part_of};
+pub use crate::part::{Part, part_of, width_of};
 pub use crate::rebuilding::{RebuildAnswer, Rebuilt, rebuild};
 pub use plain_lists::Want;

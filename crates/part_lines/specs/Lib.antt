@@ -1,0 +1,4 @@
+pub mod Texts
+pub mod Reading
+pub mod Rebuilding
+pub mod Laws

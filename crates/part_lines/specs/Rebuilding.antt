@@ -1,0 +1,46 @@
+-- What is printed of a text that is rebuilt from a text of parts. (This project's own.)
+use Rattle.std.specs.Prelude.{◌≡◌, ℕ, List, Option, Some, None, Result, Ok, Err}
+use Rattle.quorum_sets.specs.Quorum.{group_size}
+use Rattle.scenario_file.specs.Reading.{Contents}
+use Rattle.parity_parts.specs.declared.part.Part.{Part}
+use Rattle.parity_parts.specs.Rebuilding.{rebuilt, wrong_masters}
+use Rattle.script_grammar.specs.declared.fault.Fault.{Fault}
+use Rattle.script_grammar.specs.declared.fault.Fault.TheVariants as line
+use Rattle.part_lines.specs.declared.fault.RebuildFault.{RebuildFault}
+use Rattle.part_lines.specs.declared.fault.RebuildFault.TheVariants as fault
+use Rattle.part_lines.specs.declared.told.Told.{Told}
+use Rattle.part_lines.specs.Reading.{Reading, told_in}
+use Rattle.part_lines.specs.Texts.{rebuilt_lines}
+
+-- the text of the digest, and the masters whose parts aren't its
+abbrev pub or_no_text : ℕ → List Part → Option (List ℕ) → Reading (List ℕ)
+or_no_text f parts None = Err fault.NoText
+or_no_text f parts (Some text) = Ok (rebuilt_lines text (wrong_masters f text parts))
+
+abbrev pub rebuilt_of : ℕ → Reading Told → Reading (List ℕ)
+rebuilt_of f (Ok told) = or_no_text f told.parts (rebuilt f told.digest told.parts)
+rebuilt_of f (Err e) = Err e
+
+-- what a text of parts tells in a scenario
+unfoldable pub told_for : Contents → List ℕ → Reading Told
+told_for c bytes = told_in (group_size c.settings.f c.settings.k) c.settings.f bytes
+
+-- what is printed for a text of parts, or why nothing is
+unfoldable pub rebuilt_in : Contents → List ℕ → Reading (List ℕ)
+rebuilt_in c bytes = rebuilt_of c.settings.f (told_for c bytes)
+
+-- the fault of a text whose line of that number has a fault
+abbrev pub fault_at : ℕ → Fault → RebuildFault
+fault_at number line.Want = fault.Want
+fault_at number other = fault.BadLine number
+
+-- a fault is the right answer, unless memory ran out
+abbrev pub RefusesText : {A : Type 0} → RebuildFault → Reading A → Type 0
+RefusesText (fault.BadLine number) right = right ≡ Err (fault.BadLine number)
+RefusesText fault.NoText right = right ≡ Err fault.NoText
+RefusesText fault.Want right = Unit {0}
+
+-- an answer is the right one, unless memory ran out
+abbrev pub ReadsText : {A : Type 0} → Reading A → Reading A → Type 0
+ReadsText (Ok x) right = right ≡ Ok x
+ReadsText (Err e) right = RefusesText e right

@@ -1,0 +1,13 @@
+use Rattle.std.proofs.Common.{◌≡◌, ℕ, ◌<◌, List, Option, None}
+use Rattle.scenario_file.specs.Reading.{Contents}
+use Rattle.history_rules.specs.Events.{Entry}
+use Rattle.world_rules.specs.Scenarios.{masters_in, setup_of}
+use Rattle.history_benches.specs.Benches.{AreBenches}
+use Rattle.part_runs.specs.Parts.{certified_by}
+use Rattle.part_runs.proofs.certified.first_certified.Given as goal
+
+-- no master so far has it certified
+abbrev pub invariant-loop-master : goal.invariant-loop-master
+invariant-loop-master l =
+    (c : Contents) (history : List Entry) → AreBenches c history l.benches → l.n ≡ masters_in c
+    → (m : ℕ) → m < l.master → certified_by (setup_of c) history l.request.originator l.request.number m ≡ None

@@ -1,0 +1,10 @@
+//! The text of an update in parts: for a request that correct masters have certified its digest, and the part of it that each
+//! of them has. From any f + 1 of these lines, beside whatever lines for other masters, the text is rebuilt.
+#![tactic(auto)]
+
+mod certified;
+pub mod laws;
+mod parts;
+
+pub use crate::parts::{PartsFault, parts_text};
+pub use part_lines::{RebuildFault, rebuilt_text};
