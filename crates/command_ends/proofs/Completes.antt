@@ -115,6 +115,10 @@ by-result next certain call err status (Err (refusal.History fault number)) caus
     refused call err status last (refusal.History fault number) (comes-to next certain call last (Refuses (refusal.History fault number)) free cause.0) finish cause.1
 by-result next certain call err status (Err refusal.NotVerified) cause finish last free =
     refused call err status last refusal.NotVerified (comes-to next certain call last (Refuses refusal.NotVerified) free cause.0) finish cause.1
+by-result next certain call err status (Err (refusal.NoAnswer lack)) cause finish last free =
+    refused call err status last (refusal.NoAnswer lack) (comes-to next certain call last (Refuses (refusal.NoAnswer lack)) free cause.0) finish cause.1
+by-result next certain call err status (Err (refusal.Pieces at)) cause finish last free =
+    refused call err status last (refusal.Pieces at) (comes-to next certain call last (Refuses (refusal.Pieces at)) free cause.0) finish cause.1
 
 -- Every call completes, where what comes next is one step.
 pub completes : (next : List (List ℕ) → List (List ℕ) → Step → Type 0) → IsCertain next → (call : Call) (err : ErrorSink) (status : ℕ)

@@ -66,6 +66,10 @@ after-load next held later first second last before name content (Err (refusal.H
     comes-after next held later before name content (Refuses (refusal.History fault number)) due told short same cause
 after-load next held later first second last before name content (Err refusal.NotVerified) due told short same stay cause =
     comes-after next held later before name content (Refuses refusal.NotVerified) due told short same cause
+after-load next held later first second last before name content (Err (refusal.NoAnswer lack)) due told short same stay cause =
+    comes-after next held later before name content (Refuses (refusal.NoAnswer lack)) due told short same cause
+after-load next held later first second last before name content (Err (refusal.Pieces at)) due told short same stay cause =
+    comes-after next held later before name content (Refuses (refusal.Pieces at)) due told short same cause
 
 -- the file that is due can't be loaded
 pub load-failed : (next : List (List ℕ) → Step → Type 0) (held : List ℕ → Option (List ℕ)) (first last : List ℕ → ℕ) (before : List (List ℕ))
@@ -86,6 +90,8 @@ load-failed next held first last before name (refusal.Script fault number) due c
 load-failed next held first last before name (refusal.Words fault number) due cause = absurd cause
 load-failed next held first last before name (refusal.History fault number) due cause = absurd cause
 load-failed next held first last before name refusal.NotVerified due cause = absurd cause
+load-failed next held first last before name (refusal.NoAnswer lack) due cause = absurd cause
+load-failed next held first last before name (refusal.Pieces at) due cause = absurd cause
 load-failed next held first last before name refusal.Output due cause = absurd cause
 
 -- the counts of faults are the same from before, where none rose until then
@@ -101,4 +107,6 @@ faults-after first second last (Err (refusal.Script fault number)) stay faults =
 faults-after first second last (Err (refusal.Words fault number)) stay faults = λ name. faults name ∙ stay name
 faults-after first second last (Err (refusal.History fault number)) stay faults = λ name. faults name ∙ stay name
 faults-after first second last (Err refusal.NotVerified) stay faults = λ name. faults name ∙ stay name
+faults-after first second last (Err (refusal.NoAnswer lack)) stay faults = λ name. faults name ∙ stay name
+faults-after first second last (Err (refusal.Pieces at)) stay faults = λ name. faults name ∙ stay name
 faults-after first second last (Err refusal.Output) stay faults = λ name. faults name ∙ stay name

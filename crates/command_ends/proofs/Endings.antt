@@ -30,6 +30,8 @@ cause-of-put next call text (Err (refusal.Script fault number)) comes put = absu
 cause-of-put next call text (Err (refusal.Words fault number)) comes put = absurd put
 cause-of-put next call text (Err (refusal.History fault number)) comes put = absurd put
 cause-of-put next call text (Err refusal.NotVerified) comes put = absurd put
+cause-of-put next call text (Err (refusal.NoAnswer lack)) comes put = absurd put
+cause-of-put next call text (Err (refusal.Pieces at)) comes put = absurd put
 
 -- where memory was wanted for the rest of the text, a beginning of it was put
 pub puts_in_memory : (next : List (List ℕ) → List (List ℕ) → Step → Type 0) (call : Call) (text : List ℕ) (result : Result (Unit {0}) Refusal)
@@ -46,6 +48,8 @@ puts_in_memory next call text (Err (refusal.Script fault number)) comes put = tt
 puts_in_memory next call text (Err (refusal.Words fault number)) comes put = tt
 puts_in_memory next call text (Err (refusal.History fault number)) comes put = tt
 puts_in_memory next call text (Err refusal.NotVerified) comes put = tt
+puts_in_memory next call text (Err (refusal.NoAnswer lack)) comes put = tt
+puts_in_memory next call text (Err (refusal.Pieces at)) comes put = tt
 
 -- putting loads no file
 pub files-stay : (before after : List ℕ → ℕ) (from to : ℕ) (put_before put_after : Option (List ℕ)) (text : List ℕ) (result : Result (Unit {0}) Refusal)
@@ -61,6 +65,8 @@ files-stay before after from to put_before put_after text (Err (refusal.Script f
 files-stay before after from to put_before put_after text (Err (refusal.Words fault number)) stay put = absurd put
 files-stay before after from to put_before put_after text (Err (refusal.History fault number)) stay put = absurd put
 files-stay before after from to put_before put_after text (Err refusal.NotVerified) stay put = absurd put
+files-stay before after from to put_before put_after text (Err (refusal.NoAnswer lack)) stay put = absurd put
+files-stay before after from to put_before put_after text (Err (refusal.Pieces at)) stay put = absurd put
 
 -- why there was no text to put
 pub cause-of-refusal : (next : List (List ℕ) → List (List ℕ) → Step → Type 0) (call : Call) (why : Refusal)
@@ -75,6 +81,8 @@ cause-of-refusal next call (refusal.Script fault number) cause nothing = (cause,
 cause-of-refusal next call (refusal.Words fault number) cause nothing = (cause, nothing)
 cause-of-refusal next call (refusal.History fault number) cause nothing = (cause, nothing)
 cause-of-refusal next call refusal.NotVerified cause nothing = (cause, nothing)
+cause-of-refusal next call (refusal.NoAnswer lack) cause nothing = (cause, nothing)
+cause-of-refusal next call (refusal.Pieces at) cause nothing = (cause, nothing)
 
 pub nothing_in_memory : (next : List (List ℕ) → List (List ℕ) → Step → Type 0) (call : Call) (why : Refusal) → PutsNothing call → PutsInMemory next call (Err why)
 nothing_in_memory next call refusal.Memory nothing = NothingOrBegun.nothing nothing
@@ -87,6 +95,8 @@ nothing_in_memory next call (refusal.Script fault number) nothing = tt
 nothing_in_memory next call (refusal.Words fault number) nothing = tt
 nothing_in_memory next call (refusal.History fault number) nothing = tt
 nothing_in_memory next call refusal.NotVerified nothing = tt
+nothing_in_memory next call (refusal.NoAnswer lack) nothing = tt
+nothing_in_memory next call (refusal.Pieces at) nothing = tt
 
 pub out-stays : (why : Refusal) (count : ℕ) → OutCounts why count count
 out-stays refusal.Output count = tt
@@ -99,3 +109,5 @@ out-stays (refusal.Script fault number) count = refl
 out-stays (refusal.Words fault number) count = refl
 out-stays (refusal.History fault number) count = refl
 out-stays refusal.NotVerified count = refl
+out-stays (refusal.NoAnswer lack) count = refl
+out-stays (refusal.Pieces at) count = refl

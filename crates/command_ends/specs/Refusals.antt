@@ -4,6 +4,8 @@ use Rattle.command_ends.specs.declared.refusal.ScenarioFault.{ScenarioFault}
 use Rattle.command_ends.specs.declared.refusal.ScenarioFault.TheVariants as scenario
 use Rattle.command_ends.specs.declared.refusal.LineFault.{LineFault}
 use Rattle.command_ends.specs.declared.refusal.LineFault.TheVariants as line
+use Rattle.command_ends.specs.declared.refusal.NoAnswer.{NoAnswer}
+use Rattle.command_ends.specs.declared.refusal.NoAnswer.TheVariants as none
 use Rattle.command_ends.specs.declared.refusal.Refusal.{Refusal}
 use Rattle.command_ends.specs.declared.refusal.Refusal.TheVariants as refusal
 
@@ -15,9 +17,11 @@ status_of (refusal.Scenario fault) = 4
 status_of (refusal.Script fault number) = 5
 status_of (refusal.Words fault number) = 5
 status_of (refusal.History fault number) = 5
+status_of (refusal.Pieces number) = 5
 status_of refusal.Output = 6
 status_of refusal.Memory = 7
 status_of refusal.NotVerified = 8
+status_of (refusal.NoAnswer why) = 9
 
 -- a scenario's fault by its name, with the key's
 abbrev pub scenario_fault_text : ScenarioFault → List ℕ
@@ -35,6 +39,15 @@ line_fault_name line.NoFrame = codes "NoFrame"
 line_fault_name line.TooMany = codes "TooMany"
 line_fault_name line.NotLegal = codes "NotLegal"
 
+-- the command that has nothing to print, with the cause by its name
+abbrev pub no_answer_text : NoAnswer → List ℕ
+no_answer_text none.NotCertified = codes "parts NotCertified"
+no_answer_text none.NoText = codes "rebuild NoText"
+no_answer_text none.NoPoint = codes "trend NoPoint"
+no_answer_text none.BadRange = codes "trend BadRange"
+no_answer_text (none.NotReached executed) = codes "trend NotReached " ++ decimal executed
+no_answer_text none.NoMatch = codes "trend NoMatch"
+
 -- the line of a file's fault at a number
 unfoldable pub fault_line : List ℕ → LineFault → ℕ → List ℕ
 fault_line file fault number =
@@ -48,6 +61,8 @@ line_text (refusal.Scenario fault) = codes "spire: scenario " ++ scenario_fault_
 line_text (refusal.Script fault number) = fault_line (codes "script") fault number
 line_text (refusal.Words fault number) = fault_line (codes "words") fault number
 line_text (refusal.History fault number) = fault_line (codes "history") fault number
+line_text (refusal.Pieces number) = fault_line (codes "parts") line.BadLine number
 line_text refusal.NotVerified = codes "spire: not verified\n"
+line_text (refusal.NoAnswer why) = codes "spire: " ++ no_answer_text why ++ codes "\n"
 line_text refusal.Output = codes "spire: output fault\n"
 line_text refusal.Memory = codes "spire: memory\n"

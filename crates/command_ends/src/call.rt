@@ -32,7 +32,8 @@ pub trait Commands {
 
 /// Runs the command that the words are, puts its text to `out` and the line of a refusal to `err`, and gives the status: 0 for
 /// the whole text, 2 for other words, 3 for a file, 4 for a scenario that is refused, 5 for a script, for words or for a
-/// history, 6 for the output, 7 for want of memory, 8 for a signature that isn't one.
+/// history or for parts, 6 for the output, 7 for want of memory, 8 for a signature that isn't one, 9 where the files were read
+/// and there is nothing to print.
 pub fn end_call<C: Commands, F: Files, O: Sink, E: Sink>(
     alloc: Global,
     commands: &C,

@@ -25,6 +25,23 @@ pub enum LineFault {
     NotLegal,
 }
 
+/// Why a command whose files were read has nothing to print.
+#[derive(Clone, Copy, Debug, PartialEq, Eq)]
+pub enum NoAnswer {
+    /// No correct master has the request certified.
+    NotCertified,
+    /// No f + 1 of the parts are those of one text that has the digest.
+    NoText,
+    /// The plant has no such point.
+    NoPoint,
+    /// The range begins before the first execution, or ends before it begins.
+    BadRange,
+    /// Fewer than f + 1 correct masters executed up to the range's end. So many executed this many.
+    NotReached { executed: u64 },
+    /// No f + 1 correct masters that executed up to the range's end give one answer.
+    NoMatch,
+}
+
 /// Why a call didn't put its whole text.
 #[derive(Drop)]
 pub enum Refusal {
@@ -40,8 +57,11 @@ pub enum Refusal {
     Words { fault: LineFault, line: u64 },
     /// The number is a line's, counted from 1, or a stamp.
     History { fault: LineFault, number: u64 },
+    /// The line of a file of parts isn't of its form. Lines are counted from 1.
+    Pieces { line: u64 },
     /// The signature isn't one of the message.
     NotVerified,
+    NoAnswer { why: NoAnswer },
     /// The output failed.
     Output,
     Memory,

@@ -1,9 +1,9 @@
 ghost use Rattle.std.specs.Prelude.{◌≡◌, ◌≤◌, ◌++◌, IfOk, string_bytes, codes};
 ghost use Rattle.command_ends.specs.Output.{PutsBeginning};
-ghost use Rattle.command_ends.specs.Refusals.{status_of, line_text, fault_line, line_fault_name, scenario_fault_text};
+ghost use Rattle.command_ends.specs.Refusals.{status_of, line_text, fault_line, line_fault_name, no_answer_text, scenario_fault_text};
 ghost use Rattle.command_ends.specs.Ended.{Told, ErrorSink};
 
-use crate::refusal::{LineFault, Refusal, ScenarioFault};
+use crate::refusal::{LineFault, NoAnswer, Refusal, ScenarioFault};
 use outside::{PutAnswer, Sink};
 use plain_lists::Want;
 use std::alloc::{AllocError, Global};
@@ -42,10 +42,12 @@ fn status_of(refusal: &Refusal) -> u8
         | Refusal::History {
             fault: _,
             number: _,
-        } => 5,
+        }
+        | Refusal::Pieces { line: _ } => 5,
         Refusal::Output => 6,
         Refusal::Memory => 7,
         Refusal::NotVerified => 8,
+        Refusal::NoAnswer { why: _ } => 9,
     }
 }
 
@@ -66,7 +68,9 @@ fn line_of(alloc: Global, refusal: &Refusal) -> Result<String, AllocError>
         Refusal::Script { fault, line } => fault_line(alloc, "script", *fault, *line),
         Refusal::Words { fault, line } => fault_line(alloc, "words", *fault, *line),
         Refusal::History { fault, number } => fault_line(alloc, "history", *fault, *number),
+        Refusal::Pieces { line } => fault_line(alloc, "parts", LineFault::BadLine, *line),
         Refusal::NotVerified => String::from_str(alloc, "spire: not verified\n"),
+        Refusal::NoAnswer { why } => no_answer_line(alloc, *why),
         Refusal::Output => String::from_str(alloc, "spire: output fault\n"),
         Refusal::Memory => String::from_str(alloc, "spire: memory\n"),
     }
@@ -93,6 +97,21 @@ fn scenario_line(alloc: Global, fault: &ScenarioFault) -> Result<String, AllocEr
             let name = name.as_str();
             format!(in alloc; "spire: scenario UnknownKey {name}\n")
         }
+    }
+}
+
+fn no_answer_line(alloc: Global, why: NoAnswer) -> Result<String, AllocError>
+    ensures { IfOk result (λ line. string_bytes line ≡ codes "spire: " ++ no_answer_text why ++ codes "\n") }
+{
+    match why {
+        NoAnswer::NotCertified => String::from_str(alloc, "spire: parts NotCertified\n"),
+        NoAnswer::NoText => String::from_str(alloc, "spire: rebuild NoText\n"),
+        NoAnswer::NoPoint => String::from_str(alloc, "spire: trend NoPoint\n"),
+        NoAnswer::BadRange => String::from_str(alloc, "spire: trend BadRange\n"),
+        NoAnswer::NotReached { executed } => {
+            format!(in alloc; "spire: trend NotReached {executed}\n")
+        }
+        NoAnswer::NoMatch => String::from_str(alloc, "spire: trend NoMatch\n"),
     }
 }
 

@@ -1,11 +1,14 @@
--- Plays that stop at their first line, and histories that are none.
+-- Plays that stop at their first line, histories that are none, and parts of no text.
 use Rattle.std.specs.Prelude.{[], Err}
 use Rattle.command_ends.specs.declared.refusal.LineFault.TheVariants as line
-use Rattle.run_commands.specs.Readers.{Readers}
+use Rattle.command_ends.specs.declared.refusal.NoAnswer.TheVariants as none
+use Rattle.run_commands.specs.Readers.{Readers, NoRequest}
 
 abbrev pub unplayed : Readers
 unplayed = record {
   played = λ c lines sayings. Err (line.NoFrame, 1);
   history_in = λ c text. Err (line.BadLine, 1);
   text_of = λ c history. [];
+  answered = λ c history question. Err none.NoMatch;
+  rebuilt = λ c text. Err NoRequest.NoText;
 }

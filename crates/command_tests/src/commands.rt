@@ -105,6 +105,38 @@ fn scripts_and_plays_are_refused_by_line(rt: HostRuntime) -> Result<(), Fail> {
 }
 
 #[test]
+fn questions_load_the_scenario_and_then_their_file(rt: HostRuntime) -> Result<(), Fail> {
+    let ending = run(rt.alloc(), "blame nothing script", "")?;
+    assert_eq!(rt; ending.status, 3);
+    let ending = run(rt.alloc(), "trend scenario nothing 0 1 6", "")?;
+    assert_eq!(rt;
+        ending.line.as_slice(),
+        b"spire: file nothing fault\n".as_slice()
+    );
+    let ending = run(rt.alloc(), "parts scenario script 0 1", "spire 1\n")?;
+    assert_eq!(rt; ending.status, 5);
+    assert_eq!(rt;
+        ending.line.as_slice(),
+        b"spire: history BadLine 1\n".as_slice()
+    );
+    let ending = run(rt.alloc(), "parts scenario script 0 4294967296", "")?;
+    assert_eq!(rt; ending.status, 2);
+    Ok(())
+}
+
+#[test]
+fn parts_of_no_text_have_a_status_of_their_own(rt: HostRuntime) -> Result<(), Fail> {
+    let ending = run(rt.alloc(), "rebuild scenario script", "")?;
+    assert_eq!(rt; ending.status, 9);
+    assert_eq!(rt;
+        ending.line.as_slice(),
+        b"spire: rebuild NoText\n".as_slice()
+    );
+    assert!(rt; ending.put.is_empty());
+    Ok(())
+}
+
+#[test]
 fn a_signature_that_is_none_is_refused(rt: HostRuntime) -> Result<(), Fail> {
     let mut line = String::from_str(rt.alloc(), "verify ")?;
     for _digits in 0..60u64 {

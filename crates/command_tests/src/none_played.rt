@@ -1,10 +1,10 @@
-use command_ends::{LineFault, Refusal};
-use run_commands::Runs;
+use command_ends::{LineFault, NoAnswer, Refusal};
+use run_commands::{Question, Runs};
 use scenario_file::Scenario;
 use script_lines::{Script, Words};
 use std::alloc::Global;
 
-/// Plays that stop at their first line.
+/// Plays that stop at their first line, histories that are none, and parts of no text.
 #[derive(Drop)]
 pub struct Unplayed;
 
@@ -35,6 +35,30 @@ impl Runs for Unplayed {
         Err(Refusal::History {
             fault: LineFault::BadLine,
             number: 1,
+        })
+    }
+
+    fn answer_text(
+        &self,
+        _alloc: Global,
+        _scenario: &Scenario,
+        _text: &[u8],
+        _question: Question,
+    ) -> Result<Vec<u8>, Refusal> {
+        Err(Refusal::History {
+            fault: LineFault::BadLine,
+            number: 1,
+        })
+    }
+
+    fn rebuilt_text(
+        &self,
+        _alloc: Global,
+        _scenario: &Scenario,
+        _pieces: &[u8],
+    ) -> Result<Vec<u8>, Refusal> {
+        Err(Refusal::NoAnswer {
+            why: NoAnswer::NoText,
         })
     }
 

@@ -1,13 +1,12 @@
 -- Why the headline holds of a play or a replay that ends well.
-use Rattle.std.proofs.Common.{◌≡◌, ◌<◌, ℕ, Bool, true, false, List, [], ◌∷◌, ◌++◌, Option, None, Some, Result, Ok, Err, refl, sym, ◌∙◌, ap, subst, arith, true≢false}
-use Rattle.std.specs.Prelude.{◌≤◌, length, if◌then◌else◌}
+use Rattle.std.proofs.Common.{◌≡◌, ◌<◌, ℕ, Bool, true, false, List, [], ◌∷◌, Option, None, Some, Result, Ok, Err, refl, sym, ◌∙◌, ap, subst, arith, true≢false}
+use Rattle.std.specs.Prelude.{if◌then◌else◌}
 use Rattle.std.specs.Str.{is_utf8}
 use Rattle.toml.specs.Data.{Members}
 use Rattle.toml.specs.Parse.{parse_document}
 use Rattle.outside.specs.Piece.{with_piece}
-use Rattle.scenario_file.specs.Reading.{Contents, scenario_in, scenario_of, or_no_toml}
+use Rattle.scenario_file.specs.Reading.{Contents, scenario_in, or_no_toml}
 use Rattle.scenario_file.specs.Valid.{IsScenario}
-use Rattle.scenario_file.specs.Answers.{Answer}
 use Rattle.scenario_file.specs.declared.refusal.ScenarioRefusal.{ScenarioRefusal}
 use Rattle.scenario_file.specs.declared.refusal.ScenarioRefusal.TheVariants as scenario
 use Rattle.scenario_file.proofs.ValidLaws.{scenario_of-valid}
@@ -22,7 +21,7 @@ use Rattle.command_words.specs.Wanted.{Wanted, play, run, replay, make, keys, ve
 use Rattle.command_ends.specs.Refusals.{status_of}
 use Rattle.command_ends.specs.Steps.{Step}
 use Rattle.command_ends.specs.Steps.Step.{Load, Gives, Refuses}
-use Rattle.command_ends.specs.Calls.{Call, CauseOf, Comes, Loaded, IsContent}
+use Rattle.command_ends.specs.Calls.{Call, CauseOf, Loaded, IsContent}
 use Rattle.command_ends.specs.Ended.{ErrorSink, Ends, Finishes, Told}
 use Rattle.command_ends.specs.declared.refusal.LineFault.{LineFault}
 use Rattle.command_ends.specs.declared.refusal.Refusal.{Refusal}
@@ -49,7 +48,7 @@ file_of (Load name) = name
 file_of _ = []
 
 -- where a text comes of an answer, there was a value
-accepted-gives : {A E : Type 0} (refuse : E → Refusal) (answer : Result A E) (onward : A → Step) (text : List ℕ) → Gives text ≡ accepted refuse answer onward
+pub accepted-gives : {A E : Type 0} (refuse : E → Refusal) (answer : Result A E) (onward : A → Step) (text : List ℕ) → Gives text ≡ accepted refuse answer onward
     → (value : A) × (answer ≡ Ok value) × (Gives text ≡ onward value)
 accepted-gives refuse (Ok value) onward text is = (value, refl, is)
 accepted-gives refuse (Err e) onward text is = absurd (true≢false (ap is_text is))
@@ -73,7 +72,7 @@ read-valid : (is : Bool) (text : List ℕ) (c : Contents) → read-if is text �
 read-valid true text c is = text-valid text c is
 read-valid false text c is = absurd (cc)
 
-scenario-valid : (text : List ℕ) (c : Contents) → scenario_at text ≡ Ok c → IsScenario c
+pub scenario-valid : (text : List ℕ) (c : Contents) → scenario_at text ≡ Ok c → IsScenario c
 unfolding scenario_at
 scenario-valid text c is = read-valid (is_utf8 text) text c is
 
@@ -89,7 +88,7 @@ next-command r words w contents step asked other next =
     as-command r (is_command words) w contents step other (subst (λ (o : Option Wanted). AskedStep r (is_command words) o contents step) asked next)
 
 -- the content is that of the file that is due
-same-file : (held : List ℕ → Option (List ℕ)) (name due content : List ℕ) → Load name ≡ Load due → IsContent (held name) content → IsContent (held due) content
+pub same-file : (held : List ℕ → Option (List ℕ)) (name due content : List ℕ) → Load name ≡ Load due → IsContent (held name) content → IsContent (held due) content
 same-file held name due content is told = subst (λ n. IsContent (held n) content) (ap file_of is) told
 
 -- ---- A play.
@@ -230,10 +229,12 @@ status-some (refusal.Script fault number) = omega arith
 status-some (refusal.Words fault number) = omega arith
 status-some (refusal.History fault number) = omega arith
 status-some refusal.NotVerified = omega arith
+status-some (refusal.NoAnswer lack) = omega arith
+status-some (refusal.Pieces at) = omega arith
 status-some refusal.Output = omega arith
 status-some refusal.Memory = omega arith
 
-refused-not-well : (why : Refusal) (err : ErrorSink) (status : ℕ) → status ≡ 0 → Told why err status → ⊥
+pub refused-not-well : (why : Refusal) (err : ErrorSink) (status : ℕ) → status ≡ 0 → Told why err status → ⊥
 refused-not-well why err status zero (Told.whole is none line) = let some = status-some why in absurd (omega arith)
 refused-not-well why err status zero (Told.begun is risen put) = let some = status-some why in absurd (omega arith)
 refused-not-well why err status zero (Told.memory is put) = absurd (omega arith)

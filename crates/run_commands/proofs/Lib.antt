@@ -1,5 +1,7 @@
 pub mod Scenarios
 pub mod Openings
 pub mod Playing
+pub mod Posing
 pub mod Certain
 pub mod Headlines
+pub mod Answered

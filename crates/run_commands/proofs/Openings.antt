@@ -1,10 +1,10 @@
 -- A file more is loaded and read.
-use Rattle.std.proofs.Common.{◌≡◌, ◌≤◌, ℕ, List, [], ◌∷◌, ◌++◌, Option, Result, Ok, Err, sym, subst, ap, length}
+use Rattle.std.proofs.Common.{◌≡◌, ℕ, List, [], ◌∷◌, ◌++◌, Option, Result, Ok, Err, subst}
 use Rattle.std.specs.declared.vec.Vec.{Vec}
 use Rattle.std.specs.declared.alloc.Global.{Global}
 use Rattle.command_ends.specs.Steps.{Step}
 use Rattle.command_ends.specs.Steps.Step.{Load, Gives, Refuses}
-use Rattle.command_ends.specs.Calls.{IsContent, TextCause, CountsStay, FaultsOfFiles}
+use Rattle.command_ends.specs.Calls.{TextCause, CountsStay, FaultsOfFiles}
 use Rattle.command_ends.specs.Loaded.{LoadCause}
 use Rattle.command_ends.specs.declared.refusal.Refusal.{Refusal}
 use Rattle.command_ends.specs.declared.refusal.Refusal.TheVariants as refusal
@@ -27,6 +27,8 @@ opened reads shown held before after name loaded (Err (refusal.Script fault numb
 opened reads shown held before after name loaded (Err (refusal.Words fault number)) cause leads = (loaded.items, cause.0, cause.1, leads)
 opened reads shown held before after name loaded (Err (refusal.History fault number)) cause leads = (loaded.items, cause.0, cause.1, leads)
 opened reads shown held before after name loaded (Err refusal.NotVerified) cause leads = (loaded.items, cause.0, cause.1, leads)
+opened reads shown held before after name loaded (Err (refusal.NoAnswer lack)) cause leads = (loaded.items, cause.0, cause.1, leads)
+opened reads shown held before after name loaded (Err (refusal.Pieces at)) cause leads = (loaded.items, cause.0, cause.1, leads)
 
 -- reading rises no count
 pub opened-faults : {A V : Type 0} (reads : List ℕ → (V → Step) → Step) (shown : A → V) (content : List ℕ) (before after : List ℕ → ℕ)
@@ -42,6 +44,8 @@ opened-faults reads shown content before after (Err (refusal.Script fault number
 opened-faults reads shown content before after (Err (refusal.Words fault number)) leads stay = stay
 opened-faults reads shown content before after (Err (refusal.History fault number)) leads stay = stay
 opened-faults reads shown content before after (Err refusal.NotVerified) leads stay = stay
+opened-faults reads shown content before after (Err (refusal.NoAnswer lack)) leads stay = stay
+opened-faults reads shown content before after (Err (refusal.Pieces at)) leads stay = stay
 
 -- a file that isn't loaded isn't read
 pub open-failed : {A V : Type 0} (reads : List ℕ → (V → Step) → Step) (shown : A → V) (held : Option (List ℕ)) (before after : ℕ) (name : List ℕ)
@@ -56,6 +60,8 @@ open-failed reads shown held before after name (refusal.Script fault number) cau
 open-failed reads shown held before after name (refusal.Words fault number) cause = absurd cause
 open-failed reads shown held before after name (refusal.History fault number) cause = absurd cause
 open-failed reads shown held before after name refusal.NotVerified cause = absurd cause
+open-failed reads shown held before after name (refusal.NoAnswer lack) cause = absurd cause
+open-failed reads shown held before after name (refusal.Pieces at) cause = absurd cause
 
 -- why there is a text or none, after one file more was read
 pub after-open : {A V : Type 0} (next : List (List ℕ) → Step → Type 0) (held later : List ℕ → Option (List ℕ)) (first second last : List ℕ → ℕ)
@@ -88,6 +94,10 @@ open-refused next held first last before name reads shown (refusal.History fault
     (cause.0 ∷ [], (name, due, cause.1, cause.2, tt), refuses cause.0 (refusal.History fault number) cause.3)
 open-refused next held first last before name reads shown refusal.NotVerified due cause refuses =
     (cause.0 ∷ [], (name, due, cause.1, cause.2, tt), refuses cause.0 refusal.NotVerified cause.3)
+open-refused next held first last before name reads shown (refusal.NoAnswer lack) due cause refuses =
+    (cause.0 ∷ [], (name, due, cause.1, cause.2, tt), refuses cause.0 (refusal.NoAnswer lack) cause.3)
+open-refused next held first last before name reads shown (refusal.Pieces at) due cause refuses =
+    (cause.0 ∷ [], (name, due, cause.1, cause.2, tt), refuses cause.0 (refusal.Pieces at) cause.3)
 
 -- what is made without a file is what is due
 pub made-now : (next : List (List ℕ) → Step → Type 0) (held : List ℕ → Option (List ℕ)) (first last : List ℕ → ℕ) (before : List (List ℕ)) (step : Step)
@@ -103,6 +113,8 @@ made-now next held first last before step (Err (refusal.Script fault number)) du
 made-now next held first last before step (Err (refusal.Words fault number)) due makes = comes-now next held before (Refuses (refusal.Words fault number)) (subst (λ s. next before s) makes due)
 made-now next held first last before step (Err (refusal.History fault number)) due makes = comes-now next held before (Refuses (refusal.History fault number)) (subst (λ s. next before s) makes due)
 made-now next held first last before step (Err refusal.NotVerified) due makes = comes-now next held before (Refuses refusal.NotVerified) (subst (λ s. next before s) makes due)
+made-now next held first last before step (Err (refusal.NoAnswer lack)) due makes = comes-now next held before (Refuses (refusal.NoAnswer lack)) (subst (λ s. next before s) makes due)
+made-now next held first last before step (Err (refusal.Pieces at)) due makes = comes-now next held before (Refuses (refusal.Pieces at)) (subst (λ s. next before s) makes due)
 
 pub made-faults : (step : Step) (before after : List ℕ → ℕ) (result : Result (Vec ℕ Global) Refusal) → Makes step result → CountsStay before after
     → FaultsOfFiles result before after
@@ -117,3 +129,5 @@ made-faults step before after (Err (refusal.Script fault number)) makes stay = s
 made-faults step before after (Err (refusal.Words fault number)) makes stay = stay
 made-faults step before after (Err (refusal.History fault number)) makes stay = stay
 made-faults step before after (Err refusal.NotVerified) makes stay = stay
+made-faults step before after (Err (refusal.NoAnswer lack)) makes stay = stay
+made-faults step before after (Err (refusal.Pieces at)) makes stay = stay

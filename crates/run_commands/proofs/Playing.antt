@@ -1,9 +1,7 @@
 -- The steps of plays, replays and the other commands.
-use Rattle.std.proofs.Common.{inl, inr, ◌≡◌, ℕ, Bool, true, List, [], ◌∷◌, Option, None, Some, Result, Ok, Err, refl, sym, ◌∙◌, ap, subst, string_bytes}
+use Rattle.std.proofs.Common.{inl, inr, ◌≡◌, ℕ, Bool, true, List, [], ◌∷◌, Option, Some, Result, Ok, Err, refl, sym, ◌∙◌, ap, subst}
 use Rattle.std.specs.declared.vec.Vec.{Vec}
-use Rattle.std.specs.declared.string.String.{String}
 use Rattle.std.specs.declared.alloc.Global.{Global}
-use Rattle.hash_signatures.specs.Verification.{Verifies}
 use Rattle.scenario_file.specs.Reading.{Contents}
 use Rattle.history_rules.specs.Events.{Entry}
 use Rattle.script_lines.specs.declared.script.Line.{Line}
@@ -11,17 +9,14 @@ use Rattle.script_lines.specs.declared.saying.Saying.{Saying}
 use Rattle.command_words.specs.Wanted.{Wanted, play, replay, is_command, wanted_in}
 use Rattle.command_ends.specs.Steps.{Step}
 use Rattle.command_ends.specs.Steps.Step.{Load, Gives, Refuses}
-use Rattle.command_ends.specs.Calls.{TextCause, CountsStay, FaultsOfFiles}
+use Rattle.command_ends.specs.Calls.{TextCause}
 use Rattle.command_ends.specs.declared.refusal.LineFault.{LineFault}
 use Rattle.command_ends.specs.declared.refusal.Refusal.{Refusal}
 use Rattle.command_ends.specs.declared.refusal.Refusal.TheVariants as refusal
-use Rattle.made_runs.specs.Scenario.{made_scenario}
 use Rattle.made_runs.specs.Script.{made_script}
-use Rattle.made_runs.specs.Summary.{summary}
-use Rattle.key_commands.specs.Verifying.{public_in, verified_text}
 use Rattle.run_commands.specs.Readers.{Readers, PlayGives, ReplayGives}
 use Rattle.run_commands.specs.Reading.{accepted, with_scenario, with_script, with_words, with_play, with_history}
-use Rattle.run_commands.specs.Course.{play_step, replay_step, make_step, made_history, made_run, VerifyCourse, VerifyStep, CommandStep, AskedStep, NextStep}
+use Rattle.run_commands.specs.Course.{play_step, made_history, VerifyStep, CommandStep, AskedStep, NextStep}
 use Rattle.run_commands.specs.Opened.{LeadsTo, Leads}
 use Rattle.run_commands.specs.Made.{Makes, MakesRun, VerifyMakes}
 use Rattle.command_ends.proofs.Courses.{comes-now}
@@ -92,6 +87,8 @@ play-makes r c lines sayings (Err (refusal.Scenario fault)) gives = absurd gives
 play-makes r c lines sayings (Err (refusal.Words fault number)) gives = absurd gives
 play-makes r c lines sayings (Err (refusal.History fault number)) gives = absurd gives
 play-makes r c lines sayings (Err refusal.NotVerified) gives = absurd gives
+play-makes r c lines sayings (Err (refusal.NoAnswer lack)) gives = absurd gives
+play-makes r c lines sayings (Err (refusal.Pieces at)) gives = absurd gives
 play-makes r c lines sayings (Err refusal.Output) gives = absurd gives
 
 -- ---- A replay.
@@ -125,6 +122,8 @@ replay-makes r c text (Err (refusal.Scenario fault)) gives = absurd gives
 replay-makes r c text (Err (refusal.Script fault number)) gives = absurd gives
 replay-makes r c text (Err (refusal.Words fault number)) gives = absurd gives
 replay-makes r c text (Err refusal.NotVerified) gives = absurd gives
+replay-makes r c text (Err (refusal.NoAnswer lack)) gives = absurd gives
+replay-makes r c text (Err (refusal.Pieces at)) gives = absurd gives
 replay-makes r c text (Err refusal.Output) gives = absurd gives
 
 -- ---- A made run.
@@ -142,6 +141,8 @@ leads-refused reads shown content onward (refusal.Script fault number) leads = l
 leads-refused reads shown content onward (refusal.Words fault number) leads = leads onward
 leads-refused reads shown content onward (refusal.History fault number) leads = leads onward
 leads-refused reads shown content onward refusal.NotVerified leads = leads onward
+leads-refused reads shown content onward (refusal.NoAnswer lack) leads = leads onward
+leads-refused reads shown content onward (refusal.Pieces at) leads = leads onward
 
 -- where scripts or words aren't accepted, or the play stops, there is no made history
 refuses-run : (r : Readers) (c : Contents) (number : ℕ) (why : Refusal) → ((onward : List Entry → Step) → Makes (made_history r c number onward) (Err why))
@@ -156,6 +157,8 @@ refuses-run r c number (refusal.Script fault line) all = all
 refuses-run r c number (refusal.Words fault line) all = all
 refuses-run r c number (refusal.History fault place) all = all
 refuses-run r c number refusal.NotVerified all = all
+refuses-run r c number (refusal.NoAnswer lack) all = all
+refuses-run r c number (refusal.Pieces at) all = all
 
 pub run-words-refused : {A : Type 0} (shown : A → List Saying) (r : Readers) (c : Contents) (number : ℕ) (content : List ℕ) (lines : List Line) (why : Refusal)
     → content ≡ made_script number → LeadsTo (with_script c) content lines → Leads (with_words c) shown [] (Err why) → MakesRun r c number (Err why)
@@ -191,6 +194,8 @@ run-played r c number content lines sayings (Err (refusal.Scenario fault)) is tw
 run-played r c number content lines sayings (Err (refusal.Words fault line)) is two three gives = absurd gives
 run-played r c number content lines sayings (Err (refusal.History fault place)) is two three gives = absurd gives
 run-played r c number content lines sayings (Err refusal.NotVerified) is two three gives = absurd gives
+run-played r c number content lines sayings (Err (refusal.NoAnswer lack)) is two three gives = absurd gives
+run-played r c number content lines sayings (Err (refusal.Pieces at)) is two three gives = absurd gives
 run-played r c number content lines sayings (Err refusal.Output) is two three gives = absurd gives
 
 -- ---- A signature.
@@ -201,6 +206,8 @@ verify-now public message named file sig held first last (Ok text) makes =
     comes-now (VerifyStep public named file) held (message ∷ sig ∷ []) (Gives text.items) (inl (makes.0, ap Gives makes.1))
 verify-now public message named file sig held first last (Err refusal.NotVerified) makes =
     comes-now (VerifyStep public named file) held (message ∷ sig ∷ []) (Refuses refusal.NotVerified) (inr (makes, refl))
+verify-now public message named file sig held first last (Err (refusal.NoAnswer lack)) makes = absurd makes
+verify-now public message named file sig held first last (Err (refusal.Pieces at)) makes = absurd makes
 verify-now public message named file sig held first last (Err refusal.Memory) makes = tt
 verify-now public message named file sig held first last (Err refusal.Usage) makes = absurd makes
 verify-now public message named file sig held first last (Err (refusal.Fault name)) makes = absurd makes

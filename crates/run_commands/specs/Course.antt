@@ -12,8 +12,10 @@ use Rattle.key_commands.specs.Verifying.{public_in, verified_text}
 use Rattle.command_ends.specs.Steps.{Step}
 use Rattle.command_ends.specs.Steps.Step.{Load, Gives, Refuses}
 use Rattle.command_ends.specs.declared.refusal.Refusal.TheVariants as refusal
+use Rattle.run_commands.specs.declared.questions.Question.{Question}
+use Rattle.run_commands.specs.declared.questions.Question.TheVariants as question
 use Rattle.run_commands.specs.Readers.{Readers}
-use Rattle.run_commands.specs.Reading.{with_scenario, with_script, with_words, with_play, with_history}
+use Rattle.run_commands.specs.Reading.{with_scenario, with_script, with_words, with_play, with_history, with_answer, with_pieces}
 
 -- the files of a play are the scenario, the script and the words
 abbrev pub play_step : Readers → List ℕ → List ℕ → List ℕ → List (List ℕ) → Step
@@ -60,7 +62,25 @@ abbrev pub VerifyCourse : Option (List ℕ) → List ℕ → List ℕ → List (
 VerifyCourse None message sig contents step = step ≡ Refuses refusal.Usage
 VerifyCourse (Some public) message sig contents step = VerifyStep public message sig contents step
 
--- What comes next in a command, after the contents of the files loaded so far. The commands that aren't built are refused.
+-- a question is asked over the history of a file
+abbrev pub question_step : Readers → List ℕ → List ℕ → Question → List (List ℕ) → Step
+question_step r scenario history asked [] = Load scenario
+question_step r scenario history asked (a ∷ []) = with_scenario a (λ c. Load history)
+question_step r scenario history asked (a ∷ b ∷ more) = with_scenario a (λ c. with_history r c b (λ h. with_answer r c h asked))
+
+abbrev pub QuestionCourse : Readers → List ℕ → List ℕ → Question → List (List ℕ) → Step → Type 0
+QuestionCourse r scenario history asked contents step = step ≡ question_step r scenario history asked contents
+
+-- the files of a rebuilt request are the scenario and the parts
+abbrev pub rebuild_step : Readers → List ℕ → List ℕ → List (List ℕ) → Step
+rebuild_step r scenario pieces [] = Load scenario
+rebuild_step r scenario pieces (a ∷ []) = with_scenario a (λ c. Load pieces)
+rebuild_step r scenario pieces (a ∷ b ∷ more) = with_scenario a (λ c. with_pieces r c b)
+
+abbrev pub RebuildCourse : Readers → List ℕ → List ℕ → List (List ℕ) → Step → Type 0
+RebuildCourse r scenario pieces contents step = step ≡ rebuild_step r scenario pieces contents
+
+-- What comes next in a command, after the contents of the files loaded so far. Runs in threads aren't built, and are refused.
 abbrev pub CommandStep : Readers → Wanted → List (List ℕ) → Step → Type 0
 CommandStep r (play scenario script words) contents step = step ≡ play_step r scenario script words contents
 CommandStep r (replay scenario history) contents step = step ≡ replay_step r scenario history contents
@@ -68,10 +88,12 @@ CommandStep r (make number) contents step = step ≡ make_step r number
 CommandStep r (keys scenario) contents step = KeysCourse scenario contents step
 CommandStep r (verify public message sig) contents step = VerifyCourse (public_in public) message sig contents step
 CommandStep r (run scenario script words hands turns) contents step = step ≡ Refuses refusal.Usage
-CommandStep r (parts scenario history originator number) contents step = step ≡ Refuses refusal.Usage
-CommandStep r (rebuild scenario pieces) contents step = step ≡ Refuses refusal.Usage
-CommandStep r (blame scenario history) contents step = step ≡ Refuses refusal.Usage
-CommandStep r (trend scenario history point first last) contents step = step ≡ Refuses refusal.Usage
+CommandStep r (parts scenario history originator number) contents step =
+    QuestionCourse r scenario history (question.Parts originator number) contents step
+CommandStep r (rebuild scenario pieces) contents step = RebuildCourse r scenario pieces contents step
+CommandStep r (blame scenario history) contents step = QuestionCourse r scenario history question.Blame contents step
+CommandStep r (trend scenario history point first last) contents step =
+    QuestionCourse r scenario history (question.Trend point first last) contents step
 
 -- The same of words: those that aren't a command are refused at once.
 abbrev pub AskedStep : Readers → Bool → Option Wanted → List (List ℕ) → Step → Type 0

@@ -3,7 +3,7 @@
 -- forged word and no shared digest, what is printed is agreed on, as `Agreed` of `world_rules` has it: of any two correct
 -- masters' executions one begins the other, no update stands there twice or was never said by its client, and each proxy's
 -- writes begin a correct master's orders.
-use Rattle.std.specs.Prelude.{◌≡◌, ℕ, Bool, true, false, List, Option, None, Some, Ok}
+use Rattle.std.specs.Prelude.{◌≡◌, ℕ, Bool, true, false, List, Option, Some, Ok}
 use Rattle.outside.specs.Piece.{with_piece}
 use Rattle.scenario_file.specs.Reading.{Contents}
 use Rattle.history_rules.specs.Events.{Entry}

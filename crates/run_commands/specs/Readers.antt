@@ -17,15 +17,27 @@ use Rattle.script_lines.specs.Sayings.{words_in}
 use Rattle.script_lines.specs.declared.script.Line.{Line}
 use Rattle.script_lines.specs.declared.saying.Saying.{Saying}
 use Rattle.command_ends.specs.declared.refusal.LineFault.{LineFault}
+use Rattle.command_ends.specs.declared.refusal.NoAnswer.{NoAnswer}
+use Rattle.command_ends.specs.declared.refusal.NoAnswer.TheVariants as none
 use Rattle.command_ends.specs.declared.refusal.Refusal.{Refusal}
 use Rattle.command_ends.specs.declared.refusal.Refusal.TheVariants as refusal
+use Rattle.run_commands.specs.declared.questions.Question.{Question}
 
--- the one history of a script and words, the history that a text spells, and the text of a history; or the first fault with
--- its number
+-- Why lines of parts rebuild no request: the first line that isn't of its form, or no f + 1 of the parts are those of one
+-- text that has the digest.
+pub data NoRequest : Type 0 where
+  BadLine : (number : ℕ) → NoRequest
+  NoText : NoRequest
+
+-- The one history of a script and words, the history that a text spells, and the text of a history; or the first fault with
+-- its number. Then what a question over a history is answered with, and the request that lines of parts rebuild, as text; or
+-- why there is none.
 pub record Readers : Type 0 where
   pub played : Contents → List Line → List Saying → Result (List Entry) (LineFault × ℕ)
   pub history_in : Contents → List ℕ → Result (List Entry) (LineFault × ℕ)
   pub text_of : Contents → List Entry → List ℕ
+  pub answered : Contents → List Entry → Question → Result (List ℕ) NoAnswer
+  pub rebuilt : Contents → List ℕ → Result (List ℕ) NoRequest
 
 abbrev pub is_raw : Word → Bool
 is_raw (word.Raw bytes) = true
@@ -67,3 +79,24 @@ ReplayGives r c bytes (Ok text) = (history : List Entry) × (r.history_in c byte
 ReplayGives r c bytes (Err (refusal.History fault number)) = r.history_in c bytes ≡ Err (fault, number)
 ReplayGives r c bytes (Err refusal.Memory) = Unit {0}
 ReplayGives r c bytes (Err _) = ⊥
+
+-- the answer over a history that is read, or why there is none
+abbrev pub AnswerGives : Readers → Contents → List ℕ → Question → Result (Vec ℕ Global) Refusal → Type 0
+AnswerGives r c bytes question (Ok text) =
+    (history : List Entry) × (r.history_in c bytes ≡ Ok history) × (r.answered c history question ≡ Ok text.items)
+AnswerGives r c bytes question (Err (refusal.NoAnswer why)) =
+    (history : List Entry) × (r.history_in c bytes ≡ Ok history) × (r.answered c history question ≡ Err why)
+AnswerGives r c bytes question (Err (refusal.History fault number)) = r.history_in c bytes ≡ Err (fault, number)
+AnswerGives r c bytes question (Err refusal.Memory) = Unit {0}
+AnswerGives r c bytes question (Err _) = ⊥
+
+-- why there is no request, as a refusal
+abbrev pub request_refusal : NoRequest → Refusal
+request_refusal (BadLine number) = refusal.Pieces number
+request_refusal NoText = refusal.NoAnswer none.NoText
+
+-- the request that parts rebuild, or why there is none
+abbrev pub RebuildGives : Readers → Contents → List ℕ → Result (Vec ℕ Global) Refusal → Type 0
+RebuildGives r c bytes (Ok text) = r.rebuilt c bytes ≡ Ok text.items
+RebuildGives r c bytes (Err refusal.Memory) = Unit {0}
+RebuildGives r c bytes (Err why) = (lack : NoRequest) × (r.rebuilt c bytes ≡ Err lack) × (why ≡ request_refusal lack)

@@ -13,13 +13,15 @@ use Rattle.script_lines.specs.declared.script.Line.{Line}
 use Rattle.script_lines.specs.declared.saying.Saying.{Saying}
 use Rattle.history_rules.specs.Events.{Entry}
 use Rattle.command_ends.specs.Steps.{Step}
-use Rattle.command_ends.specs.Steps.Step.{Load, Gives, Refuses}
+use Rattle.command_ends.specs.Steps.Step.{Gives, Refuses}
 use Rattle.command_ends.specs.declared.refusal.LineFault.{LineFault}
 use Rattle.command_ends.specs.declared.refusal.LineFault.TheVariants as line
 use Rattle.command_ends.specs.declared.refusal.ScenarioFault.TheVariants as fault
 use Rattle.command_ends.specs.declared.refusal.Refusal.{Refusal}
 use Rattle.command_ends.specs.declared.refusal.Refusal.TheVariants as refusal
-use Rattle.run_commands.specs.Readers.{Readers}
+use Rattle.command_ends.specs.declared.refusal.NoAnswer.{NoAnswer}
+use Rattle.run_commands.specs.declared.questions.Question.{Question}
+use Rattle.run_commands.specs.Readers.{Readers, request_refusal}
 
 -- bytes that are no text are no scenario either
 unfoldable pub scenario_at : List ℕ → Result Contents ScenarioRefusal
@@ -63,3 +65,11 @@ with_play r c lines sayings onward = accepted (λ (e : LineFault × ℕ). refusa
 
 abbrev pub with_history : Readers → Contents → List ℕ → (List Entry → Step) → Step
 with_history r c bytes onward = accepted (λ (e : LineFault × ℕ). refusal.History e.0 e.1) (r.history_in c bytes) onward
+
+-- what a question over a history comes to
+abbrev pub with_answer : Readers → Contents → List Entry → Question → Step
+with_answer r c history question = accepted (λ (why : NoAnswer). refusal.NoAnswer why) (r.answered c history question) (λ text. Gives text)
+
+-- what lines of parts come to
+abbrev pub with_pieces : Readers → Contents → List ℕ → Step
+with_pieces r c bytes = accepted request_refusal (r.rebuilt c bytes) (λ text. Gives text)

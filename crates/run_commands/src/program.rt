@@ -1,9 +1,12 @@
-ghost use Rattle.std.specs.Prelude.{◌≡◌, ℕ, List, []};
+ghost use Rattle.std.specs.Prelude.{◌≡◌, ℕ, List, [], None};
 ghost use Rattle.command_words.specs.Wanted.{wanted};
 ghost use Rattle.command_ends.specs.Calls.{TextCause, FaultsOfFiles};
 ghost use Rattle.run_commands.specs.Course.{CommandStep, NextStep};
+ghost use Rattle.run_commands.specs.Posed.{posed};
 
+use crate::answering::{answer, rebuild};
 use crate::made::make;
+use crate::questions::posed;
 use crate::runs::Runs;
 use crate::scripted::{keys, play, replay};
 use crate::verifying::verify;
@@ -13,7 +16,7 @@ use command_words::{Asked, WordsAnswer, read_words};
 use outside::Files;
 use std::alloc::Global;
 
-/// The program's commands, over plays and replays.
+/// The program's commands, over plays, replays and what is asked over them.
 #[derive(Drop)]
 pub struct Program<R: Runs + Drop> {
     pub runs: R,
@@ -46,6 +49,25 @@ fn command_text<R: Runs, F: Files>(
     ensures file_faults { FaultsOfFiles result (F.faults files.old) (F.faults files.new) }
     ensures cause { TextCause (CommandStep R.readers (wanted asked.entry)) (F.held files.old) (F.faults files.old) (F.faults files.new) [] result }
 {
+    match posed(asked) {
+        Some((scenario, history, question)) => {
+            answer(alloc, runs, scenario, history, question, files)
+        }
+        None => run_text(alloc, runs, asked, files),
+    }
+}
+
+// The text of a command that asks no question.
+fn run_text<R: Runs, F: Files>(
+    alloc: Global,
+    runs: &R,
+    asked: Asked<'_>,
+    files: &mut F,
+) -> Result<Vec<u8>, Refusal>
+    requires { posed (wanted asked) ≡ None }
+    ensures file_faults { FaultsOfFiles result (F.faults files.old) (F.faults files.new) }
+    ensures cause { TextCause (CommandStep R.readers (wanted asked.entry)) (F.held files.old) (F.faults files.old) (F.faults files.new) [] result }
+{
     match asked {
         Asked::Play {
             scenario,
@@ -60,7 +82,8 @@ fn command_text<R: Runs, F: Files>(
             message,
             signature,
         } => verify(alloc, public, message, signature, files),
-        // The other commands aren't built yet.
+        Asked::Rebuild { scenario, pieces } => rebuild(alloc, runs, scenario, pieces, files),
+        // Runs in threads aren't built yet.
         _ => Err(Refusal::Usage),
     }
 }

@@ -3,3 +3,6 @@ mod Benches
 mod Legality
 mod Rules
 mod Giving
+mod Answered
+mod Worth
+mod Requested

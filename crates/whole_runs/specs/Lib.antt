@@ -1,2 +1,6 @@
+pub mod Asked
 pub mod Faults
 pub mod Whole
+pub mod Blame
+pub mod Trends
+pub mod Requests

@@ -1,5 +1,5 @@
--- The definitions that the program's plays and replays go by: the one history of a script and words, the history that a
--- printed text tells, and the text of a history. (This project's own.)
+-- The definitions that the program goes by: the one history of a script and words, the history that a printed text tells, the
+-- text of a history, what is answered over one, and the request that parts rebuild. (This project's own.)
 use Rattle.std.specs.Prelude.{◌<◌, ◌^◌, ℕ, List, length}
 use Rattle.scenario_file.specs.Reading.{Contents}
 use Rattle.history_rules.specs.Events.{Entry}
@@ -11,6 +11,7 @@ use Rattle.script_plays.specs.Making.{played}
 use Rattle.printed_history.specs.Histories.{history_in}
 use Rattle.printed_run.specs.Printed.{text_of}
 use Rattle.run_commands.specs.Readers.{Readers}
+use Rattle.whole_runs.specs.Asked.{answered, requested}
 use Rattle.whole_runs.specs.Faults.{played_or_fault, history_or_fault}
 
 abbrev pub whole_runs : Readers
@@ -18,6 +19,8 @@ whole_runs = record {
   played = λ c lines sayings. played_or_fault (played (record { scenario = c; sayings = sayings }) lines);
   history_in = λ c text. history_or_fault (history_in c text);
   text_of = text_of;
+  answered = answered;
+  rebuilt = requested;
 }
 
 -- the benches of all actors as they are after a legal history

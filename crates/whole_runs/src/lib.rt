@@ -1,6 +1,8 @@
-//! The program over whole runs: plays and replays from what was read to the text of the run, and the call that main makes.
+//! The program over whole runs: plays and replays from what was read to the text of the run, what is asked over them, and the
+//! call that main makes.
 #![tactic(auto)]
 
+mod answering;
 pub mod call;
 mod faults;
 mod played;

@@ -7,12 +7,12 @@ ghost use Rattle.whole_runs.specs.Whole.{whole_runs};
 use crate::faults::history_refusal;
 use command_ends::Refusal;
 use plain_lists::Want;
-use printed_history::read_history;
-use printed_run::write_run;
+use printed_history::read_replay;
+use printed_run::write_run_of;
 use scenario_file::Scenario;
 use std::alloc::Global;
 
-/// The text of the history that a printed text tells, or why it tells none.
+/// The text of the history that a printed text tells, or why it tells none. Its actors do what it says once.
 pub(crate) fn replayed_text(
     alloc: Global,
     scenario: &Scenario,
@@ -21,8 +21,8 @@ pub(crate) fn replayed_text(
     requires { IsScenario (contents scenario.now) }
     ensures { ReplayGives whole_runs (contents scenario.now) text.now result }
 {
-    match read_history(alloc, scenario, text) {
-        Ok(history) => match write_run(alloc, scenario, &history) {
+    match read_replay(alloc, scenario, text) {
+        Ok(replay) => match write_run_of(alloc, scenario, &replay.history, &replay.benches) {
             Ok(text) => Ok(text),
             Err(Want) => Err(Refusal::Memory),
         },

@@ -1,25 +1,10 @@
-use Rattle.std.proofs.Common.{[], sym, ap, subst}
+use Rattle.std.proofs.Common.{sym}
 use Rattle.command_words.specs.Wanted.{wanted}
-use Rattle.command_ends.specs.Calls.{TextCause}
-use Rattle.run_commands.specs.Course.{CommandStep}
+use Rattle.run_commands.proofs.Posing.{question-cause}
 use Rattle.run_commands.proofs.program.command_text.Goals as goal
 
-pub returns-in-Play-clause-cause : goal.returns-in-Play-clause-cause
-returns-in-Play-clause-cause g c =
-    subst (λ w. TextCause (CommandStep g.R.Runs.readers w) (g.F.Files.held c.args.files.now) (g.F.Files.faults c.args.files.now) (g.F.Files.faults c.play.new.files) [] c.play.result)
-    (sym (ap wanted c.in-Play.is)) c.play.ensures.cause
-
-pub returns-in-Replay-clause-cause : goal.returns-in-Replay-clause-cause
-returns-in-Replay-clause-cause g c =
-    subst (λ w. TextCause (CommandStep g.R.Runs.readers w) (g.F.Files.held c.args.files.now) (g.F.Files.faults c.args.files.now) (g.F.Files.faults c.replay.new.files) [] c.replay.result)
-    (sym (ap wanted c.in-Replay.is)) c.replay.ensures.cause
-
-pub returns-in-Keys-clause-cause : goal.returns-in-Keys-clause-cause
-returns-in-Keys-clause-cause g c =
-    subst (λ w. TextCause (CommandStep g.R.Runs.readers w) (g.F.Files.held c.args.files.now) (g.F.Files.faults c.args.files.now) (g.F.Files.faults c.keys.new.files) [] c.keys.result)
-    (sym (ap wanted c.in-Keys.is)) c.keys.ensures.cause
-
-pub returns-in-Verify-clause-cause : goal.returns-in-Verify-clause-cause
-returns-in-Verify-clause-cause g c =
-    subst (λ w. TextCause (CommandStep g.R.Runs.readers w) (g.F.Files.held c.args.files.now) (g.F.Files.faults c.args.files.now) (g.F.Files.faults c.verify.new.files) [] c.verify.result)
-    (sym (ap wanted c.in-Verify.is)) c.verify.ensures.cause
+pub returns-in-Some-clause-cause : goal.returns-in-Some-clause-cause
+returns-in-Some-clause-cause g c =
+    question-cause g.R.Runs.readers (wanted c.args.asked) (c.in-Some.scenario.now, c.in-Some.history.now, c.in-Some.question)
+    (g.F.Files.held c.args.files.now) (g.F.Files.faults c.args.files.now) (g.F.Files.faults c.answer.new.files) c.answer.result
+    (sym c.in-Some.ensures) c.answer.ensures.cause

@@ -1,4 +1,4 @@
-use Rattle.std.proofs.Common.{[], ◌∷◌, refl}
+use Rattle.std.proofs.Common.{[], refl}
 use Rattle.scenario_file.specs.Reading.{contents}
 use Rattle.command_words.specs.Wanted.{play}
 use Rattle.run_commands.specs.Reading.{with_scenario}

@@ -1,0 +1,144 @@
+use crate::calls::{call, play};
+use std::test::Fail;
+
+/// Four masters and a screen. Each has 32 one-time keys.
+const SCENARIO: &str =
+    "f = 1\nseed = \"0000000000000000000000000000000000000000000000000000000000000000\"\nscreens = 1\nlevels = [5]\n";
+
+/// The operator's command is certified by all masters.
+const SCRIPT: &str = "command s0 ack 0\nflow 3\n";
+
+/// Its parts, by the reference program.
+const PARTS: &[u8] =
+    b"digest 5307c0b0ae6aacdcf5076254f1ff92f98e7d8fce3c1c9479bd37fe10d735561a\nm0 19 00010000000000000000\nm1 19 00010001030000000000\nm2 19 00010002060000000000\nm3 19 00010003050000000000\n";
+
+/// Three of them, one of which is wrong.
+const WRONG: &[u8] =
+    b"digest 5307c0b0ae6aacdcf5076254f1ff92f98e7d8fce3c1c9479bd37fe10d735561a\nm1 19 00010001030000000000\nm2 19 00010002060000000001\nm3 19 00010003050000000000\n";
+
+/// One of them and a wrong one.
+const FEW: &[u8] =
+    b"digest 5307c0b0ae6aacdcf5076254f1ff92f98e7d8fce3c1c9479bd37fe10d735561a\nm1 19 00010001030000000000\nm2 19 00010002060000000001\n";
+
+#[test]
+fn the_parts_of_a_certified_request_are_printed(rt: HostRuntime) -> Result<(), Fail> {
+    let text = play(rt.alloc(), SCENARIO, SCRIPT, "")?;
+    let files = [
+        ("scenario", SCENARIO.as_bytes()),
+        ("history", text.as_slice()),
+    ];
+    let parts = call(rt.alloc(), "parts scenario history 0 1", &files)?;
+    assert_eq!(rt; parts.status, 0);
+    assert_eq!(rt; parts.put.as_slice(), PARTS);
+    let none = call(rt.alloc(), "parts scenario history 2 1", &files)?;
+    assert_eq!(rt; none.status, 9);
+    assert_eq!(rt;
+        none.line.as_slice(),
+        b"spire: parts NotCertified\n".as_slice()
+    );
+    Ok(())
+}
+
+#[test]
+fn a_request_is_rebuilt_beside_a_wrong_part(rt: HostRuntime) -> Result<(), Fail> {
+    let files = [
+        ("scenario", SCENARIO.as_bytes()),
+        ("wrong", WRONG),
+        ("few", FEW),
+        ("script", SCRIPT.as_bytes()),
+    ];
+    let rebuilt = call(rt.alloc(), "rebuild scenario wrong", &files)?;
+    assert_eq!(rt; rebuilt.status, 0);
+    assert_eq!(rt;
+        rebuilt.put.as_slice(),
+        b"text 00010000000000000000000000010300000000\nwrong m2\n".as_slice()
+    );
+    let none = call(rt.alloc(), "rebuild scenario few", &files)?;
+    assert_eq!(rt; none.status, 9);
+    assert_eq!(rt; none.line.as_slice(), b"spire: rebuild NoText\n".as_slice());
+    let other = call(rt.alloc(), "rebuild scenario script", &files)?;
+    assert_eq!(rt; other.status, 5);
+    assert_eq!(rt;
+        other.line.as_slice(),
+        b"spire: parts BadLine 1\n".as_slice()
+    );
+    Ok(())
+}
+
+#[test]
+fn nobody_is_blamed_where_all_are_correct(rt: HostRuntime) -> Result<(), Fail> {
+    let text = play(rt.alloc(), SCENARIO, SCRIPT, "")?;
+    let blame = call(
+        rt.alloc(),
+        "blame scenario history",
+        &[
+            ("scenario", SCENARIO.as_bytes()),
+            ("history", text.as_slice()),
+        ],
+    )?;
+    assert_eq!(rt; blame.status, 0);
+    assert_eq!(rt; blame.put.as_slice(), b"blame 0\n".as_slice());
+    Ok(())
+}
+
+#[test]
+fn a_master_that_acknowledges_two_requests_as_one_is_blamed(rt: HostRuntime) -> Result<(), Fail> {
+    let mut scenario = String::from_str(rt.alloc(), SCENARIO)?;
+    scenario.push_str("intruded = [0]\n")?;
+    let text = play(
+        rt.alloc(),
+        scenario.as_str(),
+        "command s0 ack 0\ncommand s0 ack 1\nflow 2\ncry m0 2\nflow 1\n",
+        "m0 m1 poack 1 1 @m1.porequest.1\nm0 m1 poack 1 1 @m1.porequest.2\n",
+    )?;
+    let blame = call(
+        rt.alloc(),
+        "blame scenario history",
+        &[
+            ("scenario", scenario.as_bytes()),
+            ("history", text.as_slice()),
+        ],
+    )?;
+    assert_eq!(rt; blame.status, 0);
+    assert!(rt; blame.put.starts_with(b"blame 1\nm0 poack "));
+    Ok(())
+}
+
+/// A point behind a proxy.
+const POINT: &str =
+    "[[proxy]]\ncoils = 0\ndiscrete = 0\nholding = 0\ninput = 1\n[[point]]\nname = \"amps\"\nproxy = 0\narea = \"input\"\nplace = 0\nscale = 10\nlow = 0\nhigh = 20000\n";
+
+/// The point's place changes, and the masters execute its reading.
+const READING: &str =
+    "field p0 input 0 950\npoll p0\nflow 4\ntick masters\nflow 1\ntick m0\nflow 5\n";
+
+#[test]
+fn a_reading_is_shown_as_a_change(rt: HostRuntime) -> Result<(), Fail> {
+    let mut scenario = String::from_str(rt.alloc(), SCENARIO)?;
+    scenario.push_str(POINT)?;
+    let text = play(rt.alloc(), scenario.as_str(), READING, "")?;
+    let files = [
+        ("scenario", scenario.as_bytes()),
+        ("history", text.as_slice()),
+    ];
+    let trend = call(rt.alloc(), "trend scenario history 0 1 1", &files)?;
+    assert_eq!(rt; trend.status, 0);
+    assert_eq!(rt;
+        trend.put.as_slice(),
+        b"trend 0 1 1 changes 1\n1 9500\n".as_slice()
+    );
+    let far = call(rt.alloc(), "trend scenario history 0 1 2", &files)?;
+    assert_eq!(rt; far.status, 9);
+    assert_eq!(rt;
+        far.line.as_slice(),
+        b"spire: trend NotReached 1\n".as_slice()
+    );
+    let other = call(rt.alloc(), "trend scenario history 1 1 1", &files)?;
+    assert_eq!(rt; other.line.as_slice(), b"spire: trend NoPoint\n".as_slice());
+    let empty = call(rt.alloc(), "trend scenario history 0 0 1", &files)?;
+    assert_eq!(rt;
+        empty.line.as_slice(),
+        b"spire: trend BadRange\n".as_slice()
+    );
+    Ok(())
+}
