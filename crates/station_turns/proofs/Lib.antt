@@ -1,0 +1,9 @@
+pub mod Counting
+pub mod Given
+pub mod Steady
+pub mod Skipped
+pub mod Entering
+pub mod WholeTurns
+pub mod Posting
+pub mod Seen
+pub mod Checked

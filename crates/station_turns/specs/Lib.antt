@@ -1,0 +1,4 @@
+pub mod Pace
+pub mod Turns
+pub mod Naming
+pub mod Checking

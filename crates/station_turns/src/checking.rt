@@ -1,0 +1,42 @@
+//! Frames as they are taken from an inbox.
+ghost use Rattle.std.specs.Prelude.{◌≡◌, IsTrue, IfOk};
+ghost use Rattle.message_types.specs.Spelling.{has_spelling};
+ghost use Rattle.scenario_file.specs.Reading.{Contents};
+ghost use Rattle.world_rules.specs.Scenarios.{setup_of};
+ghost use Rattle.bench_rules.specs.Lists.{ring_in};
+ghost use Rattle.station_turns.specs.Checking.{is_want, held_where_standing};
+
+use crate::held::Held;
+use checked_frames::{CheckRefusal, KeyRing, check};
+use message_types::Frame;
+use plain_lists::Want;
+use std::alloc::Global;
+
+fn is_want(refusal: CheckRefusal) -> bool
+    ensures { result ≡ is_want refusal }
+{
+    matches!(refusal, CheckRefusal::Want)
+}
+
+/// A frame that was taken from an inbox, as a turn can take it; none where it doesn't stand. It was said at this stamp as body
+/// number `place` of its entry. The ring has the keys of the run's scenario.
+pub fn held_if_standing(
+    alloc: Global,
+    ring: &KeyRing,
+    stamp: u64,
+    place: u32,
+    frame: Frame,
+) -> Result<Option<Held>, Want>
+    requires { IsTrue (has_spelling frame) }
+    ensures { IfOk result (λ held. (c : Contents) → ring.now ≡ ring_in c → held ≡ held_where_standing (setup_of c) stamp place frame) }
+{
+    match check(alloc, ring, frame) {
+        Ok(frame) => Ok(Some(Held {
+            stamp,
+            place,
+            frame,
+        })),
+        Err(refusal) if is_want(refusal) => Err(Want),
+        Err(_) => Ok(None),
+    }
+}
