@@ -1,0 +1,7 @@
+//! Tests of the texts of runs.
+#![tactic(auto)]
+
+#[cfg(test)]
+mod histories;
+#[cfg(test)]
+mod texts;
