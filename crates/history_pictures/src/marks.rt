@@ -1,6 +1,8 @@
 //! The picture of a history, or of a part of it, as an SVG document.
-ghost use Rattle.std.specs.Prelude.{◌≤◌};
+ghost use Rattle.std.specs.Prelude.{◌≡◌, ◌≤◌, ◌++◌, IfOk, OnOk, string_bytes};
+ghost use Rattle.std.specs.List.{flat_map};
 ghost use Rattle.scenario_file.specs.Actors.{actors_of};
+ghost use Rattle.history_pictures.specs.Drawing.{GoesOn, IsDrawing, count_text, deed_text, deeds_text, group_text, shown_text, sign_text, title_text, took_text, what_text};
 
 use crate::picture::{Lane, Mark, Picture, Range, Role, What};
 use crate::shapes::{
@@ -18,6 +20,7 @@ impl Picture {
     /// entry with its words when it is pointed at, and a line from where a frame was said to where it was taken.
     pub fn drawn(&self, alloc: Global, cast: Cast, range: Range) -> Result<String, Want>
         requires { actors_of cast ≤ 26 }
+        ensures { IfOk result (λ text. IsDrawing cast range self.now.marks.items (string_bytes text)) }
     {
         let mut text = String::new(alloc);
         let lanes = self.lanes.len() as u64;
@@ -29,11 +32,7 @@ impl Picture {
             put_lane(&mut text, cast, lane, width)?;
         }
         self.put_arrows(&mut text, range)?;
-        for mark in &self.marks {
-            if range.has(mark.stamp) {
-                put_mark(&mut text, cast, mark, range)?;
-            }
-        }
+        put_marks(&mut text, cast, self.marks.as_slice(), range)?;
         put_legend(&mut text, down(lanes))?;
         put_closing(&mut text)?;
         Ok(text)
@@ -123,9 +122,32 @@ fn put_band(
     Ok(())
 }
 
+/// The marks of the entries of a range, in order.
+fn put_marks(text: &mut String, cast: Cast, marks: &[Mark], range: Range) -> Result<(), Want>
+    requires { actors_of cast ≤ 26 }
+    ensures { OnOk result (string_bytes text.new ≡ string_bytes text.old ++ flat_map (shown_text cast range) marks.now) }
+{
+    for mark in marks {
+        put_shown(text, cast, mark, range)?;
+    }
+    Ok(())
+}
+
+fn put_shown(text: &mut String, cast: Cast, mark: &Mark, range: Range) -> Result<(), Want>
+    requires { actors_of cast ≤ 26 }
+    ensures { OnOk result (string_bytes text.new ≡ string_bytes text.old ++ shown_text cast range mark.now) }
+{
+    if range.has(mark.stamp) {
+        put_mark(text, cast, mark, range)?;
+    }
+    Ok(())
+}
+
 /// The mark of an entry, with its words as a title.
+#[tactic(auto, unfolding(crate::specs::Drawing::group_text))]
 fn put_mark(text: &mut String, cast: Cast, mark: &Mark, range: Range) -> Result<(), Want>
     requires { actors_of cast ≤ 26 }
+    ensures { OnOk result (string_bytes text.new ≡ string_bytes text.old ++ group_text cast range mark.now) }
 {
     let x = across(mark.stamp, range.first);
     let y = down(u64::from(mark.actor));
@@ -139,7 +161,9 @@ fn put_mark(text: &mut String, cast: Cast, mark: &Mark, range: Range) -> Result<
 }
 
 /// The sign of what came to the actor.
-fn put_sign(text: &mut String, what: What, x: u64, y: u64) -> Result<(), Want> {
+fn put_sign(text: &mut String, what: What, x: u64, y: u64) -> Result<(), Want>
+    ensures { OnOk result (string_bytes text.new ≡ string_bytes text.old ++ sign_text what x y) }
+{
     match what {
         What::Took {
             kind,
@@ -181,40 +205,35 @@ fn put_sign(text: &mut String, what: What, x: u64, y: u64) -> Result<(), Want> {
 }
 
 /// What the actor did at the entry: updates executed below the line, values written and notices shown above it.
-fn put_deeds(text: &mut String, mark: &Mark, x: u64, y: u64) -> Result<(), Want> {
-    if mark.executed > 0 {
-        put_number(
-            text,
-            x.saturating_sub(3),
-            y.saturating_add(16),
-            "#2e8b57",
-            mark.executed,
-        )?;
-    }
-    if mark.written > 0 {
-        put_number(
-            text,
-            x.saturating_sub(3),
-            y.saturating_sub(8),
-            "#000000",
-            mark.written,
-        )?;
-    }
-    if mark.shown > 0 {
-        put_number(
-            text,
-            x.saturating_sub(3),
-            y.saturating_sub(8),
-            "#d98200",
-            mark.shown,
-        )?;
+#[tactic(auto, unfolding(crate::specs::Drawing::deeds_text))]
+fn put_deeds(text: &mut String, mark: &Mark, x: u64, y: u64) -> Result<(), Want>
+    ensures { OnOk result (string_bytes text.new ≡ string_bytes text.old ++ deeds_text mark.now x y) }
+{
+    let (beside, above) = (x.saturating_sub(3), y.saturating_sub(8));
+    put_deed(
+        text,
+        (beside, y.saturating_add(16)),
+        "#2e8b57",
+        mark.executed,
+    )?;
+    put_deed(text, (beside, above), "#000000", mark.written)?;
+    put_deed(text, (beside, above), "#d98200", mark.shown)
+}
+
+fn put_deed(text: &mut String, at: (u64, u64), colour: &str, count: u64) -> Result<(), Want>
+    ensures { OnOk result (string_bytes text.new ≡ string_bytes text.old ++ deed_text at.0 at.1 colour.now count) }
+{
+    if count > 0 {
+        put_number(text, at.0, at.1, colour, count)?;
     }
     Ok(())
 }
 
 /// The words of an entry.
+#[tactic(auto, unfolding(crate::specs::Drawing::title_text))]
 fn put_title(text: &mut String, cast: Cast, mark: &Mark) -> Result<(), Want>
     requires { actors_of cast ≤ 26 }
+    ensures { OnOk result (string_bytes text.new ≡ string_bytes text.old ++ title_text cast mark.now) }
 {
     let stamp = mark.stamp;
     write!(text, "{stamp} ")?;
@@ -227,7 +246,9 @@ fn put_title(text: &mut String, cast: Cast, mark: &Mark) -> Result<(), Want>
     put_count(text, "shows", mark.shown)
 }
 
-fn put_what(text: &mut String, what: What) -> Result<(), Want> {
+fn put_what(text: &mut String, what: What) -> Result<(), Want>
+    ensures { OnOk result (string_bytes text.new ≡ string_bytes text.old ++ what_text what) }
+{
     match what {
         What::Took { kind, said_at } => return put_took(text, kind.name(), said_at),
         What::Tick => text.push_str("tick")?,
@@ -241,7 +262,9 @@ fn put_what(text: &mut String, what: What) -> Result<(), Want> {
     Ok(())
 }
 
-fn put_took(text: &mut String, name: &str, said_at: Option<u64>) -> Result<(), Want> {
+fn put_took(text: &mut String, name: &str, said_at: Option<u64>) -> Result<(), Want>
+    ensures { OnOk result (string_bytes text.new ≡ string_bytes text.old ++ took_text name.now said_at) }
+{
     match said_at {
         Some(stamp) => write!(text, "took {name} of {stamp}")?,
         None => write!(text, "took {name} that nobody said")?,
@@ -249,7 +272,9 @@ fn put_took(text: &mut String, name: &str, said_at: Option<u64>) -> Result<(), W
     Ok(())
 }
 
-fn put_count(text: &mut String, deed: &str, count: u64) -> Result<(), Want> {
+fn put_count(text: &mut String, deed: &str, count: u64) -> Result<(), Want>
+    ensures { OnOk result (string_bytes text.new ≡ string_bytes text.old ++ count_text deed.now count) }
+{
     if count > 0 {
         write!(text, ", {deed} {count}")?;
     }
@@ -257,7 +282,9 @@ fn put_count(text: &mut String, deed: &str, count: u64) -> Result<(), Want> {
 }
 
 /// What the colours and signs stand for.
-fn put_legend(text: &mut String, y: u64) -> Result<(), Want> {
+fn put_legend(text: &mut String, y: u64) -> Result<(), Want>
+    ensures { OnOk result (GoesOn (string_bytes text.old) (string_bytes text.new)) }
+{
     for (place, family) in FAMILIES.iter().enumerate() {
         let at = (place as u64).saturating_mul(14).saturating_add(y);
         put_dot(text, 12, at.saturating_sub(4), 4, family.colour())?;
@@ -278,5 +305,6 @@ fn put_legend(text: &mut String, y: u64) -> Result<(), Want> {
         at.saturating_add(14),
         "#404040",
         "bar tick, black square command, blue bar field, ring poll, great ring restart; below a lane updates executed, above it values written (black) and notices shown (orange)",
-    )
+    )?;
+    Ok(())
 }

@@ -1,4 +1,7 @@
 //! What a picture of a history shows, before it is drawn.
+ghost use Rattle.std.specs.Prelude.{◌≡◌};
+ghost use Rattle.history_pictures.specs.Drawing.{has};
+
 use script_grammar::Kind;
 
 /// What an actor is.
@@ -71,7 +74,9 @@ pub struct Range {
 
 impl Range {
     /// Whether a stamp is among these.
-    pub fn has(self, stamp: u64) -> bool {
+    pub fn has(self, stamp: u64) -> bool
+        ensures { result ≡ has self stamp }
+    {
         self.first <= stamp && stamp <= self.last
     }
 }

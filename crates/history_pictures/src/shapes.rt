@@ -1,4 +1,7 @@
 //! Where things stand, and the shapes that SVG has. Lengths are in pixels.
+ghost use Rattle.std.specs.Prelude.{◌≡◌, ◌++◌, OnOk, codes, string_bytes};
+ghost use Rattle.history_pictures.specs.Shapes.{across, down, box_text, dot_text, line_text, number_text, ring_text, words_text};
+
 use plain_lists::Want;
 
 /// The room left of the first entry, and above the first lane.
@@ -13,7 +16,10 @@ const LANE: u64 = 46;
 pub(crate) const HALF: u64 = 20;
 
 /// Where a stamp stands behind another. What is too far for a number stands at the greatest one.
-pub(crate) fn across(stamp: u64, first: u64) -> u64 {
+#[tactic(auto, unfolding(crate::specs::Shapes::across))]
+pub(crate) fn across(stamp: u64, first: u64) -> u64
+    ensures { result ≡ across stamp first }
+{
     stamp
         .saturating_sub(first)
         .saturating_mul(STEP)
@@ -21,7 +27,10 @@ pub(crate) fn across(stamp: u64, first: u64) -> u64 {
 }
 
 /// Where the lane of that number stands.
-pub(crate) fn down(lane: u64) -> u64 {
+#[tactic(auto, unfolding(crate::specs::Shapes::down))]
+pub(crate) fn down(lane: u64) -> u64
+    ensures { result ≡ down lane }
+{
     lane.saturating_mul(LANE).saturating_add(TOP + HALF)
 }
 
@@ -35,12 +44,15 @@ pub(crate) fn put_opening(text: &mut String, width: u64, height: u64) -> Result<
     put_box(text, 0, 0, width, height, "#ffffff")
 }
 
-pub(crate) fn put_closing(text: &mut String) -> Result<(), Want> {
+pub(crate) fn put_closing(text: &mut String) -> Result<(), Want>
+    ensures { OnOk result (string_bytes text.new ≡ string_bytes text.old ++ codes "</svg>\n") }
+{
     text.push_str("</svg>\n")?;
     Ok(())
 }
 
 /// Appends a filled box.
+#[tactic(auto, unfolding(crate::specs::Shapes::box_text))]
 pub(crate) fn put_box(
     text: &mut String,
     x: u64,
@@ -48,7 +60,9 @@ pub(crate) fn put_box(
     width: u64,
     height: u64,
     colour: &str,
-) -> Result<(), Want> {
+) -> Result<(), Want>
+    ensures { OnOk result (string_bytes text.new ≡ string_bytes text.old ++ box_text x y width height colour.now) }
+{
     write!(
         text,
         "<rect x=\"{x}\" y=\"{y}\" width=\"{width}\" height=\"{height}\" fill=\"{colour}\"/>\n"
@@ -57,12 +71,15 @@ pub(crate) fn put_box(
 }
 
 /// Appends a line from one place to another.
+#[tactic(auto, unfolding(crate::specs::Shapes::line_text))]
 pub(crate) fn put_line(
     text: &mut String,
     from: (u64, u64),
     to: (u64, u64),
     colour: &str,
-) -> Result<(), Want> {
+) -> Result<(), Want>
+    ensures { OnOk result (string_bytes text.new ≡ string_bytes text.old ++ line_text from to colour.now) }
+{
     let (x1, y1) = from;
     let (x2, y2) = to;
     write!(
@@ -73,13 +90,16 @@ pub(crate) fn put_line(
 }
 
 /// Appends a filled dot.
+#[tactic(auto, unfolding(crate::specs::Shapes::dot_text))]
 pub(crate) fn put_dot(
     text: &mut String,
     x: u64,
     y: u64,
     radius: u64,
     colour: &str,
-) -> Result<(), Want> {
+) -> Result<(), Want>
+    ensures { OnOk result (string_bytes text.new ≡ string_bytes text.old ++ dot_text x y radius colour.now) }
+{
     write!(
         text,
         "<circle cx=\"{x}\" cy=\"{y}\" r=\"{radius}\" fill=\"{colour}\"/>\n"
@@ -88,13 +108,16 @@ pub(crate) fn put_dot(
 }
 
 /// Appends an empty ring.
+#[tactic(auto, unfolding(crate::specs::Shapes::ring_text))]
 pub(crate) fn put_ring(
     text: &mut String,
     x: u64,
     y: u64,
     radius: u64,
     colour: &str,
-) -> Result<(), Want> {
+) -> Result<(), Want>
+    ensures { OnOk result (string_bytes text.new ≡ string_bytes text.old ++ ring_text x y radius colour.now) }
+{
     write!(
         text,
         "<circle cx=\"{x}\" cy=\"{y}\" r=\"{radius}\" fill=\"#ffffff\" stroke=\"{colour}\" stroke-width=\"2\"/>\n"
@@ -103,13 +126,16 @@ pub(crate) fn put_ring(
 }
 
 /// Appends words. They hold no sign that SVG has another use for.
+#[tactic(auto, unfolding(crate::specs::Shapes::words_text))]
 pub(crate) fn put_words(
     text: &mut String,
     x: u64,
     y: u64,
     colour: &str,
     words: &str,
-) -> Result<(), Want> {
+) -> Result<(), Want>
+    ensures { OnOk result (string_bytes text.new ≡ string_bytes text.old ++ words_text x y colour.now words.now) }
+{
     write!(
         text,
         "<text x=\"{x}\" y=\"{y}\" fill=\"{colour}\">{words}</text>\n"
@@ -118,13 +144,16 @@ pub(crate) fn put_words(
 }
 
 /// Appends a number.
+#[tactic(auto, unfolding(crate::specs::Shapes::number_text))]
 pub(crate) fn put_number(
     text: &mut String,
     x: u64,
     y: u64,
     colour: &str,
     number: u64,
-) -> Result<(), Want> {
+) -> Result<(), Want>
+    ensures { OnOk result (string_bytes text.new ≡ string_bytes text.old ++ number_text x y colour.now number) }
+{
     write!(
         text,
         "<text x=\"{x}\" y=\"{y}\" fill=\"{colour}\">{number}</text>\n"

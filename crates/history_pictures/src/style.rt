@@ -1,4 +1,7 @@
 //! Families of words, each with a colour of its own.
+ghost use Rattle.std.specs.Prelude.{◌≡◌};
+ghost use Rattle.history_pictures.specs.Drawing.{colour_of, family_of};
+
 use script_grammar::Kind;
 
 /// What words are about.
@@ -30,7 +33,9 @@ pub(crate) const FAMILIES: [Family; 7] = [
 ];
 
 /// What a kind of word is about.
-pub fn family_of(kind: Kind) -> Family {
+pub fn family_of(kind: Kind) -> Family
+    ensures { result ≡ family_of kind }
+{
     match kind {
         Kind::Update | Kind::PoRequest | Kind::PoAck | Kind::PoSummary => Family::Requests,
         Kind::PrePrepare | Kind::Prepare | Kind::Commit => Family::Order,
@@ -44,7 +49,9 @@ pub fn family_of(kind: Kind) -> Family {
 
 impl Family {
     /// Its colour.
-    pub(crate) fn colour(self) -> &'static str {
+    pub(crate) fn colour(self) -> &'static str
+        ensures { result.now ≡ colour_of self }
+    {
         match self {
             Family::Requests => "#2a6fb0",
             Family::Order => "#2e8b57",

@@ -10,6 +10,8 @@ use Rattle.play_words.specs.declared.input.Input.{Input}
 use Rattle.scenario_file.specs.Reading.{Contents}
 use Rattle.history_rules.specs.Events.{Event, Tick, Entry}
 use Rattle.history_rules.specs.Legal.{TakesWell}
+use Rattle.history_rules.specs.Setup.{stands}
+use Rattle.world_rules.specs.Scenarios.{setup_of}
 use Rattle.world_rules.specs.Frames.{cried}
 use Rattle.world_history.specs.State.{BenchState, setup_in, entry_at, with_entry}
 use Rattle.kept_lists.specs.State.{KeptState, halted_in, frames_kept}
@@ -31,8 +33,8 @@ frames_so b n stamp event = refl
 
 pub inside_enters : (s new : Stationed) (stamp : ℕ) (event : Event) (t : Turned) → CanAdd s stamp → is_inside event ≡ true → TakesWell (setup_in s.kept.bench) stamp event
     → new.kept.bench ≡ with_entry s.kept.bench stamp event → new.kept.is_spent ≡ false → new.seat ≡ s.seat → new.inputs ≡ s.inputs → new.turns ≡ s.turns
-    → t.stamp ≡ stamp_posted s.kept.bench.list stamp event → t.frames.items ≡ frames_posted s.kept.bench stamp event → t.to ≡ [] → Enters s stamp event t new
-inside_enters s new stamp event t can inside taken added works seat inputs turns said frames to =
+    → t.stamp ≡ stamp_posted s.kept.bench.list stamp event → t.frames.items ≡ frames_posted s.kept.bench stamp event → t.cried ≡ cries_frame event → t.to ≡ [] → Enters s stamp event t new
+inside_enters s new stamp event t can inside taken added works seat inputs turns said frames cries to =
     let b = s.kept.bench in
     let same : inputs_used (b.list ++ entry_at b stamp event ∷ []) ≡ inputs_used b.list =
     input_same b.list (entry_at b stamp event) (ap is_outside (entry_event b stamp event) ∙ inside_not_outside event inside) in
@@ -46,6 +48,7 @@ inside_enters s new stamp event t can inside taken added works seat inputs turns
       steady = steady;
       said = said;
       frames = frames;
+      cried = cries;
       to = to ∙ sym (ap (λ (fs : List (Signed Body)). cond (nat_lt 0 (length fs)) (named (next_input s.inputs b.list)) []) (inside_cries_nothing event inside));
     }
 
@@ -84,9 +87,9 @@ input_fits s more x after ev steady is =
 
 pub input_enters : (s new : Stationed) (stamp : ℕ) (x : Input) (after : BenchState) (ev : Event) (t : Turned) → CanAdd s stamp → IsGiven s x after (Some ev)
     → new.kept.bench ≡ with_entry after stamp ev → new.kept.is_spent ≡ false → new.seat ≡ s.seat → new.inputs ≡ s.inputs → new.turns ≡ s.turns
-    → t.stamp ≡ stamp_posted after.list stamp ev → t.frames.items ≡ frames_posted after stamp ev → t.to ≡ cond (cries_frame ev) (named (Some x)) []
+    → t.stamp ≡ stamp_posted after.list stamp ev → t.frames.items ≡ frames_posted after stamp ev → t.cried ≡ cries_frame ev → t.to ≡ cond (cries_frame ev) (named (Some x)) []
     → Enters s stamp (given_or_tick s.kept.bench (next_input s.inputs s.kept.bench.list)) t new
-input_enters s new stamp x after ev t can is added works seat inputs turns said frames to =
+input_enters s new stamp x after ev t can is added works seat inputs turns said frames cries to =
     let b = s.kept.bench in
     let n = b.signed + cond (signs_word x) 1 0 in
     let so : after ≡ signed_so b n = is.after_is ∙ after_given b x ev (sym is.given_is) in
@@ -107,6 +110,7 @@ input_enters s new stamp x after ev t can is added works seat inputs turns said 
       steady = steady;
       said = said ∙ ap (λ (y : BenchState). stamp_posted y.list stamp ev) so;
       frames = frames ∙ ap (λ (y : BenchState). frames_posted y stamp ev) so ∙ frames_so b n stamp ev;
+      cried = cries;
       to = to ∙ ap (λ (o : Option Input). cond (cries_frame ev) (named o) []) (sym is.next);
     })
 
@@ -127,20 +131,27 @@ unsaid_is s x after is = is.after_is ∙ after_none s.kept.bench x (sym is.given
 
 pub unsaid_enters : (s new : Stationed) (stamp : ℕ) (x : Input) (after : BenchState) (t : Turned) → CanAdd s stamp → IsGiven s x after None
     → new.kept.bench ≡ with_entry after stamp Tick → new.kept.is_spent ≡ false → new.seat ≡ s.seat → new.inputs ≡ s.inputs → new.turns ≡ s.turns
-    → t.stamp ≡ stamp_posted after.list stamp Tick → t.frames.items ≡ frames_posted after stamp Tick → t.to ≡ []
+    → t.stamp ≡ stamp_posted after.list stamp Tick → t.frames.items ≡ frames_posted after stamp Tick → t.cried ≡ cries_frame Tick → t.to ≡ []
     → Enters s stamp (given_or_tick s.kept.bench (next_input s.inputs s.kept.bench.list)) t new
-unsaid_enters s new stamp x after t can is added works seat inputs turns said frames to =
+unsaid_enters s new stamp x after t can is added works seat inputs turns said frames cries to =
     let b = s.kept.bench in
     let so : after ≡ b = unsaid_is s x after is in
     let event : given_or_tick b (next_input s.inputs b.list) ≡ Tick = ap (given_or_tick b) is.next ∙ ap (λ (o : Option Event). unwrap_or o Tick) (sym is.given_is) in
     subst (λ (e : Event). Enters s stamp e t new) (sym event)
     (inside_enters s new stamp Tick t can refl tt (added ∙ ap (λ (y : BenchState). with_entry y stamp Tick) so) works seat inputs turns
-    (said ∙ ap (λ (y : BenchState). stamp_posted y.list stamp Tick) so) (frames ∙ ap (λ (y : BenchState). frames_posted y stamp Tick) so) to)
+    (said ∙ ap (λ (y : BenchState). stamp_posted y.list stamp Tick) so) (frames ∙ ap (λ (y : BenchState). frames_posted y stamp Tick) so) cries to)
 
 pub unsaid_used : (s new : Stationed) (stamp used : ℕ) (x : Input) (after : BenchState) → IsGiven s x after None → new.kept.bench ≡ with_entry after stamp Tick
     → used ≡ inputs_used s.kept.bench.list → used ≡ inputs_used new.kept.bench.list
 unsaid_used s new stamp used x after is added was =
     inside_used s new stamp used Tick refl (added ∙ ap (λ (y : BenchState). with_entry y stamp Tick) (unsaid_is s x after is)) was
+
+-- what stands after an input stands before it
+pub stand_before : (b after : BenchState) (x : Input) (cries : Bool) (frames : List (Signed Body)) → after ≡ after_input b x
+    → (cries ≡ false → list_all (stands (setup_in after)) frames ≡ true) → cries ≡ false → list_all (stands (setup_in b)) frames ≡ true
+stand_before b after x cries frames is all none =
+    subst (λ (w : Contents). list_all (stands (setup_of w)) frames ≡ true)
+    (ap (λ (y : BenchState). y.world) is ∙ after_input_all (λ (y : BenchState). y.world ≡ b.world) b x (λ n. refl)) (all none)
 
 -- the event that the call answers
 

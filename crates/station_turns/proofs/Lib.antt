@@ -7,3 +7,4 @@ pub mod WholeTurns
 pub mod Posting
 pub mod Seen
 pub mod Checked
+pub mod Told

@@ -2,7 +2,7 @@
 use Rattle.std.proofs.Common.{◌≡◌, ℕ, ◌+◌, Bool, true, false, ◌&&◌, List, [], ◌∷◌, ◌++◌, Option, Some, None, length, nat_lt, refl, sym, ◌∙◌, ap, append-nil}
 use Rattle.std.specs.Prelude.{is_some, IfSome, IsTrue}
 use Rattle.std.specs.List.{list_all}
-use Rattle.std.proofs.lemmas.Bool.{and_parts, and_from}
+use Rattle.std.proofs.lemmas.Bool.{and_parts, and_from, true≢false}
 use Rattle.std.proofs.lemmas.List.Folds.{list_all-append}
 use Rattle.message_types.specs.declared.signed.Signed.{Signed}
 use Rattle.message_types.specs.declared.body.Body.{Body}
@@ -36,6 +36,12 @@ one_pushed f frames more all one is =
 
 pub none_pushed : (frames : List (Signed Body)) → frames ≡ frames ++ []
 none_pushed frames = sym (append-nil frames)
+
+-- where no frame was cried, all frames are the actor's own, which stand
+pub own_stand : (w : Setup) (found : Option (Signed Body)) (frames more : List (Signed Body)) → list_all (stands w) frames ≡ true → more ≡ frames ++ optional found → is_some found ≡ false
+    → list_all (stands w) more ≡ true
+own_stand w None frames more all is none = ap (list_all (stands w)) (is ∙ append-nil frames) ∙ all
+own_stand w (Some f) frames more all is none = absurd (true≢false none)
 
 -- whether a frame was cried
 pub cries_as : (found : Option (Signed Body)) (event : Event) → optional found ≡ cried event → is_some found ≡ cries_frame event

@@ -1,8 +1,10 @@
 -- What is seen of a station that isn't given up.
 use Rattle.std.proofs.Common.{◌≡◌, ℕ, ◌+◌, ◌<◌, ◌≤◌, ◌∷◌, ◌++◌, Bool, true, false, List, [], Option, inl, inr, ◌⊎◌, refl, sym, ◌∙◌, ap, subst, arith}
 use Rattle.std.specs.Prelude.{IfSome}
-use Rattle.std.specs.List.{slice_index_or}
+use Rattle.std.specs.List.{list_all, slice_index_or}
 use Rattle.std.proofs.lemmas.Bool.{true≢false}
+use Rattle.message_types.specs.declared.signed.Signed.{Signed}
+use Rattle.message_types.specs.declared.body.Body.{Body}
 use Rattle.scenario_file.specs.Reading.{Contents}
 use Rattle.scenario_file.specs.Valid.{IsScenario}
 use Rattle.history_rules.specs.Setup.{stands}
@@ -47,6 +49,11 @@ asked_left s now given_up used count name is working alive one left =
 pub asked_stands : (s : Stationed) (name : RunName) (held : Option Held) → IsOf name s → IfSome held (λ h. stands (setup_of name.scenario) h.frame ≡ true)
     → IfSome held (λ h. stands (setup_in s.kept.bench) h.frame ≡ true)
 asked_stands s name held one well = subst (λ (w : Contents). IfSome held (λ h. stands (setup_of w) h.frame ≡ true)) (sym one.world) well
+
+-- what stands in an actor's scenario stands in its run's
+pub stand_seen : (s : Stationed) (name : RunName) (cries : Bool) (frames : List (Signed Body)) → IsOf name s
+    → (cries ≡ false → list_all (stands (setup_in s.kept.bench)) frames ≡ true) → cries ≡ false → list_all (stands (setup_of name.scenario)) frames ≡ true
+stand_seen s name cries frames one all none = subst (λ (w : Contents). list_all (stands (setup_of w)) frames ≡ true) one.world (all none)
 
 -- what a turn gives
 pub turned_seen : (s now new : Stationed) (given_up : Bool) (held : Option Held) (t : Turned) → seen_as s given_up ≡ now → given_up ≡ false → Turns (seen_as s false) held t new → Turns now held t new
@@ -142,6 +149,13 @@ pub count_seen : (s now : Stationed) (given_up : Bool) (used count : ℕ) (name 
     → count ≡ turns_made now.kept.bench.list
 count_seen s now given_up used count name is lives working =
     (lives (works_inside s now given_up is working)).0.count_is ∙ ap (λ (x : Stationed). turns_made x.kept.bench.list) is
+
+pub most_seen : (s now : Stationed) (given_up : Bool) (used count : ℕ) (name : RunName) → seen_as s given_up ≡ now → (given_up ≡ false → IsAlive s used count × IsOf name s) → now.given_up ≡ false
+    → count ≤ name.turns
+most_seen s now given_up used count name is lives working =
+    let now_lives = lives (works_inside s now given_up is working) in
+    let made = now_lives.0.made in
+    omega (arith, now_lives.1.turns)
 
 pub halt_seen : (s now : Stationed) (given_up : Bool) (used count : ℕ) (name : RunName) (halted : Bool) → seen_as s given_up ≡ now → (given_up ≡ false → IsAlive s used count × IsOf name s)
     → (s.kept.is_spent ≡ false → halted ≡ halted_in s.kept.bench) → now.given_up ≡ false → halted ≡ halted_in now.kept.bench

@@ -2,6 +2,7 @@
 use Rattle.std.proofs.Common.{◌≡◌, ℕ, zero, suc, ◌+◌, ◌*◌, ◌%◌, ◌<◌, ◌≤◌, Bool, true, false, cond, ◌&&◌, List, [], ◌∷◌, ◌++◌, Option, Some, None, length, map, nat_eq, nat_lt, refl, sym, ◌∙◌, ap, subst, arith, append-nil, append_assoc, inl, inr, ◌⊎◌}
 use Rattle.std.specs.Prelude.{Result, Ok, Err, IfOk, slice_get, is_some, unwrap_or, IfSome}
 use Rattle.plain_lists.specs.declared.want.Want.{Want}
+use Rattle.std.specs.List.{list_all}
 use Rattle.std.specs.Option.{option_map}
 use Rattle.std.proofs.lemmas.Bool.{ltb-true, true≢false, false≢true}
 use Rattle.std.proofs.lemmas.List.{length-append, length_push}
@@ -123,7 +124,7 @@ given_no_skip b x = by (event_given b x) refl
     by None is = refl
     by (Some ev) is = outside_no_skip ev (given_outside b x ev is)
 
-next_no_skip : (inputs : List Input) (b : BenchState) (held : Option Held) → is_skip (event_next inputs b held) ≡ false
+pub next_no_skip : (inputs : List Input) (b : BenchState) (held : Option Held) → is_skip (event_next inputs b held) ≡ false
 unfolding due_next
 next_no_skip inputs b held = by (nat_eq ((turns_made b.list + 1) % 4) 0) (nat_eq ((turns_made b.list + 1) % 4) 1) (next_input inputs b.list)
   where
@@ -249,6 +250,11 @@ pub mid_takes : (old mid : Stationed) (held : Option Held) (stamp : ℕ) → Dra
     → TakesAt (setup_in mid.kept.bench) stamp (still_held held stamp)
 mid_takes old mid held stamp draws well =
     subst (λ (w : Contents). TakesAt (setup_of w) stamp (still_held held stamp)) (sym (mid_world old mid held stamp draws)) (still_takes (setup_in old.kept.bench) stamp held well)
+
+pub mid_stand : (old mid : Stationed) (held : Option Held) (stamp : ℕ) (cries : Bool) (frames : List (Signed Body)) → DrawsOne old held stamp mid
+    → (cries ≡ false → list_all (stands (setup_in mid.kept.bench)) frames ≡ true) → cries ≡ false → list_all (stands (setup_in old.kept.bench)) frames ≡ true
+mid_stand old mid held stamp cries frames draws all none =
+    subst (λ (w : Contents). list_all (stands (setup_of w)) frames ≡ true) (mid_world old mid held stamp draws) (all none)
 
 pub draws_work : (old new : Stationed) (held : Option Held) (stamp : ℕ) → Draws old held stamp new → new.kept.is_spent ≡ false
 draws_work old new held stamp (inl draws) = draws.skipped.steady.works

@@ -160,12 +160,14 @@ pub record Enters (s : Stationed) (stamp : ℕ) (event : Event) (t : Turned) (ne
   pub steady : IsSteady new []
   pub said : t.stamp ≡ stamp_posted s.kept.bench.list stamp event
   pub frames : t.frames.items ≡ frames_posted s.kept.bench stamp event
+  pub cried : t.cried ≡ cries_frame event
   pub to : t.to ≡ named_at event (next_input s.inputs s.kept.bench.list)
 
 -- The actor's keeper failed at the last skip of a turn: the turn ends with it, and the held frame comes back.
 pub record IsCut (old : Stationed) (held : Option Held) (t : Turned) (new : Stationed) : Type 0 where
   pub draws : DrawsLast old held t.stamp new
   pub nothing : (t.frames.items ≡ []) × (t.to ≡ [])
+  pub cried : t.cried ≡ false
   pub back : t.held ≡ held
 
 -- The turn adds its skips and, at the next stamp, the entry that is due. Where that stamp isn't above the held frame's, 16

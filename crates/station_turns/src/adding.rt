@@ -4,6 +4,7 @@ ghost use Rattle.std.specs.List.{list_all};
 ghost use Rattle.message_types.specs.Spelling.{has_spelling};
 ghost use Rattle.scenario_file.specs.Reading.{contents};
 ghost use Rattle.history_rules.specs.Events.{Cry};
+ghost use Rattle.history_rules.specs.Setup.{stands};
 ghost use Rattle.history_rules.specs.Legal.{TakesWell};
 ghost use Rattle.world_entries.specs.Entries.{event_of};
 ghost use Rattle.world_rules.specs.Frames.{cried};
@@ -103,6 +104,7 @@ pub(crate) fn add(
     ensures frames { IfOk result (λ posting. posting.frames.items ≡ frames_posted kept.old.bench stamp (event_of event)) }
     ensures cried { IfOk result (λ posting. posting.cries ≡ cries_frame (event_of event)) }
     ensures spelled { IfOk result (λ posting. list_all has_spelling posting.frames.items ≡ true) }
+    ensures stand { IfOk result (λ posting. posting.cries ≡ false → list_all (stands (setup_in kept.old.bench)) posting.frames.items ≡ true) }
 {
     let said = stamp_posted(kept.bench(), stamp, &event);
     let frame = cried(alloc, &event)?;

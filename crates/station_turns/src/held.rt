@@ -62,13 +62,16 @@ pub(crate) fn still_held(held: Option<Held>, stamp: u64) -> Option<Held>
     }
 }
 
-/// What a turn gives to post: frames, the stamp at which they were said, and the numbers of the actors that they go to where a
-/// word was cried. Where `to` is empty, each frame goes where its body does. `held` is the held frame, if it was neither taken
-/// nor dropped.
+/// What a turn gives to post: frames, and the stamp at which they were said.
 pub struct Turned {
     pub stamp: u64,
     pub frames: Vec<Frame>,
+    /// Whether a word was cried that spells a frame. Its frame goes to the actors of `to`, even if there are none; each frame of
+    /// another turn goes where its body does.
+    pub cried: bool,
+    /// The numbers of the actors that a word goes to.
     pub to: Vector,
+    /// The held frame, if it was neither taken nor dropped.
     pub held: Option<Held>,
 }
 
@@ -78,6 +81,7 @@ impl Drop for Turned {
         let Turned {
             stamp: _,
             frames: _,
+            cried: _,
             to: _,
             held: _,
         } = self;

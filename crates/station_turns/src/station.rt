@@ -1,12 +1,12 @@
 //! What stands behind an actor's lock.
-ghost use Rattle.std.specs.Prelude.{◌≡◌, ◌<◌, ◌≤◌, ◌+◌, ◌∷◌, [], true, false, IsTrue, IsErr, OnOk, OnErr, IfOk, IfSome};
+ghost use Rattle.std.specs.Prelude.{◌≡◌, ◌⊎◌, ◌<◌, ◌≤◌, ◌+◌, ◌∷◌, [], true, false, IsTrue, IsErr, OnOk, OnErr, IfOk, IfSome};
 ghost use Rattle.std.specs.List.{list_all, slice_index_or};
 ghost use Rattle.message_types.specs.Spelling.{has_spelling};
 ghost use Rattle.scenario_file.specs.Reading.{contents};
 ghost use Rattle.scenario_file.specs.Valid.{IsScenario};
 ghost use Rattle.history_rules.specs.Setup.{stands};
 ghost use Rattle.world_rules.specs.Scenarios.{setup_of};
-ghost use Rattle.script_laws.specs.Accepted.{actors_in};
+ghost use Rattle.script_laws.specs.Accepted.{actors_in, is_there};
 ghost use Rattle.kept_lists.specs.State.{halted_in, first_state};
 ghost use Rattle.station_turns.specs.Pace.{fit_inputs, turns_made, inputs_used};
 ghost use Rattle.station_turns.specs.Turns.{Stationed, IsAlive, Turns};
@@ -104,7 +104,8 @@ impl<N: Naming> Station<N> {
 
     /// How many turns it has made. It takes no memory.
     pub fn count(&self) -> u64
-        ensures { self.now.given_up ≡ false → result ≡ turns_made self.now.kept.bench.list }
+        ensures made { self.now.given_up ≡ false → result ≡ turns_made self.now.kept.bench.list }
+        ensures most { self.now.given_up ≡ false → result ≤ N.name.turns }
     {
         self.live.count
     }
@@ -138,6 +139,10 @@ impl<N: Naming> Station<N> {
         requires stands { IfSome held (λ h. stands (setup_of N.name.scenario) h.frame ≡ true) }
         ensures turns { IfOk result (λ t. Turns self.old held t self.new) }
         ensures spelled { IfOk result (λ t. list_all has_spelling t.frames.items ≡ true) }
+        ensures stand { IfOk result (λ t. t.cried ≡ false → list_all (stands (setup_of N.name.scenario)) t.frames.items ≡ true) }
+        ensures there { IfOk result (λ t. list_all (is_there N.name.scenario) t.to ≡ true) }
+        ensures made { OnOk result ((halted_in self.new.kept.bench ≡ true) ⊎ (turns_made self.new.kept.bench.list ≡ turns_made self.old.kept.bench.list + 1)) }
+        ensures works { OnOk result (self.new.given_up ≡ false) }
         ensures refused { OnErr result (self.new.given_up ≡ true) }
         ensures spent { self.old.given_up ≡ true → IsErr result }
     {

@@ -59,6 +59,7 @@ fn enter(
     requires taken { TakesWell (setup_in live.old.kept.bench) stamp (event_of event) }
     ensures enters { IfOk result (λ t. Enters (stationed live.old) stamp (event_of event) t (stationed live.new)) }
     ensures spelled { IfOk result (λ t. list_all has_spelling t.frames.items ≡ true) }
+    ensures stand { IfOk result (λ t. t.cried ≡ false → list_all (stands (setup_in live.old.kept.bench)) t.frames.items ≡ true) }
     ensures back { IfOk result (λ t. t.held ≡ back) }
     ensures used { OnOk result (live.new.used ≡ inputs_used live.new.kept.bench.list) }
     ensures count { live.new.count ≡ live.old.count }
@@ -68,6 +69,7 @@ fn enter(
     Ok(Turned {
         stamp: posting.stamp,
         frames: posting.frames,
+        cried: posting.cries,
         to: Vector::new(alloc),
         held: back,
     })
@@ -86,6 +88,7 @@ fn give(
     requires left { live.old.used < length live.old.inputs.items }
     ensures enters { IfOk result (λ t. Enters (stationed live.old) stamp (event_from_input (stationed live.old)) t (stationed live.new)) }
     ensures spelled { IfOk result (λ t. list_all has_spelling t.frames.items ≡ true) }
+    ensures stand { IfOk result (λ t. t.cried ≡ false → list_all (stands (setup_in live.old.kept.bench)) t.frames.items ≡ true) }
     ensures back { IfOk result (λ t. t.held ≡ back) }
     ensures used { OnOk result (live.new.used ≡ inputs_used live.new.kept.bench.list) }
     ensures count { live.new.count ≡ live.old.count }
@@ -97,6 +100,7 @@ fn give(
         return Ok(Turned {
             stamp: posting.stamp,
             frames: posting.frames,
+            cried: posting.cries,
             to: Vector::new(alloc),
             held: back,
         });
@@ -107,6 +111,7 @@ fn give(
     Ok(Turned {
         stamp: posting.stamp,
         frames: posting.frames,
+        cried: posting.cries,
         to,
         held: back,
     })
@@ -127,6 +132,7 @@ fn enter_next(
     requires takes { TakesAt (setup_in live.old.kept.bench) stamp held }
     ensures enters { IfOk result (λ t. Enters (stationed live.old) stamp (event_next live.old.inputs.items live.old.kept.bench held) t (stationed live.new)) }
     ensures spelled { IfOk result (λ t. list_all has_spelling t.frames.items ≡ true) }
+    ensures stand { IfOk result (λ t. t.cried ≡ false → list_all (stands (setup_in live.old.kept.bench)) t.frames.items ≡ true) }
     ensures back { IfOk result (λ t. t.held ≡ held_back live.old.inputs.items live.old.kept.bench held) }
     ensures used { OnOk result (live.new.used ≡ inputs_used live.new.kept.bench.list) }
     ensures count { live.new.count ≡ live.old.count }
@@ -153,6 +159,7 @@ pub(crate) fn turn(
     requires stands { IfSome held (λ h. stands (setup_in live.old.kept.bench) h.frame ≡ true) }
     ensures turns { IfOk result (λ t. Turns (stationed live.old) held t (stationed live.new)) }
     ensures spelled { IfOk result (λ t. list_all has_spelling t.frames.items ≡ true) }
+    ensures stand { IfOk result (λ t. t.cried ≡ false → list_all (stands (setup_in live.old.kept.bench)) t.frames.items ≡ true) }
     ensures alive { OnOk result (IsAlive (stationed live.new) live.new.used live.new.count) }
 {
     let stamp = draw(live, scenario, stamps, &held)?;
@@ -160,6 +167,7 @@ pub(crate) fn turn(
         return Ok(Turned {
             stamp,
             frames: Vec::new(live.alloc),
+            cried: false,
             to: Vector::new(live.alloc),
             held,
         });

@@ -12,7 +12,7 @@ add-requires-clause-fits c = inside_fits c.args.live.now.kept.bench (event_of c.
 pub returns-clause-enters : goal.returns-clause-enters
 returns-clause-enters c =
     inside_enters (stationed c.args.live.now) (kept_so (stationed c.args.live.now) c.add.new.kept) c.args.stamp (event_of c.args.event) _ c.requires.can c.requires.inside c.requires.taken
-    c.in_ok-posting.ensures.entry c.in_ok-posting.ensures.works refl refl refl c.in_ok-posting.ensures.stamp c.in_ok-posting.ensures.frames c.new.ensures
+    c.in_ok-posting.ensures.entry c.in_ok-posting.ensures.works refl refl refl c.in_ok-posting.ensures.stamp c.in_ok-posting.ensures.frames c.in_ok-posting.ensures.cried c.new.ensures
 
 pub returns-clause-used : goal.returns-clause-used
 returns-clause-used c =

@@ -5,7 +5,7 @@ use Rattle.world_entries.specs.Entries.{event_of}
 use Rattle.station_turns.specs.Turns.{stationed}
 use Rattle.station_turns.proofs.Given.{inside_fits}
 use Rattle.station_turns.proofs.Skipped.{kept_so}
-use Rattle.station_turns.proofs.Entering.{none_given, some_given, next_is, input_fits, input_enters, input_used, named_cried, unsaid_enters, unsaid_used}
+use Rattle.station_turns.proofs.Entering.{none_given, some_given, next_is, input_fits, input_enters, input_used, named_cried, stand_before, unsaid_enters, unsaid_used}
 use Rattle.station_turns.proofs.turning.give.Goals as goal
 
 pub add-requires-clause-fits : goal.add-requires-clause-fits
@@ -19,7 +19,12 @@ returns-in_default-clause-enters c =
       after_is = c.in_ok-event.ensures.bench;
       given_is = none_given _ _ c.in_ok-event.ensures.event c.in_default.is;
     })
-    c.in_ok-posting.ensures.entry c.in_ok-posting.ensures.works refl refl refl c.in_ok-posting.ensures.stamp c.in_ok-posting.ensures.frames c.new.ensures
+    c.in_ok-posting.ensures.entry c.in_ok-posting.ensures.works refl refl refl c.in_ok-posting.ensures.stamp c.in_ok-posting.ensures.frames c.in_ok-posting.ensures.cried c.new.ensures
+
+pub returns-in_default-clause-stand : goal.returns-in_default-clause-stand
+returns-in_default-clause-stand c =
+    stand_before c.args.live.now.kept.bench c.event_given.new.kept.bench c.index-input.result.now c.in_ok-posting.posting.cries c.in_ok-posting.posting.frames.items c.in_ok-event.ensures.bench
+    c.in_ok-posting.ensures.stand
 
 pub returns-in_default-clause-used : goal.returns-in_default-clause-used
 returns-in_default-clause-used c =
@@ -49,8 +54,13 @@ returns-clause-enters c =
       after_is = c.in_ok-event.ensures.bench;
       given_is = some_given _ _ c.in-Some.event c.in_ok-event.ensures.event c.in-Some.is;
     })
-    c.in_ok-posting-2.ensures.entry c.in_ok-posting-2.ensures.works refl refl refl c.in_ok-posting-2.ensures.stamp c.in_ok-posting-2.ensures.frames
+    c.in_ok-posting-2.ensures.entry c.in_ok-posting-2.ensures.works refl refl refl c.in_ok-posting-2.ensures.stamp c.in_ok-posting-2.ensures.frames c.in_ok-posting-2.ensures.cried
     (named_cried c.in_ok-posting-2.posting.cries (event_of c.in-Some.event) c.index-input.result.now c.in_ok-to.to c.in_ok-to.ensures c.in_ok-posting-2.ensures.cried)
+
+pub returns-clause-stand : goal.returns-clause-stand
+returns-clause-stand c =
+    stand_before c.args.live.now.kept.bench c.event_given.new.kept.bench c.index-input.result.now c.in_ok-posting-2.posting.cries c.in_ok-posting-2.posting.frames.items
+    c.in_ok-event.ensures.bench c.in_ok-posting-2.ensures.stand
 
 pub returns-clause-used : goal.returns-clause-used
 returns-clause-used c =

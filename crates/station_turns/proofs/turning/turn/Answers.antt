@@ -3,7 +3,7 @@ use Rattle.std.specs.Prelude.{Option}
 use Rattle.world_history.specs.State.{setup_in}
 use Rattle.station_turns.specs.declared.held.Held.{Held}
 use Rattle.station_turns.specs.Turns.{stationed, TakesAt, Enters, event_next}
-use Rattle.station_turns.proofs.WholeTurns.{alive_after, alive_cut, alive_counts, last_drawn, one_drawn, draws_work, mid_world, mid_used, mid_count, mid_takes}
+use Rattle.station_turns.proofs.WholeTurns.{alive_after, alive_cut, alive_counts, last_drawn, one_drawn, draws_work, mid_world, mid_used, mid_count, mid_takes, mid_stand}
 use Rattle.station_turns.proofs.turning.turn.Goals as goal
 
 pub returns-then-halted-clause-alive : goal.returns-then-halted-clause-alive
@@ -38,6 +38,13 @@ enter_next-requires-clause-takes c =
     (mid_takes (stationed c.args.live.now) (stationed c.draw.new.live) c.args.held c.in_ok-stamp.stamp
     (one_drawn (stationed c.args.live.now) (stationed c.draw.new.live) c.args.held c.in_ok-stamp.stamp c.in_ok-stamp.ensures.draws
     (sym (c.halted.ensures (draws_work (stationed c.args.live.now) (stationed c.draw.new.live) c.args.held c.in_ok-stamp.stamp c.in_ok-stamp.ensures.draws)) ∙ c.if-halted.false)) c.requires.stands)
+
+pub returns-clause-stand : goal.returns-clause-stand
+returns-clause-stand c =
+    mid_stand (stationed c.args.live.now) (stationed c.draw.new.live) c.args.held c.in_ok-stamp.stamp c.in_ok-turned.turned.cried c.in_ok-turned.turned.frames.items
+    (one_drawn (stationed c.args.live.now) (stationed c.draw.new.live) c.args.held c.in_ok-stamp.stamp c.in_ok-stamp.ensures.draws
+    (sym (c.halted.ensures (draws_work (stationed c.args.live.now) (stationed c.draw.new.live) c.args.held c.in_ok-stamp.stamp c.in_ok-stamp.ensures.draws)) ∙ c.if-halted.false))
+    c.in_ok-turned.ensures.stand
 
 pub returns-clause-alive : goal.returns-clause-alive
 returns-clause-alive c =

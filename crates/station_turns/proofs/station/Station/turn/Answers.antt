@@ -1,7 +1,8 @@
 use Rattle.std.proofs.Common.{sym, ◌∙◌, ap}
 use Rattle.std.proofs.lemmas.Bool.{true≢false}
 use Rattle.station_turns.specs.Turns.{Stationed, stationed}
-use Rattle.station_turns.proofs.Seen.{asked_running, asked_left, asked_stands, turned_seen, of_turned}
+use Rattle.station_turns.proofs.Seen.{asked_running, asked_left, asked_stands, turned_seen, of_turned, stand_seen}
+use Rattle.station_turns.proofs.Told.{there_told, made_told}
 use Rattle.station_turns.proofs.station.Station.turn.Goals as goal
 
 pub turn-requires-clause-alive : goal.turn-requires-clause-alive
@@ -27,6 +28,19 @@ turn-requires-clause-stands g c = asked_stands (stationed c.self.inside.live) g.
 pub returns-clause-turns : goal.returns-clause-turns
 returns-clause-turns g c =
     turned_seen (stationed c.self.inside.live) c.args.self.now (stationed c.turn.new.live) c.self.inside.given_up c.args.held c.in_ok-turned.turned c.self.view_is c.if-self.false c.in_ok-turned.ensures.turns
+
+pub returns-clause-stand : goal.returns-clause-stand
+returns-clause-stand g c =
+    stand_seen (stationed c.self.inside.live) g.N.Naming.name c.in_ok-turned.turned.cried c.in_ok-turned.turned.frames.items (c.self.invariant c.if-self.false).1 c.in_ok-turned.ensures.stand
+
+pub returns-clause-there : goal.returns-clause-there
+returns-clause-there g c =
+    there_told g.N.Naming.name (stationed c.self.inside.live) (stationed c.turn.new.live) c.args.held c.in_ok-turned.turned c.in_ok-turned.ensures.turns (c.self.invariant c.if-self.false).1
+
+pub returns-clause-made : goal.returns-clause-made
+returns-clause-made g c =
+    made_told c.args.self.now (stationed c.turn.new.live) c.args.held c.in_ok-turned.turned
+    (turned_seen (stationed c.self.inside.live) c.args.self.now (stationed c.turn.new.live) c.self.inside.given_up c.args.held c.in_ok-turned.turned c.self.view_is c.if-self.false c.in_ok-turned.ensures.turns)
 
 pub returns-clause-spent : goal.returns-clause-spent
 returns-clause-spent g c spent = absurd (true≢false (sym spent ∙ sym (ap (λ (x : Stationed). x.given_up) c.self.view_is) ∙ c.if-self.false))

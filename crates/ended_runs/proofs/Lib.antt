@@ -1,0 +1,4 @@
+mod Counted
+mod Taken
+mod Joining
+mod Runs

@@ -1,0 +1,6 @@
+mod Lists
+mod Passes
+mod Sending
+mod Frames
+mod Taken
+mod Turning

@@ -1,0 +1,16 @@
+use Rattle.std.proofs.Common.{◌≡◌, ◌≤◌, ◌⊎◌, true, false}
+use Rattle.world_rules.specs.Scenarios.{setup_of}
+use Rattle.kept_lists.specs.State.{halted_in}
+use Rattle.station_turns.specs.Pace.{turns_made}
+use Rattle.run_hands.specs.Hands.{ArePassesOf}
+use Rattle.run_hands.proofs.Taken.{stand_held}
+use Rattle.run_hands.proofs.completing.lacking.Given as goal
+
+-- so many turns were made, unless it is halted
+abbrev pub invariant-loop-made : goal.invariant-loop-made
+invariant-loop-made g l =
+    ArePassesOf l.shared.inboxes.now l.passes.items
+    × stand_held (setup_of g.N.Naming.name.scenario) l.held
+    × (l.station.given_up ≡ false)
+    × ((halted_in l.station.kept.bench ≡ true) ⊎ (turns_made l.station.kept.bench.list ≡ l._made))
+    × (l._made ≤ g.N.Naming.name.turns)

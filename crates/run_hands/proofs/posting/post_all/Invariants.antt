@@ -1,0 +1,14 @@
+use Rattle.std.proofs.Common.{◌≡◌, ◌≤◌, length}
+use Rattle.scenario_file.specs.Reading.{contents}
+use Rattle.run_hands.specs.Hands.{ArePassesOf}
+use Rattle.run_hands.specs.Letters.{most_frames, HaveSent}
+use Rattle.run_hands.proofs.Sending.{letters_so_far}
+use Rattle.run_hands.proofs.posting.post_all.Given as goal
+
+-- the frames so far were posted
+abbrev pub invariant-loop-place : goal.invariant-loop-place
+invariant-loop-place g l =
+    ArePassesOf l.shared.inboxes.now l.passes.items
+    × HaveSent l.initial.passes.items (letters_so_far (contents l.shared.scenario.now) l.actor l.turned l.place) l.passes.items
+    × (l.place ≤ length l.turned.frames.items)
+    × (l.place ≤ most_frames)

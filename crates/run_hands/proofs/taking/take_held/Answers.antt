@@ -1,0 +1,18 @@
+use Rattle.std.proofs.Common.{refl, inl}
+use Rattle.run_hands.proofs.Taken.{taken_one}
+use Rattle.run_hands.proofs.taking.take_held.Goals as goal
+
+pub into_held-requires : goal.into_held-requires
+into_held-requires g c = c.in-Some.ensures.taken.0
+
+pub returns-in-Some : goal.returns-in-Some
+returns-in-Some g c = record {
+  of = c.in-Some.ensures.of;
+  takes = taken_one c.into_held.result c.args.shared.now.ring.now c.in-Some.posted c.args.pass.now c.take.new.pass c.in-Some.ensures.taken c.into_held.ensures;
+}
+
+pub returns-in-None : goal.returns-in-None
+returns-in-None g c = record {
+  of = c.in-None.ensures.of;
+  takes = λ all same. inl (c.in-None.ensures.taken.0, refl);
+}
