@@ -6,7 +6,7 @@ ghost use Rattle.sha_lanes.specs.Lanes.{lane};
 ghost use Rattle.lane_chains.specs.Chains.{chain, end_of, AreSteps};
 
 use crate::words::{gathered, gathered_values, spread};
-use sha_lanes::{begun, chain_step};
+use sha_lanes::{Room, begun, chain_step};
 use std::simd::u32x8 as Words;
 
 // `a` in the lanes whose step is below the last, and `b` in the others.
@@ -51,6 +51,7 @@ fn run_lanes(
     to: Words,
     turns: u32,
     start: [Words; 8],
+    room: &mut Room,
 ) -> [Words; 8]
     requires chains { (j : ℕ) → j < 8 → slice_index chains j < 2 ^ 16 }
     requires order { (j : ℕ) → j < 8 → slice_index from j ≤ slice_index to j }
@@ -66,7 +67,7 @@ fn run_lanes(
     'turns: for turn in 0..turns {
         // A lane that is done has no step of its own: its block is that of step 0, and counts for nothing.
         let now = chosen(steps, to, steps, Words::splat(0));
-        let next = chain_step(begun, id, q, chains, now, v);
+        let next = chain_step(begun, id, q, chains, now, v, room);
         let kept = chosen_values(steps, to, next, v);
         let later = chosen(steps, to, plus_one(steps), steps);
         v = kept;
@@ -98,6 +99,7 @@ pub(crate) fn group_ends(
     to: &[u16],
     starts: &[u8],
     group: &[u16; 8],
+    room: &mut Room,
 ) -> [Words; 8]
     requires steps { AreSteps from.now to.now }
     requires starts { 32 * length from.now ≤ length starts.now }
@@ -115,5 +117,6 @@ pub(crate) fn group_ends(
         gathered(to, group),
         turns,
         start,
+        room,
     )
 }

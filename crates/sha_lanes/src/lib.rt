@@ -8,4 +8,5 @@ mod lanes;
 mod rounds;
 mod steps;
 
+pub use crate::rounds::{Room, new_room};
 pub use crate::steps::{begun, chain_step};

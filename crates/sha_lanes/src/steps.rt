@@ -6,7 +6,7 @@ ghost use Rattle.sha_lanes.specs.Lanes.{lane, column};
 ghost use Rattle.sha_lanes.specs.Steps.{same_word, head_word, joined_word, last_word, key_words, block_words, step_text};
 
 use crate::lanes::{add, shifted_left, shifted_right, splat};
-use crate::rounds::{K32, compressed, first_state, round};
+use crate::rounds::{K32, Room, compressed, first_state, round};
 use std::simd::u32x8 as Words;
 
 // The same word in each lane.
@@ -96,6 +96,7 @@ pub fn chain_step(
     chains: Words,
     steps: Words,
     v: [Words; 8],
+    room: &mut Room,
 ) -> [Words; 8]
     requires begun { (j : ℕ) → j < 8 → lane j begun ≡ rounds initial_hash_256 (key_words id.now q) 5 }
     requires chains { (j : ℕ) → j < 8 → slice_index chains j < 2 ^ 16 }
@@ -103,5 +104,5 @@ pub fn chain_step(
     ensures { (j : ℕ) → j < 8 → digest_bytes (lane j result) 8
         ≡ sha256 (step_text id.now q (slice_index chains j) (slice_index steps j) (lane j v)) }
 {
-    compressed(begun, block_words(id, q, chains, steps, v))
+    compressed(begun, block_words(id, q, chains, steps, v), room)
 }
