@@ -19,6 +19,9 @@ pub trait Commands {
     // Which step comes next, for the words and after the contents of the files loaded so far.
     ghost next: { List (List ℕ) → List (List ℕ) → Step → Type 0 };
 
+    // What has to hold of the commands themselves: of some that run in threads, that threads may share what they hold.
+    ghost ready: { Self → Type 0 };
+
     /// The whole text of the command that the words are, or why there is none.
     fn text<F: Files>(
         &self,
@@ -26,6 +29,7 @@ pub trait Commands {
         words: &[String],
         files: &mut F,
     ) -> Result<Vec<u8>, Refusal>
+        requires { ready self.now }
         ensures file_faults { FaultsOfFiles result (F.faults files.old) (F.faults files.new) }
         ensures cause { TextCause (next (map string_bytes words.now)) (F.held files.old) (F.faults files.old) (F.faults files.new) [] result };
 }
@@ -42,6 +46,7 @@ pub fn end_call<C: Commands, F: Files, O: Sink, E: Sink>(
     out: &mut O,
     err: &mut E,
 ) -> u8
+    requires { C.ready commands.now }
     ensures { Ends C.next
         record { words = map string_bytes words.now; held = F.held files.old; faults_before = F.faults files.old; faults_after = F.faults files.new; out_faults_before = O.faults out.old; out_faults_after = O.faults out.new; put_before = O.told out.old; put_after = O.told out.new }
         record { faults_before = E.faults err.old; faults_after = E.faults err.new; put_before = E.told err.old; put_after = E.told err.new }
@@ -60,6 +65,7 @@ fn run<C: Commands, F: Files, O: Sink>(
     files: &mut F,
     out: &mut O,
 ) -> Result<(), Refusal>
+    requires { C.ready commands.now }
     ensures cause { CauseOf C.next record { words = map string_bytes words.now; held = F.held files.old; faults_before = F.faults files.old; faults_after = F.faults files.new; out_faults_before = O.faults out.old; out_faults_after = O.faults out.new; put_before = O.told out.old; put_after = O.told out.new } result }
     ensures memory { PutsInMemory C.next record { words = map string_bytes words.now; held = F.held files.old; faults_before = F.faults files.old; faults_after = F.faults files.new; out_faults_before = O.faults out.old; out_faults_after = O.faults out.new; put_before = O.told out.old; put_after = O.told out.new } result }
     ensures file_faults { FaultsOfFiles result (F.faults files.old) (F.faults files.new) }

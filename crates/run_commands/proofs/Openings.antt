@@ -1,15 +1,16 @@
 -- A file more is loaded and read.
-use Rattle.std.proofs.Common.{◌≡◌, ℕ, List, [], ◌∷◌, ◌++◌, Option, Result, Ok, Err, subst}
+use Rattle.std.proofs.Common.{◌≡◌, ◌≤◌, ℕ, List, length, [], ◌∷◌, ◌++◌, Option, Result, Ok, Err, subst}
+use Rattle.std.specs.Prelude.{IfOk}
 use Rattle.std.specs.declared.vec.Vec.{Vec}
 use Rattle.std.specs.declared.alloc.Global.{Global}
 use Rattle.command_ends.specs.Steps.{Step}
 use Rattle.command_ends.specs.Steps.Step.{Load, Gives, Refuses}
-use Rattle.command_ends.specs.Calls.{TextCause, CountsStay, FaultsOfFiles}
+use Rattle.command_ends.specs.Calls.{IsContent, TextCause, CountsStay, FaultsOfFiles, most_bytes}
 use Rattle.command_ends.specs.Loaded.{LoadCause}
 use Rattle.command_ends.specs.declared.refusal.Refusal.{Refusal}
 use Rattle.command_ends.specs.declared.refusal.Refusal.TheVariants as refusal
 use Rattle.command_ends.proofs.Courses.{comes-now, after-load, load-failed}
-use Rattle.run_commands.specs.Opened.{LeadsTo, Leads, IsRead, OpenCause}
+use Rattle.run_commands.specs.Opened.{LeadsTo, Leads, IsRead, IsOf, OpenCause}
 use Rattle.run_commands.specs.Made.{Makes}
 
 -- a content that was loaded and read
@@ -29,6 +30,12 @@ opened reads shown held before after name loaded (Err (refusal.History fault num
 opened reads shown held before after name loaded (Err refusal.NotVerified) cause leads = (loaded.items, cause.0, cause.1, leads)
 opened reads shown held before after name loaded (Err (refusal.NoAnswer lack)) cause leads = (loaded.items, cause.0, cause.1, leads)
 opened reads shown held before after name loaded (Err (refusal.Pieces at)) cause leads = (loaded.items, cause.0, cause.1, leads)
+
+-- what was read from a content that was loaded is the file's
+pub found-in : {A : Type 0} (Holds : A → List ℕ → Type 0) (held : Option (List ℕ)) (content read : List ℕ) (result : Result A Refusal) → read ≡ content
+    → IsContent held content → length content ≤ most_bytes → IfOk result (λ x. Holds x read) → IfOk result (λ x. IsOf held (Holds x))
+found-in Holds held content read (Ok value) same told short is = (content, told, short, subst (Holds value) same is)
+found-in Holds held content read (Err why) same told short is = tt
 
 -- reading rises no count
 pub opened-faults : {A V : Type 0} (reads : List ℕ → (V → Step) → Step) (shown : A → V) (content : List ℕ) (before after : List ℕ → ℕ)

@@ -25,6 +25,10 @@ abbrev pub IsRead : {A V : Type 0} → (List ℕ → (V → Step) → Step) → 
 IsRead reads shown held result =
     (content : List ℕ) × IsContent held content × (length content ≤ most_bytes) × Leads reads shown content result
 
+-- the file's content, which isn't too long, and of which this holds
+abbrev pub IsOf : Option (List ℕ) → (List ℕ → Type 0) → Type 0
+IsOf held Holds = (content : List ℕ) × IsContent held content × (length content ≤ most_bytes) × Holds content
+
 -- Why a file of that name gave a value, or none. Want of memory alone is free.
 abbrev pub OpenCause : {A V : Type 0} → (List ℕ → (V → Step) → Step) → (A → V) → Option (List ℕ) → ℕ → ℕ → List ℕ → Result A Refusal → Type 0
 OpenCause reads shown held before after name (Ok value) = IsRead reads shown held (Ok value)

@@ -3,7 +3,7 @@
 
 mod answering;
 mod made;
-mod opening;
+pub mod opening;
 pub mod plain;
 mod program;
 mod questions;

@@ -23,7 +23,11 @@ pub struct Program<R: Runs + Drop> {
 }
 
 impl<R: Runs + Drop> Commands for Program<R> {
+    ghost use Rattle.std.specs.Prelude.{⊤};
+
     ghost next = { NextStep R.readers };
+
+    ghost ready = { λ _. ⊤ };
 
     fn text<F: Files>(
         &self,
@@ -83,7 +87,7 @@ fn run_text<R: Runs, F: Files>(
             signature,
         } => verify(alloc, public, message, signature, files),
         Asked::Rebuild { scenario, pieces } => rebuild(alloc, runs, scenario, pieces, files),
-        // Runs in threads aren't built yet.
+        // Runs in threads are the matter of `thread_commands`.
         _ => Err(Refusal::Usage),
     }
 }

@@ -12,3 +12,7 @@ pub returns-in-Err-clause-leads : goal.returns-in-Err-clause-leads
 returns-in-Err-clause-leads c =
     leads-by c.args.content.now c.in-Err.refusal (Err c.scenario_refusal.result) (ap Err c.scenario_refusal.ensures)
     (shown-at c.args.content.now (Err c.in-Err.refusal) c.in-Err.ensures.text c.in-Err.ensures.no_text)
+
+pub returns-in-Ok-clause-found : goal.returns-in-Ok-clause-found
+returns-in-Ok-clause-found c =
+    shown-at c.args.content.now (Ok c.in-Ok.scenario) c.in-Ok.ensures.text c.in-Ok.ensures.no_text
