@@ -60,16 +60,16 @@ digest_line_back digest long are =
     ∙ digest_back digest long are
 
 -- a line before others is the first piece
-line_first : (words : List (List ℕ)) (rest : List ℕ) → list_all is_line_byte (spaced words) ≡ true → pieces (line_of words ++ rest) ≡ spaced words ∷ pieces rest
+pub line_first : (words : List (List ℕ)) (rest : List ℕ) → list_all is_line_byte (spaced words) ≡ true → pieces (line_of words ++ rest) ≡ spaced words ∷ pieces rest
 unfolding line_of
 line_first words rest all =
     ap pieces (append_assoc (spaced words) (codes "\n") rest)
     ∙ cut_at (λ b. b == 10) (spaced words) 10 rest (weaker is_line_byte (λ b. not (b == 10)) (spaced words) no_feed all) refl
 
-abbrev lines_of : List Part → List ℕ
+abbrev pub lines_of : List Part → List ℕ
 lines_of parts = flat_map (λ part. line_of (part_words part)) parts
 
-part_bytes_line : (n f : ℕ) (part : Part) → n < 2 ^ 32 → IsWritten n f part → list_all is_line_byte (spaced (part_words part)) ≡ true
+pub part_bytes_line : (n f : ℕ) (part : Part) → n < 2 ^ 32 → IsWritten n f part → list_all is_line_byte (spaced (part_words part)) ≡ true
 part_bytes_line n f part few is =
     let low : part.master < n = is.0.2.0 in
     let short : part.length ≤ 65536 = is.0.1 in

@@ -2,3 +2,4 @@ pub mod Numbered
 pub mod Shown
 pub mod Printing
 pub mod Printed
+pub mod Agreeing

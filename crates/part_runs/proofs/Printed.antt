@@ -71,7 +71,7 @@ op_bytes (op.Set point value) =
     ((omega arith), both_bytes (u32_bytes point) (i64_bytes value) (four_bytes point) (eight_bytes (cast_unsigned w64 value)))
 op_bytes (op.Ack alarm) = ((omega arith), four_bytes alarm)
 
-update_bytes : (u : Update) → AreBytes (update_text u)
+pub update_bytes : (u : Update) → AreBytes (update_text u)
 update_bytes u =
     both_bytes ((u16_bytes 1 ++ u32_bytes u.client) ++ u64_bytes u.t) (op_text u.op)
     (both_bytes (u16_bytes 1 ++ u32_bytes u.client) (u64_bytes u.t)
@@ -82,7 +82,7 @@ unfolding digest_bytes
 words_bytes h zero = tt
 words_bytes h (suc n) = both_bytes (digest_bytes h n) (to_be_bytes w32 (slice_index h n)) (words_bytes h n) (field_bytes 4 (slice_index h n))
 
-digest_are_bytes : (m : List ℕ) → AreBytes (sha256 m)
+pub digest_are_bytes : (m : List ℕ) → AreBytes (sha256 m)
 unfolding sha256
 digest_are_bytes m = words_bytes (final_hash initial_hash_256 m) 8
 
@@ -98,7 +98,7 @@ rise_more : (least n : ℕ) (parts : List Part) (part : Part) → RiseFrom least
 rise_more least n [] part rise low before is = (omega arith, tt)
 rise_more least n (p ∷ parts) part rise low before is = (rise.0, rise_more (p.master + 1) n parts part rise.1 low.1 (let under = low.0 in omega (arith, under)) is)
 
-all_more : (P : Part → Type 0) (parts : List Part) (part : Part) → AllByRecursion P parts → P part → AllByRecursion P (parts ++ part ∷ [])
+pub all_more : (P : Part → Type 0) (parts : List Part) (part : Part) → AllByRecursion P parts → P part → AllByRecursion P (parts ++ part ∷ [])
 all_more P [] part are is = (is, tt)
 all_more P (p ∷ parts) part are is = (are.0, all_more P parts part are.1 is)
 
@@ -135,7 +135,7 @@ of_master f n digest parts (Some u) are = by (bytes_eq (digest_of_update u) dige
     by true is = one_more f n digest parts u are ((bytes_eq-Decides (digest_of_update u) digest).0 is)
     by false other = one_less f n digest parts are
 
-are_of : (f n : ℕ) (digest : List ℕ) (found : ℕ → Option Update) → AreOf f n digest (flat_map (λ master. part_if f digest master (found master)) (numbers_below n))
+pub are_of : (f n : ℕ) (digest : List ℕ) (found : ℕ → Option Update) → AreOf f n digest (flat_map (λ master. part_if f digest master (found master)) (numbers_below n))
 unfolding numbers_below
 are_of f zero digest found = record { rise = tt; low = tt; own = tt }
 are_of f (suc n) digest found =
@@ -146,7 +146,7 @@ are_of f (suc n) digest found =
 
 -- ---- They are read again.
 
-written : (f n : ℕ) (digest : List ℕ) (parts : List Part) → AllByRecursion (λ (part : Part). part.master < n) parts → AllByRecursion (IsOfDigest f digest) parts
+pub written : (f n : ℕ) (digest : List ℕ) (parts : List Part) → AllByRecursion (λ (part : Part). part.master < n) parts → AllByRecursion (IsOfDigest f digest) parts
     → AllByRecursion (IsWritten n f) parts
 written f n digest [] low own = tt
 written f n digest (p ∷ parts) low own =

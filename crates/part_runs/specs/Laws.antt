@@ -1,14 +1,20 @@
 -- What holds of the text of parts of a request. (This project's own.)
-use Rattle.std.specs.Prelude.{◌≡◌, ◌≤◌, ℕ, List, length, Some, Ok}
-use Rattle.std.specs.List.{AllByRecursion}
+use Rattle.std.specs.Prelude.{◌≡◌, ◌<◌, ◌≤◌, ℕ, not, List, length, filter, take, drop, Some, Ok}
+use Rattle.std.specs.List.{AllByRecursion, list_any}
+use Rattle.std.specs.Str.{bytes_eq}
 use Rattle.sha2.specs.Sha256.{sha256}
 use Rattle.quorum_sets.specs.Quorum.{IsGroup}
 use Rattle.scenario_file.specs.Reading.{Contents}
+use Rattle.scenario_file.specs.Valid.{IsScenario}
 use Rattle.history_rules.specs.Events.{Entry}
+use Rattle.history_rules.specs.Legal.{IsLegal}
+use Rattle.world_rules.specs.Headline.{Premises}
+use Rattle.world_rules.specs.Scenarios.{setup_of}
+use Rattle.run_lines.specs.Runs.{pieces, is_empty}
 use Rattle.parity_parts.specs.declared.part.Part.{Part}
 use Rattle.parity_parts.specs.Parts.{AreBytes}
 use Rattle.part_lines.specs.declared.told.Told.{Told}
-use Rattle.part_lines.specs.Laws.{RiseFrom, own_part}
+use Rattle.part_lines.specs.Laws.{RiseFrom, IsRebuilt, own_part}
 use Rattle.part_lines.specs.Rebuilding.{told_for}
 use Rattle.part_lines.specs.Texts.{parts_text}
 use Rattle.part_runs.specs.Parts.{parts_in}
@@ -35,3 +41,20 @@ abbrev pub PartsArePrinted : Type 0
 PartsArePrinted =
     (c : Contents) (history : List Entry) (j k : ℕ) (printed : List ℕ) → IsGroup c.settings.f c.settings.k
     → parts_in c history j k ≡ Some printed → ArePrinted c printed
+
+-- the lines of a text of parts behind its first
+abbrev pub lines_behind : List ℕ → List (List ℕ)
+lines_behind bytes = filter (λ line. not (is_empty line)) (drop 1 (pieces bytes))
+
+-- The first line of a text of parts is that of the printed one, and at least f + 1 of its other lines stand in the printed one.
+pub record HasPrintedLines (c : Contents) (printed bytes : List ℕ) : Type 0 where
+  pub first : take 1 (pieces bytes) ≡ take 1 (pieces printed)
+  pub enough : c.settings.f < length (filter (λ line. list_any (bytes_eq line) (lines_behind printed)) (lines_behind bytes))
+
+-- In a legal history, while at most f masters are intruded, no word is forged and no digest is shared: from any f + 1 of the
+-- lines that are printed for a request, whatever the other lines are, a text of the printed digest is rebuilt.
+abbrev pub PrintedLinesRebuild : Type 0
+PrintedLinesRebuild =
+    (c : Contents) (history : List Entry) (j k : ℕ) (printed bytes : List ℕ) (told : Told) → IsScenario c → IsLegal (setup_of c) history
+    → Premises (setup_of c) history → parts_in c history j k ≡ Some printed → told_for c bytes ≡ Ok told → HasPrintedLines c printed bytes
+    → IsRebuilt c bytes told

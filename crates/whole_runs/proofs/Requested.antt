@@ -8,7 +8,7 @@ use Rattle.part_lines.specs.Rebuilding.{told_for, rebuilt_in}
 use Rattle.part_lines.specs.Texts.{rebuilt_lines}
 use Rattle.part_lines.specs.declared.fault.RebuildFault.{RebuildFault}
 use Rattle.part_lines.specs.declared.told.Told.{Told}
-use Rattle.part_runs.specs.Laws.{PartsArePrinted}
+use Rattle.part_runs.specs.Laws.{PartsArePrinted, PrintedLinesRebuild}
 use Rattle.part_runs.specs.Parts.{parts_in}
 use Rattle.command_ends.specs.Calls.{Call}
 use Rattle.command_ends.specs.Ended.{ErrorSink}
@@ -25,8 +25,8 @@ certified_of : (told : Option (List ℕ)) (text : List ℕ) → certified_or_lac
 certified_of (Some made) text is = let same : made ≡ text = cc in ap Some same
 certified_of None text is = absurd (cc)
 
-prints : PartsArePrinted → (call : Call) (j k : ℕ) → Answered whole_runs call (question.Parts j k) → PrintsParts call j k
-prints law call j k a =
+prints : PartsArePrinted → PrintedLinesRebuild → (call : Call) (j k : ℕ) → Answered whole_runs call (question.Parts j k) → PrintsParts call j k
+prints law from_lines call j k a =
     let defined = certified_of (parts_in a.scenario a.history j k) a.text a.answered in
     record {
       scenario = a.scenario;
@@ -36,11 +36,12 @@ prints law call j k a =
       put = a.put;
       defined = defined;
       are_parts = law a.scenario a.history j k a.text a.spells.valid.group defined;
+      rebuild = λ premises bytes told tells has. from_lines a.scenario a.history j k a.text bytes told a.spells.valid a.spells.legal premises defined tells has;
     }
 
 -- which parts each call of `parts` puts that ends well
-pub keeps_parts : PartsArePrinted → (call : Call) (err : ErrorSink) (status : ℕ) → KeepsAnswers whole_runs call err status → KeepsParts call status
-keeps_parts law call err status keeps zero j k asked = prints law call j k (keeps.answers zero (question.Parts j k) asked)
+pub keeps_parts : PartsArePrinted → PrintedLinesRebuild → (call : Call) (err : ErrorSink) (status : ℕ) → KeepsAnswers whole_runs call err status → KeepsParts call status
+keeps_parts law from_lines call err status keeps zero j k asked = prints law from_lines call j k (keeps.answers zero (question.Parts j k) asked)
 
 -- ---- A request from its parts.
 

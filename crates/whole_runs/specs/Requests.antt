@@ -1,6 +1,8 @@
 -- What a call of `parts` puts that ends well: the digest of an update that a correct master has certified in one legal history,
--- and masters' parts of texts of that digest, in the form that `rebuild` reads. From any f + 1 of these lines, beside whatever lines for other masters, a call of
--- `rebuild` puts a text of the digest and names exactly the masters whose parts aren't that text's; it never ends for want of one.
+-- and masters' parts of texts of that digest, in the form that `rebuild` reads. Where the headline's premises hold, any f + 1 of
+-- these lines rebuild a text of the digest, whatever the other lines are. Of lines with parts of one text of the digest, f + 1
+-- suffice for a call of `rebuild` without any premise: it puts a text of the digest and names exactly the masters whose parts
+-- aren't that text's, and never ends for want of one.
 use Rattle.std.specs.Prelude.{◌≡◌, ◌≤◌, ℕ, List, Option, Some, Ok, length}
 use Rattle.outside.specs.Piece.{with_piece}
 use Rattle.sha2.specs.Sha256.{sha256}
@@ -8,11 +10,13 @@ use Rattle.scenario_file.specs.Reading.{Contents}
 use Rattle.history_rules.specs.Events.{Entry}
 use Rattle.parity_parts.specs.Parts.{AreBytes}
 use Rattle.parity_parts.specs.Rebuilding.{wrong_masters}
-use Rattle.part_lines.specs.Laws.{HasEnoughLines}
+use Rattle.world_rules.specs.Headline.{Premises}
+use Rattle.world_rules.specs.Scenarios.{setup_of}
+use Rattle.part_lines.specs.Laws.{HasEnoughLines, IsRebuilt}
 use Rattle.part_lines.specs.Rebuilding.{told_for}
 use Rattle.part_lines.specs.Texts.{rebuilt_lines}
 use Rattle.part_lines.specs.declared.told.Told.{Told}
-use Rattle.part_runs.specs.Laws.{ArePrinted}
+use Rattle.part_runs.specs.Laws.{ArePrinted, HasPrintedLines}
 use Rattle.part_runs.specs.Parts.{parts_in}
 use Rattle.command_words.specs.Wanted.{rebuild, wanted_in}
 use Rattle.command_ends.specs.Calls.{Call}
@@ -28,6 +32,8 @@ pub record PrintsParts (call : Call) (originator number : ℕ) : Type 0 where
   pub put : call.put_after ≡ with_piece call.put_before printed
   pub defined : parts_in scenario history originator number ≡ Some printed
   pub are_parts : ArePrinted scenario printed
+  pub rebuild : Premises (setup_of scenario) history → (bytes : List ℕ) (told : Told) → told_for scenario bytes ≡ Ok told
+      → HasPrintedLines scenario printed bytes → IsRebuilt scenario bytes told
 
 -- Each call of `parts` that ends well.
 abbrev pub KeepsParts : Call → ℕ → Type 0

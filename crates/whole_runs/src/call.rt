@@ -13,7 +13,7 @@ use crate::runs::WholeRuns;
 use blame_runs::laws::{blamed_are_proved, correct_are_not_blamed, quorums_are_blamed};
 use outside::{Files, Sink};
 use part_lines::laws::enough_lines_rebuild;
-use part_runs::laws::parts_are_printed;
+use part_runs::laws::{parts_are_printed, printed_lines_rebuild};
 use run_commands::Program;
 use run_commands::plain::plain;
 use std::alloc::Global;
@@ -62,6 +62,7 @@ pub fn spire<F: Files, O: Sink, E: Sink>(
     prints_the_changes_of_all();
     always_matches();
     parts_are_printed();
+    printed_lines_rebuild();
     enough_lines_rebuild();
     let program = Program { runs: WholeRuns };
     plain(alloc, &program, words, files, out, err)

@@ -72,7 +72,7 @@ returns-clause-parts g c =
       put_before = g.E.Sink.told c.args.err.now;
       put_after = g.E.Sink.told c.plain.new.err;
     } in
-    keeps_parts c.parts_are_printed.ensures call err c.plain.result c.plain.ensures.answers
+    keeps_parts c.parts_are_printed.ensures c.printed_lines_rebuild.ensures call err c.plain.result c.plain.ensures.answers
 
 pub returns-clause-rebuild : goal.returns-clause-rebuild
 returns-clause-rebuild g c =
