@@ -1,6 +1,9 @@
-//! Tests of histories at work: benches, actors with their keepers, and what an intruded master is made to say.
+//! Tests of histories at work: benches, actors with their keepers, what an intruded master is made to say, and plays: where a
+//! script stops, what masters say at its end, what a restart posts again, and keys that are spent.
 #![tactic(auto)]
 
+#[cfg(test)]
+mod asking;
 #[cfg(test)]
 mod benches;
 #[cfg(test)]
@@ -9,3 +12,11 @@ mod by_hand;
 mod common;
 #[cfg(test)]
 mod kept;
+#[cfg(test)]
+mod plays;
+#[cfg(test)]
+mod scripts;
+#[cfg(test)]
+mod spent;
+#[cfg(test)]
+mod taking_over;

@@ -64,7 +64,7 @@ pub(crate) struct Ending {
 }
 
 /// The words of a command in one line.
-fn words_of(alloc: Global, line: &str) -> Result<Vec<String>, Fail> {
+pub(crate) fn words_of(alloc: Global, line: &str) -> Result<Vec<String>, Fail> {
     let mut words = Vec::new(alloc);
     for word in line.split(' ') {
         words.push(String::from_str(alloc, word)?)?;

@@ -1,5 +1,5 @@
 //! Small plays.
-use crate::common::{last_of, last_said, played};
+use crate::scripts::{last_of, last_said, played};
 use kept_lists::Kept;
 use message_types::Body;
 use script_plays::PlayAnswer;

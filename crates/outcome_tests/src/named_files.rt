@@ -1,4 +1,5 @@
 //! Calls of the program over files in memory.
+use crate::calls::words_of;
 use outside::{MemoryFiles, MemorySink};
 use std::alloc::Global;
 use std::test::Fail;
@@ -14,15 +15,6 @@ pub struct Ending {
 
 /// A file's name and content.
 pub type File<'a> = (&'a str, &'a [u8]);
-
-/// The words of a command in one line.
-fn words_of(alloc: Global, line: &str) -> Result<Vec<String>, Fail> {
-    let mut words = Vec::new(alloc);
-    for word in line.split(' ') {
-        words.push(String::from_str(alloc, word)?)?;
-    }
-    Ok(words)
-}
 
 /// Runs a command over files.
 pub fn call(alloc: Global, line: &str, files: &[File<'_>]) -> Result<Ending, Fail> {

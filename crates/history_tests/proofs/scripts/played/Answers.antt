@@ -1,5 +1,5 @@
 use Rattle.scenario_file.specs.Reading.{contents}
-use Rattle.script_tests.proofs.common.played.Goals as goal
+use Rattle.history_tests.proofs.scripts.played.Goals as goal
 
 pub play-requires-clause-lines : goal.play-requires-clause-lines
 play-requires-clause-lines c =

@@ -1,5 +1,5 @@
 //! What a new view takes over.
-use crate::common::played;
+use crate::scripts::played;
 use kept_lists::Kept;
 use message_types::{Body, NewView};
 use std::alloc::Global;

@@ -1,6 +1,6 @@
 //! Keys of 32 leaves, each for one signature, that are spent: their actors go on and say nothing more.
 use crate::asking::executed;
-use crate::common::{last_of, played};
+use crate::scripts::{last_of, played};
 use kept_lists::Kept;
 use std::alloc::Global;
 use std::test::Fail;

@@ -1,4 +1,4 @@
-use crate::calls::{call, play};
+use crate::named_files::{call, play};
 use std::test::Fail;
 
 /// Four masters and a screen. Each has 32 one-time keys.

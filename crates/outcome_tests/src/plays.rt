@@ -1,3 +1,4 @@
+use crate::calls::words_of;
 use outside::{MemoryFiles, MemorySink};
 use std::alloc::Global;
 use std::test::Fail;
@@ -33,15 +34,6 @@ fn add_file(
         Vec::from_slice(alloc, content)?,
     ))?;
     Ok(())
-}
-
-/// The words of a command in one line.
-fn words_of(alloc: Global, line: &str) -> Result<Vec<String>, Fail> {
-    let mut words = Vec::new(alloc);
-    for word in line.split(' ') {
-        words.push(String::from_str(alloc, word)?)?;
-    }
-    Ok(words)
 }
 
 /// Runs a command over the scenario, the script, no words and a history, where one load fails (0: none) and one put.

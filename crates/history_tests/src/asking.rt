@@ -1,5 +1,5 @@
 //! What masters say once they know how slow they are, and what they ask others for.
-use crate::common::{last_of, last_said, played};
+use crate::scripts::{last_of, last_said, played};
 use kept_lists::Kept;
 use message_types::Body;
 use std::test::Fail;
