@@ -1,7 +1,7 @@
 -- Nothing is played, so all that is keeps to the rules.
 use Rattle.std.proofs.Common.{◌≡◌, Result, Ok, Err}
 use Rattle.run_commands.specs.Readers.{Keeps}
-use Rattle.command_tests.specs.Unplayed.{unplayed}
+use Rattle.text_tests.specs.Unplayed.{unplayed}
 
 none : {A E B : Type 0} (e : E) (x : A) → (let answer : Result A E = Err e in answer ≡ Ok x) → B
 none e x is = absurd (cc)

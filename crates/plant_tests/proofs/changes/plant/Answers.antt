@@ -1,6 +1,6 @@
 use Rattle.std.proofs.Common.{sym, subst, ap, arith, length}
 use Rattle.master_points.specs.Orders.{AreOwned}
-use Rattle.trend_tests.proofs.changes.plant.Goals as goal
+use Rattle.plant_tests.proofs.changes.plant.Goals as goal
 
 pub returns : goal.returns
 returns c = record {

@@ -9,7 +9,7 @@ use std::alloc::Global;
 pub struct Unplayed;
 
 impl Runs for Unplayed {
-    ghost use Rattle.command_tests.specs.Unplayed.{unplayed};
+    ghost use Rattle.text_tests.specs.Unplayed.{unplayed};
 
     ghost readers = { unplayed };
 

@@ -2,7 +2,7 @@ use Rattle.std.proofs.Common.{ℕ, List, ap}
 use Rattle.message_types.specs.declared.updates.Op.TheVariants as op
 use Rattle.message_types.specs.declared.body.Body.TheVariants as body
 use Rattle.message_types.specs.Spelling.{has_spelling}
-use Rattle.word_tests.proofs.overheard.update.Goals as goal
+use Rattle.text_tests.proofs.overheard.update.Goals as goal
 
 pub returns : goal.returns
 unfolding has_spelling
