@@ -1,6 +1,6 @@
 use Rattle.std.proofs.Common.{◌≤◌}
 use Rattle.inboxes.specs.Passes.{IsPassOf}
-use Rattle.inbox_tests.proofs.handing.take_all.Given as goal
+use Rattle.thread_tests.proofs.handing.take_all.Given as goal
 
 abbrev pub invariant-loop : goal.invariant-loop
 invariant-loop g l = IsPassOf l.inbox l.pass × (l.next ≤ 1000)

@@ -1,0 +1,69 @@
+//! Two masters that wait for each other inside their turns. One thread for all hands, or one lock round all actors, can't do that.
+use crate::runs::{run_small, turns_made};
+use crate::waiting::reaches;
+use run_hands::Gate;
+use std::sync::Wait;
+use std::sync::atomic::{AtomicU64, Ordering};
+use std::test::Fail;
+use std::thread::Threads;
+
+/// Masters 1 and 2 wait for each other, each under its lock at its first turn.
+struct Meeting {
+    first: AtomicU64,
+    second: AtomicU64,
+    /// How many of them saw the other there.
+    met: AtomicU64,
+}
+
+impl Drop for Meeting {
+    fn drop(self) {
+        let Meeting {
+            first: _,
+            second: _,
+            met: _,
+        } = self;
+    }
+}
+
+impl Meeting {
+    fn make() -> Meeting {
+        Meeting {
+            first: AtomicU64::new(0),
+            second: AtomicU64::new(0),
+            met: AtomicU64::new(0),
+        }
+    }
+
+    /// Whether both waited, and neither gave up.
+    fn have_met(&self) -> bool {
+        self.met.load(Ordering::SeqCst) == 2
+    }
+
+    fn meet(&self, mine: &AtomicU64, other: &AtomicU64) {
+        mine.store(1, Ordering::SeqCst);
+        if reaches(other, 1) {
+            self.met.fetch_add(1, Ordering::SeqCst);
+        }
+    }
+}
+
+impl Gate for Meeting {
+    fn pass<R: Threads + Wait>(&self, _rt: &R, _who: u32, _turn: u64) {}
+
+    fn inside<R: Threads + Wait>(&self, _rt: &R, who: u32, turn: u64) {
+        match (who, turn) {
+            (1, 1) => self.meet(&self.first, &self.second),
+            (2, 1) => self.meet(&self.second, &self.first),
+            _ => {}
+        }
+    }
+}
+
+#[test]
+fn two_masters_can_wait_for_each_other(rt: HostRuntime) -> Result<(), Fail> {
+    let gate = Meeting::make();
+    let actors = run_small(rt.alloc(), &rt, "", 1, 8, &gate)?;
+    assert_eq!(rt; turns_made(&actors), 40);
+    assert!(rt; gate.have_met());
+    Ok(())
+}
