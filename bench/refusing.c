@@ -3,7 +3,10 @@
    the same allocation granted. So a run of the program tries every refusal, and each costs only what comes after it.
 
    WHOLE names a file with the text that the program prints, OUT the file that its standard output goes to, ROOM a folder, and
-   REPORT a file for the counts. Allocations FIRST, FIRST + STEP, .. are refused; where FROM_THERE is set, with all that follow. */
+   REPORT a file for the counts. Allocations FIRST, FIRST + STEP, .. are refused; where FROM_THERE is set, with all that follow.
+
+   A program with threads can't be looked at so, since a fork has one thread. Where ALONE is set nothing forks: the process's own
+   allocation of that number is refused, counted over all its threads, and REPORT gets their count alone. */
 #define _GNU_SOURCE
 #include <fcntl.h>
 #include <stdio.h>
@@ -11,6 +14,7 @@
 #include <string.h>
 #include <sys/mman.h>
 #include <sys/stat.h>
+#include <sys/syscall.h>
 #include <sys/wait.h>
 #include <unistd.h>
 
@@ -22,19 +26,21 @@ extern void *__libc_memalign(size_t, size_t);
 static const char MEMORY[] = "spire: memory\n";
 enum { SEVEN_NOTHING, SEVEN_PART, SEVEN_WHOLE, ZERO_WHOLE, OTHER, ENDS };
 static unsigned long ends[ENDS], reached, others[8];
-static unsigned long first, step;
+static unsigned long first, step, alone;
 static int is_ready, is_child, from_there;
 static char *whole;
 static size_t whole_size;
 static char told_name[512], text_name[512];
 
 __attribute__((constructor)) static void begin(void) {
-    const char *words = getenv("STEP");
+    const char *words = getenv("STEP"), *number = getenv("ALONE");
+    from_there = getenv("FROM_THERE") != NULL;
+    if (number)
+        alone = strtoul(number, NULL, 10);
     if (!words)
         return;
     first = strtoul(getenv("FIRST"), NULL, 10);
     step = strtoul(words, NULL, 10);
-    from_there = getenv("FROM_THERE") != NULL;
     int file = open(getenv("WHOLE"), O_RDONLY);
     struct stat found;
     fstat(file, &found);
@@ -99,6 +105,10 @@ static int end_of(int status) {
 }
 
 static int is_refused(void) {
+    if (alone) {
+        unsigned long number = __atomic_add_fetch(&reached, 1, __ATOMIC_SEQ_CST);
+        return number == alone || (from_there && number > alone);
+    }
     if (!is_ready)
         return 0;
     if (is_child)
@@ -122,7 +132,7 @@ static int is_refused(void) {
 }
 
 __attribute__((destructor)) static void report(void) {
-    if (!is_ready || is_child)
+    if ((!is_ready && !alone) || is_child)
         return;
     char line[512];
     int size = snprintf(line, sizeof line, "%lu %lu %lu %lu %lu %lu", reached, ends[SEVEN_NOTHING], ends[SEVEN_PART],
@@ -133,6 +143,13 @@ __attribute__((destructor)) static void report(void) {
     if (write(file, line, (size_t)size) != size)
         _exit(99);
     close(file);
+}
+
+/* A program that may start threads ends without its destructors. */
+void _exit(int status) {
+    report();
+    syscall(SYS_exit_group, status);
+    __builtin_unreachable();
 }
 
 void *malloc(size_t size) {

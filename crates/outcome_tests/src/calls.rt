@@ -85,7 +85,8 @@ fn add_file(
     Ok(())
 }
 
-fn files_of(alloc: Global, given: Given<'_>) -> Result<Vec<(String, Vec<u8>)>, Fail> {
+/// The files of a call.
+pub(crate) fn files_of(alloc: Global, given: Given<'_>) -> Result<Vec<(String, Vec<u8>)>, Fail> {
     let mut scenario = String::from_str(alloc, BEGINNING)?;
     scenario.push_str(given.keys)?;
     let mut files = Vec::new(alloc);
@@ -96,7 +97,7 @@ fn files_of(alloc: Global, given: Given<'_>) -> Result<Vec<(String, Vec<u8>)>, F
     Ok(files)
 }
 
-fn text_of(alloc: Global, bytes: &[u8]) -> Result<String, Fail> {
+pub(crate) fn text_of(alloc: Global, bytes: &[u8]) -> Result<String, Fail> {
     match std::str::from_utf8(bytes) {
         Ok(text) => Ok(String::from_str(alloc, text)?),
         Err(_) => Err("no text".into()),

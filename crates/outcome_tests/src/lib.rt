@@ -1,4 +1,4 @@
-//! Tests of what whole calls of the program come to, over files and output in memory: plays, replays of altered texts, what is
+//! Tests of what whole calls of the program come to, over files and output in memory: plays, a run in threads, replays of altered texts, what is
 //! asked over them, frames that are cried as bytes, refusals, and files and outputs that fail; beside them texts of parts, and
 //! made runs against those of a reference program. The texts of further plays stand in `demo/cases`.
 #![tactic(auto)]
@@ -27,3 +27,5 @@ mod rebuilt_parts;
 mod refused;
 #[cfg(test)]
 mod replayed;
+#[cfg(test)]
+mod runs;

@@ -47,19 +47,6 @@ fn a_scenario_is_refused_by_key(rt: HostRuntime) -> Result<(), Fail> {
     Ok(())
 }
 
-#[test]
-fn hands_beyond_four_are_no_command(rt: HostRuntime) -> Result<(), Fail> {
-    let ending = ended(
-        rt.alloc(),
-        "run a b c --hands 5 --turns 9",
-        NOTHING,
-        NONE_FAILS,
-    )?;
-    assert_eq!(rt; ending.status, 2);
-    assert_eq!(rt; ending.line.as_str(), "spire: usage\n");
-    Ok(())
-}
-
 /// A script of one byte more than a file may have.
 fn long_script(alloc: Global) -> Result<String, Fail> {
     let mut kilobyte = String::new(alloc);

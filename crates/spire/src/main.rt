@@ -5,7 +5,7 @@ use command_ends::no_words::{NoWords, spire_without_words};
 use outside::{RealErr, RealFiles, RealOut};
 use std::process::ExitCode;
 use std::{env, io};
-use whole_runs::call::spire;
+use thread_commands::call::spire;
 
 fn main(rt: HostRuntime) -> ExitCode {
     let alloc = rt.alloc();
@@ -14,7 +14,7 @@ fn main(rt: HostRuntime) -> ExitCode {
         Ok(words) => {
             let mut files = RealFiles::make(alloc, &rt);
             let mut out = RealOut::make(io::writer(&rt));
-            spire(alloc, words.as_slice(), &mut files, &mut out, &mut err)
+            spire(&rt, alloc, words.as_slice(), &mut files, &mut out, &mut err)
         }
         Err(why) => spire_without_words(alloc, why, &mut err),
     };

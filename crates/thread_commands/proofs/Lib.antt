@@ -1,0 +1,6 @@
+mod Ends
+mod Alike
+mod Files
+mod Asked
+mod Headlines
+mod Whole

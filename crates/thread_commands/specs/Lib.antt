@@ -1,0 +1,4 @@
+pub mod Asked
+pub mod Course
+pub mod Complete
+pub mod Headline
