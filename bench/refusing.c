@@ -8,6 +8,7 @@
    A program with threads can't be looked at so, since a fork has one thread. Where ALONE is set nothing forks: the process's own
    allocation of that number is refused, counted over all its threads, and REPORT gets their count alone. */
 #define _GNU_SOURCE
+#include <errno.h>
 #include <fcntl.h>
 #include <stdio.h>
 #include <stdlib.h>
@@ -152,20 +153,26 @@ void _exit(int status) {
     __builtin_unreachable();
 }
 
+/* What a refusal says, as malloc does: the C library's pthread_create looks for it. */
+static void *nothing(void) {
+    errno = ENOMEM;
+    return NULL;
+}
+
 void *malloc(size_t size) {
-    return is_refused() ? NULL : __libc_malloc(size);
+    return is_refused() ? nothing() : __libc_malloc(size);
 }
 
 void *calloc(size_t count, size_t size) {
-    return is_refused() ? NULL : __libc_calloc(count, size);
+    return is_refused() ? nothing() : __libc_calloc(count, size);
 }
 
 void *realloc(void *old, size_t size) {
-    return is_refused() ? NULL : __libc_realloc(old, size);
+    return is_refused() ? nothing() : __libc_realloc(old, size);
 }
 
 void *aligned_alloc(size_t alignment, size_t size) {
-    return is_refused() ? NULL : __libc_memalign(alignment, size);
+    return is_refused() ? nothing() : __libc_memalign(alignment, size);
 }
 
 int posix_memalign(void **made, size_t alignment, size_t size) {
