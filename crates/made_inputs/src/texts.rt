@@ -280,9 +280,47 @@ fn kept_of(draws: &mut Draws) -> u32
     }
 }
 
+// Lines that no printed text begins with.
+const ODD_HEADS: [&str; 7] = [
+    "spire %n",
+    "spire",
+    "spire 1 ",
+    "spire 01",
+    "%a 1",
+    "history %n",
+    "",
+];
+
+// Lines that tell no count of entries.
+const ODD_COUNTS: [&str; 7] = [
+    "history",
+    "history 0%d",
+    "history  %d",
+    "history %d ",
+    "history %k",
+    "history 4294967296",
+    "histories %d",
+];
+
+// What stands before the entries of a text, each third time or so with an odd line.
+fn put_head(draws: &mut Draws, text: &mut String, count: u32) -> Result<()> {
+    if draws.one_in(6) {
+        let line = draws.pick(&ODD_HEADS);
+        put_line(draws, text, line)?;
+    } else {
+        text.push_str("spire 1\n")?;
+    }
+    text.push_str("agree yes\n")?;
+    if draws.one_in(6) {
+        let line = draws.pick(&ODD_COUNTS);
+        return put_line(draws, text, line);
+    }
+    Ok(write!(text, "history {count}\n")?)
+}
+
 /// A history that begins with some of these entries and mostly has others behind them, each second time with an odd line too.
 pub fn history(alloc: Global, draws: &mut Draws, entries: &str) -> Result<String> {
-    let mut text = String::from_str(alloc, "spire 1\nagree yes\n")?;
+    let mut text = String::new(alloc);
     let kept = kept_of(draws);
     let others = draws.below(3);
     let told = if draws.one_in(8) {
@@ -290,7 +328,7 @@ pub fn history(alloc: Global, draws: &mut Draws, entries: &str) -> Result<String
     } else {
         kept + others
     };
-    write!(text, "history {told}\n")?;
+    put_head(draws, &mut text, told)?;
     for line in entries.lines().take(kept as usize) {
         text.push_str(line)?;
         text.push('\n')?;
