@@ -10,16 +10,21 @@ use Rattle.agreement.specs.Laws.{Start, ViewInduction}
 use Rattle.agreement.proofs.Planned.{planned_at}
 
 module _ (g : Group) (v s : ℕ) (digest : List ℕ) (certificates : List Certificate) (starts : List Start)
-    (below : (p : Start) (c : Certificate) → IsIn p starts → IsIn c (certificates_of p.reports) → (c.v < p.v) × IsIn c certificates)
+    (below : (p : Start) (c : Certificate) → IsIn p starts → IsIn c (certificates_of p.reports) →
+    (c.v < p.v) × IsIn c certificates)
     (first : (c : Certificate) → IsIn c certificates → c.s ≡ s → c.v ≡ v → digest_of_rows c.rows ≡ digest)
     (later : (c : Certificate) → IsIn c certificates → c.s ≡ s → v < c.v
-    → (p : Start) × IsIn p starts × (p.v ≡ c.v) × (base_of p.reports < s) × (digest_of_rows c.rows ≡ digest_of_rows (planned g p.reports s)))
-    (kept : (p : Start) → IsIn p starts → v < p.v → (s ≤ base_of p.reports) ⊎ ((c : Certificate) × IsIn c (certificates_of p.reports) × (c.s ≡ s) × (v ≤ c.v))) where
-  in_view : (bound : ℕ) (c : Certificate) → c.v < bound → IsIn c certificates → c.s ≡ s → v ≤ c.v → digest_of_rows c.rows ≡ digest
+    → (p : Start) × IsIn p starts × (p.v ≡ c.v) × (base_of p.reports < s)
+    × (digest_of_rows c.rows ≡ digest_of_rows (planned g p.reports s)))
+    (kept : (p : Start) → IsIn p starts → v < p.v → (s ≤ base_of p.reports)
+    ⊎ ((c : Certificate) × IsIn c (certificates_of p.reports) × (c.s ≡ s) × (v ≤ c.v))) where
+  in_view : (bound : ℕ) (c : Certificate) → c.v < bound → IsIn c certificates → c.s ≡ s → v ≤ c.v →
+      digest_of_rows c.rows ≡ digest
   in_view zero c lt h at le = absurd (omega arith)
   in_view (suc bound) c lt h at le = by_view (cases_lt v c.v) (λ d less. in_view bound d less)
     where
-      by_view : (v < c.v) ⊎ (c.v ≤ v) → ((d : Certificate) → d.v < bound → IsIn d certificates → d.s ≡ s → v ≤ d.v → digest_of_rows d.rows ≡ digest) → digest_of_rows c.rows ≡ digest
+      by_view : (v < c.v) ⊎ (c.v ≤ v) → ((d : Certificate) → d.v < bound → IsIn d certificates → d.s ≡ s → v ≤ d.v →
+          digest_of_rows d.rows ≡ digest) → digest_of_rows c.rows ≡ digest
       by_view (inr same) deeper = first c h at (omega arith)
       by_view (inl higher) deeper =
           let start = later c h at higher in
@@ -36,4 +41,5 @@ module _ (g : Group) (v s : ℕ) (digest : List ℕ) (certificates : List Certif
           ]
 
 pub view_induction : ViewInduction
-view_induction g v s digest certificates starts below first later kept c h at le = in_view g v s digest certificates starts below first later kept (suc c.v) c (omega arith) h at le
+view_induction g v s digest certificates starts below first later kept c h at le =
+    in_view g v s digest certificates starts below first later kept (suc c.v) c (omega arith) h at le

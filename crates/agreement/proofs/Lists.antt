@@ -1,5 +1,6 @@
 -- What is in a list: joined, mapped, filtered and found.
-use Rattle.std.proofs.Common.{◌≡◌, ℕ, zero, suc, Bool, true, false, cond, List, [], ◌∷◌, ◌++◌, filter, map, take, length, refl, sym, ◌∙◌, ap, subst, inl, inr, ◌⊎◌, append_assoc, Option, Some, None}
+use Rattle.std.proofs.Common.{◌≡◌, ℕ, zero, suc, Bool, true, false, cond, List, [], ◌∷◌, ◌++◌, filter, map, take}
+use Rattle.std.proofs.Common.{length, refl, sym, ◌∙◌, ap, subst, inl, inr, ◌⊎◌, append_assoc, Option, Some, None}
 use Rattle.std.specs.Prelude.{slice_get}
 use Rattle.std.specs.List.{list_any, list_all, find, filter_map, flat_map, cons_option}
 use Rattle.std.proofs.lemmas.Bool.{false≢true, or_cases, or_left, or_right, and_parts}
@@ -49,7 +50,8 @@ each_one P x p y h = elim (in_cons_cases h) [ inl e ↦ subst P (sym e) p | inr 
 pub each_append : {X : Type 0} (P : X → Type 0) (xs ys : List X) → Each P xs → Each P ys → Each P (xs ++ ys)
 each_append P xs ys p q x h = elim (in_cases xs h) [ inl k ↦ p x k | inr k ↦ q x k ]
 
-pub each_if : {X : Type 0} (P : X → Type 0) (b : Bool) (xs ys : List X) → (b ≡ true → Each P xs) → (b ≡ false → Each P ys) → Each P (cond b xs ys)
+pub each_if : {X : Type 0} (P : X → Type 0) (b : Bool) (xs ys : List X) → (b ≡ true → Each P xs) →
+    (b ≡ false → Each P ys) → Each P (cond b xs ys)
 each_if P true xs ys p q = p refl
 each_if P false xs ys p q = q refl
 
@@ -67,21 +69,25 @@ in_map_from f (x ∷ xs) h = elim (in_cons_cases h) [
 pub each_map : {X Y : Type 0} (P : Y → Type 0) (f : X → Y) (xs : List X) → Each (λ x. P (f x)) xs → Each P (map f xs)
 each_map P f xs p y h = let found = in_map_from f xs h in subst P (sym found.2) (p found.0 found.1)
 
-pub in_flat_map : {X Y : Type 0} (f : X → List Y) {x : X} {y : Y} {xs : List X} → IsIn x xs → IsIn y (f x) → IsIn y (flat_map f xs)
+pub in_flat_map : {X Y : Type 0} (f : X → List Y) {x : X} {y : Y} {xs : List X} → IsIn x xs →
+    IsIn y (f x) → IsIn y (flat_map f xs)
 in_flat_map f {x = x} (here rest) k = in_left (flat_map f rest) k
 in_flat_map f (there y rest h) k = in_right (f y) (in_flat_map f h k)
 
-pub in_flat_map_from : {X Y : Type 0} (f : X → List Y) {y : Y} (xs : List X) → IsIn y (flat_map f xs) → (x : X) × IsIn x xs × IsIn y (f x)
+pub in_flat_map_from : {X Y : Type 0} (f : X → List Y) {y : Y} (xs : List X) → IsIn y (flat_map f xs) →
+    (x : X) × IsIn x xs × IsIn y (f x)
 in_flat_map_from f [] h = absurd (none_in h)
 in_flat_map_from f (x ∷ xs) h = elim (in_cases (f x) h) [
   | inl k ↦ (x, here xs, k)
   | inr later ↦ let found = in_flat_map_from f xs later in (found.0, there x xs found.1, found.2)
 ]
 
-pub each_flat_map : {X Y : Type 0} (P : Y → Type 0) (f : X → List Y) (xs : List X) → ((x : X) → IsIn x xs → Each P (f x)) → Each P (flat_map f xs)
+pub each_flat_map : {X Y : Type 0} (P : Y → Type 0) (f : X → List Y) (xs : List X) →
+    ((x : X) → IsIn x xs → Each P (f x)) → Each P (flat_map f xs)
 each_flat_map P f xs p y h = let found = in_flat_map_from f xs h in p found.0 found.1 y found.2
 
-pub in_cons_option : {X : Type 0} {y : X} (o : Option X) (ys : List X) → IsIn y (cons_option o ys) → (o ≡ Some y) ⊎ IsIn y ys
+pub in_cons_option : {X : Type 0} {y : X} (o : Option X) (ys : List X) → IsIn y (cons_option o ys) →
+    (o ≡ Some y) ⊎ IsIn y ys
 in_cons_option None ys h = inr h
 in_cons_option (Some x) ys h = elim (in_cons_cases h) [ inl e ↦ inl (ap (λ z. Some z) (sym e)) | inr k ↦ inr k ]
 
@@ -92,11 +98,13 @@ in_cons_option_later (Some x) {ys} h = there x ys h
 pub in_cons_option_first : {X : Type 0} {y : X} (o : Option X) (ys : List X) → o ≡ Some y → IsIn y (cons_option o ys)
 in_cons_option_first {y = y} o ys e = subst (λ z. IsIn y (cons_option z ys)) (sym e) (here ys)
 
-pub in_filter_map : {X Y : Type 0} (f : X → Option Y) {x : X} {y : Y} {xs : List X} → IsIn x xs → f x ≡ Some y → IsIn y (filter_map f xs)
+pub in_filter_map : {X Y : Type 0} (f : X → Option Y) {x : X} {y : Y} {xs : List X} → IsIn x xs → f x ≡ Some y →
+    IsIn y (filter_map f xs)
 in_filter_map f {x = x} (here rest) e = in_cons_option_first (f x) (filter_map f rest) e
 in_filter_map f (there z rest h) e = in_cons_option_later (f z) (in_filter_map f h e)
 
-pub in_filter_map_from : {X Y : Type 0} (f : X → Option Y) {y : Y} (xs : List X) → IsIn y (filter_map f xs) → (x : X) × IsIn x xs × (f x ≡ Some y)
+pub in_filter_map_from : {X Y : Type 0} (f : X → Option Y) {y : Y} (xs : List X) → IsIn y (filter_map f xs) →
+    (x : X) × IsIn x xs × (f x ≡ Some y)
 in_filter_map_from f [] h = absurd (none_in h)
 in_filter_map_from f (x ∷ xs) h = elim (in_cons_option (f x) (filter_map f xs) h) [
   | inl e ↦ (x, here xs, e)
@@ -104,14 +112,16 @@ in_filter_map_from f (x ∷ xs) h = elim (in_cons_option (f x) (filter_map f xs)
 ]
 
 pub in_filter : {X : Type 0} (f : X → Bool) {x : X} {xs : List X} → IsIn x xs → f x ≡ true → IsIn x (filter f xs)
-in_filter f {x = x} (here rest) e = subst (λ b. IsIn x (cond b (x ∷ filter f rest) (filter f rest))) (sym e) (here (filter f rest))
+in_filter f {x = x} (here rest) e = subst (λ b. IsIn x (cond b (x ∷ filter f rest) (filter f rest)))
+    (sym e) (here (filter f rest))
 in_filter {X} f {x} (there z rest h) e = kept (f z) (in_filter f h e)
   where
     kept : (b : Bool) → IsIn x (filter f rest) → IsIn x (cond b (z ∷ filter f rest) (filter f rest))
     kept true k = there z (filter f rest) k
     kept false k = k
 
-in_kept : {X : Type 0} {x y : X} (b : Bool) (ys : List X) → IsIn x (cond b (y ∷ ys) ys) → ((b ≡ true) × (x ≡ y)) ⊎ IsIn x ys
+in_kept : {X : Type 0} {x y : X} (b : Bool) (ys : List X) → IsIn x (cond b (y ∷ ys) ys) →
+    ((b ≡ true) × (x ≡ y)) ⊎ IsIn x ys
 in_kept true ys h = elim (in_cons_cases h) [ inl e ↦ inl (refl, e) | inr k ↦ inr k ]
 in_kept false ys h = inr h
 
@@ -141,8 +151,12 @@ pub find_some : {X : Type 0} (f : X → Bool) {x : X} (xs : List X) → find f x
 find_some f [] e = absurd (none_some e)
 find_some {X} f {x = x} (y ∷ xs) e = by_test (f y) refl e (λ later. find_some f xs later)
   where
-    by_test : (b : Bool) → f y ≡ b → cond b (Some y) (find f xs) ≡ Some x → (find f xs ≡ Some x → IsIn x xs × (f x ≡ true)) → IsIn x (y ∷ xs) × (f x ≡ true)
-    by_test true t e later = (subst (λ z. IsIn z (y ∷ xs)) (some_same e) (here xs), subst (λ z. f z ≡ true) (some_same e) t)
+    by_test : (b : Bool) → f y ≡ b → cond b (Some y) (find f xs) ≡ Some x →
+        (find f xs ≡ Some x → IsIn x xs × (f x ≡ true)) → IsIn x (y ∷ xs) × (f x ≡ true)
+    by_test true t e later = (
+      subst (λ z. IsIn z (y ∷ xs)) (some_same e) (here xs),
+      subst (λ z. f z ≡ true) (some_same e) t,
+    )
     by_test false t e later = let found = later e in (there y xs found.0, found.1)
 
 pub first_in : {X : Type 0} {x : X} (xs : List X) → first_of_list xs ≡ Some x → IsIn x xs
@@ -170,32 +184,40 @@ all_at f {x} (here rest) e = (and_parts (f x) (list_all f rest) e).0
 all_at f (there y rest h) e = all_at f h (and_parts (f y) (list_all f rest) e).1
 
 -- the lists' beginnings: what is met first is met of some beginning
-pub first_met_from : {F X : Type 0} (met : List F → Option X) {x : X} (seen rest : List F) → first_met met seen rest ≡ Some x
+pub first_met_from : {F X : Type 0} (met : List F → Option X) {x : X} (seen rest : List F) →
+    first_met met seen rest ≡ Some x
     → (beginning : List F) × Within beginning (seen ++ rest) × (met beginning ≡ Some x)
 unfolding first_met
 first_met_from met seen [] e = (seen, (λ y h. in_left [] h), e)
-first_met_from {F} {X} met {x} seen (f ∷ rest) e = by_first (met seen) refl e (λ later. first_met_from met (seen ++ f ∷ []) rest later)
+first_met_from {F} {X} met {x} seen (f ∷ rest) e =
+    by_first (met seen) refl e (λ later. first_met_from met (seen ++ f ∷ []) rest later)
   where
     by_first : (o : Option X) → met seen ≡ o → or_else o (first_met met (seen ++ f ∷ []) rest) ≡ Some x
-        → (first_met met (seen ++ f ∷ []) rest ≡ Some x → (beginning : List F) × Within beginning ((seen ++ f ∷ []) ++ rest) × (met beginning ≡ Some x))
+        → (first_met met (seen ++ f ∷ []) rest ≡ Some x → (beginning : List F)
+        × Within beginning ((seen ++ f ∷ []) ++ rest) × (met beginning ≡ Some x))
         → (beginning : List F) × Within beginning (seen ++ f ∷ rest) × (met beginning ≡ Some x)
     by_first (Some y) was e later = (seen, (λ z h. in_left (f ∷ rest) h), was ∙ e)
     by_first None was e later = let found = later e in
         (found.0, (λ z h. subst (λ (zs : List F). IsIn z zs) (append_assoc seen (f ∷ []) rest) (found.1 z h)), found.2)
 
 -- what was met of a list is met of a longer one
-pub first_met-more : {F X : Type 0} (met : List F → Option X) {x : X} (seen first more : List F) → first_met met seen first ≡ Some x → first_met met seen (first ++ more) ≡ Some x
+pub first_met-more : {F X : Type 0} (met : List F → Option X) {x : X} (seen first more : List F) →
+    first_met met seen first ≡ Some x → first_met met seen (first ++ more) ≡ Some x
 unfolding first_met
 first_met-more met seen [] [] e = e
-first_met-more {F} {X} met {x} seen [] (y ∷ more) e = ap (λ (o : Option X). or_else o (first_met met (seen ++ y ∷ []) more)) e
-first_met-more {F} {X} met {x} seen (f ∷ first) more e = by_first (met seen) e (λ later. first_met-more met (seen ++ f ∷ []) first more later)
+first_met-more {F} {X} met {x} seen [] (y ∷ more) e =
+    ap (λ (o : Option X). or_else o (first_met met (seen ++ y ∷ []) more)) e
+first_met-more {F} {X} met {x} seen (f ∷ first) more e =
+    by_first (met seen) e (λ later. first_met-more met (seen ++ f ∷ []) first more later)
   where
     by_first : (o : Option X) → or_else o (first_met met (seen ++ f ∷ []) first) ≡ Some x
-        → (first_met met (seen ++ f ∷ []) first ≡ Some x → first_met met (seen ++ f ∷ []) (first ++ more) ≡ Some x) → or_else o (first_met met (seen ++ f ∷ []) (first ++ more)) ≡ Some x
+        → (first_met met (seen ++ f ∷ []) first ≡ Some x → first_met met (seen ++ f ∷ []) (first ++ more) ≡ Some x) →
+        or_else o (first_met met (seen ++ f ∷ []) (first ++ more)) ≡ Some x
     by_first (Some y) e later = e
     by_first None e later = later e
 
-pub slice_get-more : {X : Type 0} (xs ys : List X) (k : ℕ) {x : X} → slice_get xs k ≡ Some x → slice_get (xs ++ ys) k ≡ Some x
+pub slice_get-more : {X : Type 0} (xs ys : List X) (k : ℕ) {x : X} → slice_get xs k ≡ Some x →
+    slice_get (xs ++ ys) k ≡ Some x
 slice_get-more [] ys k e = absurd (none_some e)
 slice_get-more (y ∷ xs) ys zero e = e
 slice_get-more (y ∷ xs) ys (suc k) e = slice_get-more xs ys k e

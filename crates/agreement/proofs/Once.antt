@@ -1,6 +1,9 @@
 -- Quorums that are known are backed by what correct masters said, and what these say once they never say otherwise.
-use Rattle.std.proofs.Common.{◌≡◌, ℕ, ◌<◌, ◌≤◌, suc, Bool, true, false, cond, ◌&&◌, not, List, [], ◌∷◌, Option, Some, None, filter, nat_eq, nat_lt, length, refl, sym, ◌∙◌, ap, subst, inl, inr, arith, eqb-true}
-use Rattle.std.proofs.lemmas.Bool.{false≢true, true≢false, and_parts, and_from, leb-true, lt-ltb, eq-eqb, not_from_false, and_right}
+use Rattle.std.proofs.Common.{◌≡◌, ℕ, ◌<◌, ◌≤◌, suc, Bool, true, false, cond, ◌&&◌, not, List, [], ◌∷◌, Option, Some}
+use Rattle.std.proofs.Common.{None, filter, nat_eq, nat_lt, length, refl, sym, ◌∙◌, ap, subst, inl, inr, arith}
+use Rattle.std.proofs.Common.{eqb-true}
+use Rattle.std.proofs.lemmas.Bool.{false≢true, true≢false, and_parts, and_from, leb-true, lt-ltb, eq-eqb}
+use Rattle.std.proofs.lemmas.Bool.{not_from_false, and_right}
 use Rattle.std.specs.List.{filter_map, list_any, cons_option}
 use Rattle.std.specs.Option.{is_some}
 use Rattle.std.specs.Str.{bytes_eq}
@@ -40,24 +43,35 @@ pub record IsBacked (w : Setup) (history : List Entry) (T : Body → Type 0) : T
   pub said : (m : ℕ) → m < w.group.n → test m ≡ true → w.intruded m ≡ false → (b : Body) × HasSaid history m b × T b
 
 pub correct_master : (w : Setup) (m : ℕ) → m < w.group.n → w.intruded m ≡ false → is_correct_master w m ≡ true
-correct_master w m lt right = and_from (nat_lt m w.group.n) (not (w.intruded m)) (lt-ltb m w.group.n lt) (not_from_false (w.intruded m) right)
+correct_master w m lt right = and_from (nat_lt m w.group.n) (not (w.intruded m)) (lt-ltb m w.group.n lt)
+    (not_from_false (w.intruded m) right)
 
 pub correct_actor : (w : Setup) (m : ℕ) → w.intruded m ≡ false → is_correct w m ≡ true
-correct_actor w m right = not_from_false (nat_lt m w.group.n && w.intruded m) (and_right (nat_lt m w.group.n) (w.intruded m) right)
+correct_actor w m right = not_from_false (nat_lt m w.group.n && w.intruded m)
+    (and_right (nat_lt m w.group.n) (w.intruded m) right)
 
 -- a correct master that said a body of each kind
-pub meet : (w : Setup) (history : List Entry) (T U : Body → Type 0) → IsSound w history → IsBacked w history T → IsBacked w history U
-    → (m : ℕ) × (is_correct_master w m ≡ true) × (w.intruded m ≡ false) × ((b : Body) × HasSaid history m b × T b) × ((c : Body) × HasSaid history m c × U c)
+pub meet : (w : Setup) (history : List Entry) (T U : Body → Type 0) → IsSound w history →
+    IsBacked w history T → IsBacked w history U
+    → (m : ℕ) × (is_correct_master w m ≡ true) × (w.intruded m ≡ false) × ((b : Body) × HasSaid history m b × T b)
+    × ((c : Body) × HasSaid history m c × U c)
 meet w history T U world one other =
-    let found = meet_at w.group one.test other.test w.intruded world.sizes one.enough other.enough world.few.few in
-    (found.0, correct_master w found.0 found.1 found.4, found.4, one.said found.0 found.1 found.2 found.4, other.said found.0 found.1 found.3 found.4)
+    let found = meet_at w.group one.test other.test w.intruded world.sizes one.enough other.enough world.few.few in (
+      found.0,
+      correct_master w found.0 found.1 found.4,
+      found.4,
+      one.said found.0 found.1 found.2 found.4,
+      other.said found.0 found.1 found.3 found.4,
+    )
 
-pub length-filter_map : {X Y : Type 0} (f : X → Option Y) (xs : List X) → length (filter_map f xs) ≡ length (filter (λ x. is_some (f x)) xs)
+pub length-filter_map : {X Y : Type 0} (f : X → Option Y) (xs : List X) →
+    length (filter_map f xs) ≡ length (filter (λ x. is_some (f x)) xs)
 length-filter_map f [] = refl
 length-filter_map {X} {Y} f (x ∷ xs) = by_first (f x) (length-filter_map f xs)
   where
     by_first : (o : Option Y) → length (filter_map f xs) ≡ length (filter (λ x. is_some (f x)) xs)
-        → length (cons_option o (filter_map f xs)) ≡ length (cond (is_some o) (x ∷ filter (λ x. is_some (f x)) xs) (filter (λ x. is_some (f x)) xs))
+        → length (cons_option o (filter_map f xs)) ≡ length
+        (cond (is_some o) (x ∷ filter (λ x. is_some (f x)) xs) (filter (λ x. is_some (f x)) xs))
     by_first None e = e
     by_first (Some y) e = ap suc e
 
@@ -66,13 +80,17 @@ some_from None e = absurd (false≢true e)
 some_from (Some x) e = (x, refl)
 
 -- a quorum of votes that are known
-pub votes_backed : {X : Type 0} (w : Setup) (history : List Entry) (T : Body → Type 0) (vote : ℕ → OrderFact → Option X) (facts : List OrderFact)
-    → ((m : ℕ) (x : X) (f : OrderFact) → IsIn f facts → vote m f ≡ Some x → w.intruded m ≡ false → (b : Body) × HasSaid history m b × T b)
+pub votes_backed : {X : Type 0} (w : Setup) (history : List Entry) (T : Body → Type 0) (vote : ℕ → OrderFact →
+    Option X) (facts : List OrderFact)
+    → ((m : ℕ) (x : X) (f : OrderFact) → IsIn f facts → vote m f ≡ Some x → w.intruded m ≡ false →
+    (b : Body) × HasSaid history m b × T b)
     → is_voted w.group vote facts ≡ true → IsBacked w history T
 unfolding is_voted
 votes_backed w history T vote facts each voted =
-    let enough : w.group.q ≤ length (first_votes w.group vote facts) = leb-true w.group.q (length (first_votes w.group vote facts)) voted in
-    let same : length (first_votes w.group vote facts) ≡ length (voters (λ m. is_some (first_of_list (filter_map (vote m) facts))) w.group.n) =
+    let enough : w.group.q ≤ length (first_votes w.group vote facts) =
+    leb-true w.group.q (length (first_votes w.group vote facts)) voted in
+    let same : length (first_votes w.group vote facts) ≡ length
+    (voters (λ m. is_some (first_of_list (filter_map (vote m) facts))) w.group.n) =
     length-filter_map (λ m. first_of_list (filter_map (vote m) facts)) (numbers_below w.group.n) in
     record {
       test = λ m. is_some (first_of_list (filter_map (vote m) facts));
@@ -92,42 +110,70 @@ IsCommit v s digest b = b ≡ body.Commit record { v = v; s = s; digest = digest
 abbrev pub IsAck : ℕ → ℕ → List ℕ → Body → Type 0
 IsAck j k digest b = b ≡ body.PoAck record { j = j; k = k; digest = digest }
 
-pub prepare_same : (p : Prepare) (v s : ℕ) (digest : List ℕ) → p.v ≡ v → p.s ≡ s → p.digest ≡ digest → IsPrepare v s digest (body.Prepare p)
+pub prepare_same : (p : Prepare) (v s : ℕ) (digest : List ℕ) → p.v ≡ v → p.s ≡ s → p.digest ≡ digest →
+    IsPrepare v s digest (body.Prepare p)
 prepare_same p v s digest a b c = λ x. body.Prepare record { v = a x; s = b x; digest = c x }
 
-pub commit_same : (p : Commit) (v s : ℕ) (digest : List ℕ) → p.v ≡ v → p.s ≡ s → p.digest ≡ digest → IsCommit v s digest (body.Commit p)
+pub commit_same : (p : Commit) (v s : ℕ) (digest : List ℕ) → p.v ≡ v → p.s ≡ s → p.digest ≡ digest →
+    IsCommit v s digest (body.Commit p)
 commit_same p v s digest a b c = λ x. body.Commit record { v = a x; s = b x; digest = c x }
 
-pub ack_same : (p : PoAck) (j k : ℕ) (digest : List ℕ) → p.j ≡ j → p.k ≡ k → p.digest ≡ digest → IsAck j k digest (body.PoAck p)
+pub ack_same : (p : PoAck) (j k : ℕ) (digest : List ℕ) → p.j ≡ j → p.k ≡ k → p.digest ≡ digest →
+    IsAck j k digest (body.PoAck p)
 ack_same p j k digest a b c = λ x. body.PoAck record { j = a x; k = b x; digest = c x }
 
-ack_from_body : (j k : ℕ) (digest : List ℕ) (m signer : ℕ) (word : Body) (sig : List ℕ) → is_ack j k digest m record { signer = signer; body = word; sig = sig } ≡ true
+ack_from_body : (j k : ℕ) (digest : List ℕ) (m signer : ℕ) (word : Body) (sig : List ℕ) →
+    is_ack j k digest m record { signer = signer; body = word; sig = sig } ≡ true
     → (signer ≡ m) × IsAck j k digest word
 ack_from_body j k digest m signer (body.PoAck b) sig e =
     let digests = and_parts (nat_eq signer m && nat_eq b.j j && nat_eq b.k k) (bytes_eq b.digest digest) e in
     let numbers = and_parts (nat_eq signer m && nat_eq b.j j) (nat_eq b.k k) digests.0 in
-    let masters = and_parts (nat_eq signer m) (nat_eq b.j j) numbers.0 in
-    (eqb-true signer m masters.0, ack_same b j k digest (eqb-true b.j j masters.1) (eqb-true b.k k numbers.1) (bytes_same b.digest digest digests.1))
+    let masters = and_parts (nat_eq signer m) (nat_eq b.j j) numbers.0 in (
+      eqb-true signer m masters.0,
+      ack_same b j k digest (eqb-true b.j j masters.1) (eqb-true b.k k numbers.1)
+          (bytes_same b.digest digest digests.1),
+    )
 ack_from_body j k digest m signer _ sig e = absurd (false≢true e)
 
-module _ (w : Setup) (history : List Entry) (i : ℕ) (world : IsSound w history) (correct : is_correct_master w i ≡ true) (known : List (Signed Body)) (learned : Within known (learned_by w history i)) where
-  pub said_of : (p : Signed Body) (m : ℕ) → IsIn p known → p.signer ≡ m → w.intruded m ≡ false → HasSaid history m p.body
+module _ (w : Setup) (history : List Entry) (i : ℕ) (world : IsSound w history)
+    (correct : is_correct_master w i ≡ true) (known : List (Signed Body))
+    (learned : Within known (learned_by w history i)) where
+  pub said_of : (p : Signed Body) (m : ℕ) → IsIn p known → p.signer ≡ m → w.intruded m ≡ false →
+      HasSaid history m p.body
   said_of p m h at right = subst (λ (x : ℕ). HasSaid history x p.body) at
-      (learned_said w i history world.legal world.unforged correct p (learned p h) (subst (λ (x : ℕ). is_correct w x ≡ true) (sym at) (correct_actor w m right)))
+      (learned_said w i history world.legal world.unforged correct p (learned p h)
+      (subst (λ (x : ℕ). is_correct w x ≡ true) (sym at) (correct_actor w m right)))
 
-  pub prepares_backed : (facts : List OrderFact) → Within facts (facts_of w.group known) → (v s : ℕ) (digest : List ℕ) → is_voted w.group (prepare_by v s digest) facts ≡ true → IsBacked w history (IsPrepare v s digest)
-  prepares_backed facts within v s digest = votes_backed w history (IsPrepare v s digest) (prepare_by v s digest) facts (λ m x f h e right.
+  pub prepares_backed : (facts : List OrderFact) → Within facts (facts_of w.group known) →
+      (v s : ℕ) (digest : List ℕ) → is_voted w.group (prepare_by v s digest) facts ≡ true →
+      IsBacked w history (IsPrepare v s digest)
+  prepares_backed facts within v s digest = votes_backed w history (IsPrepare v s digest) (prepare_by v s digest)
+      facts (λ m x f h e right.
       let is = prepare_by_from v s digest m f x e in
-      let word = fact_from w.group known (fact.Prepare x) (subst (λ (z : OrderFact). IsIn z (facts_of w.group known)) is.0 (within f h)) in
-      (body.Prepare x.body, subst (λ (p : Signed Body). HasSaid history m p.body) word.2 (said_of word.0 m word.1 (ap (λ (p : Signed Body). p.signer) word.2 ∙ is.1) right), prepare_same x.body v s digest is.2 is.3 is.4))
+      let word = fact_from w.group known (fact.Prepare x)
+      (subst (λ (z : OrderFact). IsIn z (facts_of w.group known)) is.0 (within f h)) in (
+        body.Prepare x.body,
+        subst (λ (p : Signed Body). HasSaid history m p.body) word.2
+            (said_of word.0 m word.1 (ap (λ (p : Signed Body). p.signer) word.2 ∙ is.1) right),
+        prepare_same x.body v s digest is.2 is.3 is.4,
+      ))
 
-  pub commits_backed : (facts : List OrderFact) → Within facts (facts_of w.group known) → (v s : ℕ) (digest : List ℕ) → is_voted w.group (commit_by v s digest) facts ≡ true → IsBacked w history (IsCommit v s digest)
-  commits_backed facts within v s digest = votes_backed w history (IsCommit v s digest) (commit_by v s digest) facts (λ m x f h e right.
+  pub commits_backed : (facts : List OrderFact) → Within facts (facts_of w.group known) →
+      (v s : ℕ) (digest : List ℕ) → is_voted w.group (commit_by v s digest) facts ≡ true →
+      IsBacked w history (IsCommit v s digest)
+  commits_backed facts within v s digest = votes_backed w history (IsCommit v s digest) (commit_by v s digest)
+      facts (λ m x f h e right.
       let is = commit_by_from v s digest m f x e in
-      let word = fact_from w.group known (fact.Commit x) (subst (λ (z : OrderFact). IsIn z (facts_of w.group known)) is.0 (within f h)) in
-      (body.Commit x.body, subst (λ (p : Signed Body). HasSaid history m p.body) word.2 (said_of word.0 m word.1 (ap (λ (p : Signed Body). p.signer) word.2 ∙ is.1) right), commit_same x.body v s digest is.2 is.3 is.4))
+      let word = fact_from w.group known (fact.Commit x)
+      (subst (λ (z : OrderFact). IsIn z (facts_of w.group known)) is.0 (within f h)) in (
+        body.Commit x.body,
+        subst (λ (p : Signed Body). HasSaid history m p.body) word.2
+            (said_of word.0 m word.1 (ap (λ (p : Signed Body). p.signer) word.2 ∙ is.1) right),
+        commit_same x.body v s digest is.2 is.3 is.4,
+      ))
 
-  pub acks_backed : (words : List (Signed Body)) → Within words known → (j k : ℕ) (digest : List ℕ) → is_acked w.group words j k digest ≡ true → IsBacked w history (IsAck j k digest)
+  pub acks_backed : (words : List (Signed Body)) → Within words known → (j k : ℕ) (digest : List ℕ) →
+      is_acked w.group words j k digest ≡ true → IsBacked w history (IsAck j k digest)
   unfolding has_quorum
   acks_backed words within j k digest acked = record {
     test = λ m. list_any (is_ack j k digest m) words;
@@ -140,22 +186,36 @@ module _ (w : Setup) (history : List Entry) (i : ℕ) (world : IsSound w history
 
 -- what is due at an entry
 abbrev pub DueAt : Setup → ℕ → List Entry → Entry → Body → Type 0
-DueAt w m before e b = Due w.group w.orders (known_then w before m e) (taken_at (heard w before m) (frame_taken e.event)) (said_before (heard w before m)) b
+DueAt w m before e b = Due w.group w.orders (known_then w before m e)
+    (taken_at (heard w before m) (frame_taken e.event)) (said_before (heard w before m)) b
 
 -- what is said only where no such was said before, and one way at one entry, is said one way
-pub said_once : (w : Setup) (history : List Entry) (m : ℕ) (t : Body → Bool) (b c : Body) → IsLegal w history → is_correct_master w m ≡ true → t b ≡ true → t c ≡ true
-    → ((known taken : List (Signed Body)) (said : List Body) → Due w.group w.orders known taken said b → list_any t said ≡ false)
-    → ((known taken : List (Signed Body)) (said : List Body) → Due w.group w.orders known taken said c → list_any t said ≡ false)
-    → ((known taken : List (Signed Body)) (said : List Body) → Due w.group w.orders known taken said b → Due w.group w.orders known taken said c → b ≡ c)
+pub said_once : (w : Setup) (history : List Entry) (m : ℕ) (t : Body → Bool) (b c : Body) → IsLegal w history →
+    is_correct_master w m ≡ true → t b ≡ true → t c ≡ true
+    → ((known taken : List (Signed Body)) (said : List Body) → Due w.group w.orders known taken said b →
+    list_any t said ≡ false)
+    → ((known taken : List (Signed Body)) (said : List Body) → Due w.group w.orders known taken said c →
+    list_any t said ≡ false)
+    → ((known taken : List (Signed Body)) (said : List Body) → Due w.group w.orders known taken said b →
+    Due w.group w.orders known taken said c → b ≡ c)
     → HasSaid history m b → HasSaid history m c → b ≡ c
 said_once w history m t b c legal correct is_b is_c fresh_b fresh_c alike one other =
     let due_b = said_due w m b legal one.place one.by correct one.among in
     let due_c = said_due w m c legal other.place other.by correct other.among in
     elim (stands_cases one.place other.place) [
-      | inl same ↦ alike (known_then w other.before m other.entry) (taken_at (heard w other.before m) (frame_taken other.entry.event)) (said_before (heard w other.before m)) (subst (λ (e : Entry). DueAt w m other.before e b) same.1 (subst (λ (before : List Entry). DueAt w m before one.entry b) same.0 due_b.1)) due_c.1
+      | inl same ↦ alike (known_then w other.before m other.entry)
+          (taken_at (heard w other.before m) (frame_taken other.entry.event)) (said_before (heard w other.before m))
+          (subst (λ (e : Entry). DueAt w m other.before e b) same.1
+          (subst (λ (before : List Entry). DueAt w m before one.entry b) same.0 due_b.1)) due_c.1
       | inr apart ↦ elim apart [
-        | inl earlier ↦ absurd (true≢false (sym (any_in t (said_earlier w m b earlier one.by due_b.0 one.among) is_b) ∙ fresh_c (known_then w other.before m other.entry) (taken_at (heard w other.before m) (frame_taken other.entry.event)) (said_before (heard w other.before m)) due_c.1))
-        | inr later ↦ absurd (true≢false (sym (any_in t (said_earlier w m c later other.by due_c.0 other.among) is_c) ∙ fresh_b (known_then w one.before m one.entry) (taken_at (heard w one.before m) (frame_taken one.entry.event)) (said_before (heard w one.before m)) due_b.1))
+        | inl earlier ↦ absurd (true≢false (sym (any_in t (said_earlier w m b earlier one.by due_b.0 one.among) is_b)
+            ∙ fresh_c (known_then w other.before m other.entry)
+            (taken_at (heard w other.before m) (frame_taken other.entry.event))
+            (said_before (heard w other.before m)) due_c.1))
+        | inr later ↦ absurd (true≢false (sym (any_in t (said_earlier w m c later other.by due_c.0 other.among) is_c)
+            ∙ fresh_b (known_then w one.before m one.entry)
+            (taken_at (heard w one.before m) (frame_taken one.entry.event))
+            (said_before (heard w one.before m)) due_b.1))
       ]
     ]
 
@@ -168,20 +228,26 @@ digest_of_ack {a} {b} e = let same : a ≡ b = cc in ap (λ (x : PoAck). x.diges
 digest_of_prepare : {a b : Prepare} → body.Prepare a ≡ body.Prepare b → a.digest ≡ b.digest
 digest_of_prepare {a} {b} e = let same : a ≡ b = cc in ap (λ (x : Prepare). x.digest) same
 
-pub ack_once : (w : Setup) (history : List Entry) (m : ℕ) → IsLegal w history → is_correct_master w m ≡ true → (j k : ℕ) (d e : List ℕ) (b c : Body)
+pub ack_once : (w : Setup) (history : List Entry) (m : ℕ) → IsLegal w history → is_correct_master w m ≡ true →
+    (j k : ℕ) (d e : List ℕ) (b c : Body)
     → IsAck j k d b → IsAck j k e c → HasSaid history m b → HasSaid history m c → d ≡ e
 ack_once w history m legal correct j k d e b c is_b is_c one other =
     let ack = λ (digest : List ℕ). let r : PoAck = record { j = j; k = k; digest = digest } in r in
-    digest_of_ack (said_once w history m (acks j k) (body.PoAck (ack d)) (body.PoAck (ack e)) legal correct (self_eq j k) (self_eq j k)
+    digest_of_ack (said_once w history m (acks j k) (body.PoAck (ack d)) (body.PoAck (ack e)) legal correct
+    (self_eq j k) (self_eq j k)
     (λ known taken said due. due.3) (λ known taken said due. due.3)
-    (λ known taken said due_b due_c. ap (λ (digest : List ℕ). body.PoAck (ack digest)) (due_b.2 ∙ ap digest_of_update (some_same (sym due_b.1 ∙ due_c.1)) ∙ sym due_c.2))
+    (λ known taken said due_b due_c. ap (λ (digest : List ℕ). body.PoAck (ack digest))
+    (due_b.2 ∙ ap digest_of_update (some_same (sym due_b.1 ∙ due_c.1)) ∙ sym due_c.2))
     (subst (λ (x : Body). HasSaid history m x) is_b one) (subst (λ (x : Body). HasSaid history m x) is_c other))
 
-pub prepare_once : (w : Setup) (history : List Entry) (m : ℕ) → IsLegal w history → is_correct_master w m ≡ true → (v s : ℕ) (d e : List ℕ) (b c : Body)
+pub prepare_once : (w : Setup) (history : List Entry) (m : ℕ) → IsLegal w history → is_correct_master w m ≡ true →
+    (v s : ℕ) (d e : List ℕ) (b c : Body)
     → IsPrepare v s d b → IsPrepare v s e c → HasSaid history m b → HasSaid history m c → d ≡ e
 prepare_once w history m legal correct v s d e b c is_b is_c one other =
     let word = λ (digest : List ℕ). let r : Prepare = record { v = v; s = s; digest = digest } in r in
-    digest_of_prepare (said_once w history m (prepares_said v s) (body.Prepare (word d)) (body.Prepare (word e)) legal correct (self_eq v s) (self_eq v s)
+    digest_of_prepare (said_once w history m (prepares_said v s) (body.Prepare (word d)) (body.Prepare (word e))
+    legal correct (self_eq v s) (self_eq v s)
     (λ known taken said due. due.5) (λ known taken said due. due.5)
-    (λ known taken said due_b due_c. ap (λ (digest : List ℕ). body.Prepare (word digest)) (due_b.2 ∙ ap digest_of_rows (some_same (sym due_b.1 ∙ due_c.1)) ∙ sym due_c.2))
+    (λ known taken said due_b due_c. ap (λ (digest : List ℕ). body.Prepare (word digest))
+    (due_b.2 ∙ ap digest_of_rows (some_same (sym due_b.1 ∙ due_c.1)) ∙ sym due_c.2))
     (subst (λ (x : Body). HasSaid history m x) is_b one) (subst (λ (x : Body). HasSaid history m x) is_c other))

@@ -1,5 +1,7 @@
 -- Quorums meet, and lists of rising signers are as many masters.
-use Rattle.std.proofs.Common.{◌≡◌, ℕ, ◌+◌, ◌*◌, ◌<◌, ◌≤◌, zero, suc, Bool, true, false, cond, ◌||◌, ◌&&◌, List, [], ◌∷◌, ◌++◌, nat_eq, nat_lt, take, length, refl, sym, ◌∙◌, ap, subst, inl, inr, ◌⊎◌, arith, Option, Some, None}
+use Rattle.std.proofs.Common.{◌≡◌, ℕ, ◌+◌, ◌*◌, ◌<◌, ◌≤◌, zero, suc, Bool, true, false, cond, ◌||◌, ◌&&◌, List, []}
+use Rattle.std.proofs.Common.{◌∷◌, ◌++◌, nat_eq, nat_lt, take, length, refl, sym, ◌∙◌, ap, subst, inl, inr, ◌⊎◌}
+use Rattle.std.proofs.Common.{arith, Option, Some, None}
 use Rattle.std.specs.List.{filter_map, cons_option}
 use Rattle.std.proofs.lemmas.Bool.{and_parts, eqb-true, eq-eqb, ne_eqb, cases_eq, false_from_ne_true, ltb-true}
 use Rattle.std.proofs.lemmas.List.{append-nil, map-append}
@@ -14,7 +16,8 @@ use Rattle.agreement.specs.Laws.{HasSizes}
 use Rattle.agreement.proofs.Lists.{in_take, none_in, in_cons_cases, in_cases, Each, each_none, any_from}
 
 -- more of s than of b: one of s that isn't of b
-pub voter_beyond : (s b : ℕ → Bool) (n : ℕ) → length (voters b n) < length (voters s n) → (m : ℕ) × (m < n) × (s m ≡ true) × (b m ≡ false)
+pub voter_beyond : (s b : ℕ → Bool) (n : ℕ) → length (voters b n) < length (voters s n) →
+    (m : ℕ) × (m < n) × (s m ≡ true) × (b m ≡ false)
 voter_beyond s b zero h =
     let none_s : length (voters s 0) ≡ 0 = ap length (voters-zero s) in
     let none_b : length (voters b 0) ≡ 0 = ap length (voters-zero b) in
@@ -22,7 +25,8 @@ voter_beyond s b zero h =
 voter_beyond s b (suc n) h =
     let one_s : length (voters s (suc n)) ≡ length (voters s n) + cond (s n) 1 0 = length-voters-suc s n in
     let one_b : length (voters b (suc n)) ≡ length (voters b n) + cond (b n) 1 0 = length-voters-suc b n in
-    by_last (s n) (b n) refl refl (omega arith) (λ less. let found = voter_beyond s b n less in (found.0, omega arith, found.2, found.3))
+    by_last (s n) (b n) refl refl (omega arith) (λ less. let found = voter_beyond s b n less in
+    (found.0, omega arith, found.2, found.3))
   where
     by_last : (x y : Bool) → s n ≡ x → b n ≡ y → length (voters b n) + cond y 1 0 < length (voters s n) + cond x 1 0
         → (length (voters b n) < length (voters s n) → (m : ℕ) × (m < suc n) × (s m ≡ true) × (b m ≡ false))
@@ -39,7 +43,8 @@ pub meet_at : (g : Group) (s t b : ℕ → Bool) → HasSizes g
 meet_at g s t b sizes p q few =
     let all : g.n ≡ 3 * g.f + 2 * g.k + 1 = sizes.all in
     let quorum : g.q ≡ 2 * g.f + g.k + 1 = sizes.quorum in
-    let both : length (voters s g.n) + length (voters t g.n) ≤ g.n + length (voters (λ x. s x && t x) g.n) = voters_meet s t g.n in
+    let both : length (voters s g.n) + length (voters t g.n) ≤ g.n + length (voters (λ x. s x && t x) g.n) =
+    voters_meet s t g.n in
     let found = voter_beyond (λ x. s x && t x) b g.n (omega arith) in
     let parts = and_parts (s found.0) (t found.0) found.2 in
     (found.0, found.1, parts.0, parts.1, found.3)
@@ -77,7 +82,10 @@ rising_snoc [] x h below = (each_none (λ y. x < y), tt)
 rising_snoc (z ∷ zs) x h below = (
   (λ y k. elim (in_cases zs k) [
     | inl in_zs ↦ h.0 y in_zs
-    | inr last ↦ elim (in_cons_cases last) [ inl e ↦ subst (λ (v : ℕ). z < v) (sym e) (below z (here zs)) | inr none ↦ absurd (none_in none) ]
+    | inr last ↦ elim (in_cons_cases last) [
+      | inl e ↦ subst (λ (v : ℕ). z < v) (sym e) (below z (here zs))
+      | inr none ↦ absurd (none_in none)
+    ]
   ]),
   rising_snoc zs x h.1 (λ y k. below y (there z zs k)),
 )
@@ -86,15 +94,18 @@ abbrev bit : Bool → ℕ
 bit b = cond b 1 0
 
 -- one more voter
-count_more : (x n : ℕ) (t : ℕ → Bool) → x < n → t x ≡ false → length (voters (λ m. nat_eq x m || t m) n) ≡ suc (length (voters t n))
+count_more : (x n : ℕ) (t : ℕ → Bool) → x < n → t x ≡ false →
+    length (voters (λ m. nat_eq x m || t m) n) ≡ suc (length (voters t n))
 count_more x zero t lt not_x = absurd (omega arith)
 count_more x (suc n) t lt not_x =
-    let one : length (voters (λ m. nat_eq x m || t m) (suc n)) ≡ length (voters (λ m. nat_eq x m || t m) n) + bit (nat_eq x n || t n) = length-voters-suc (λ m. nat_eq x m || t m) n in
+    let one : length (voters (λ m. nat_eq x m || t m) (suc n)) ≡ length (voters (λ m. nat_eq x m || t m) n) + bit
+    (nat_eq x n || t n) = length-voters-suc (λ m. nat_eq x m || t m) n in
     let other : length (voters t (suc n)) ≡ length (voters t n) + bit (t n) = length-voters-suc t n in
     by_last (cases_eq x n) one other (λ less. count_more x n t less not_x)
   where
     by_last : (x ≡ n) ⊎ (x ≡ n → ⊥)
-        → length (voters (λ m. nat_eq x m || t m) (suc n)) ≡ length (voters (λ m. nat_eq x m || t m) n) + bit (nat_eq x n || t n)
+        → length (voters (λ m. nat_eq x m || t m) (suc n)) ≡ length (voters (λ m. nat_eq x m || t m) n) + bit
+        (nat_eq x n || t n)
         → length (voters t (suc n)) ≡ length (voters t n) + bit (t n)
         → (x < n → length (voters (λ m. nat_eq x m || t m) n) ≡ suc (length (voters t n)))
         → length (voters (λ m. nat_eq x m || t m) (suc n)) ≡ suc (length (voters t (suc n)))
@@ -102,14 +113,16 @@ count_more x (suc n) t lt not_x =
         let here_bit : bit (nat_eq x n || t n) ≡ 1 = ap (λ b. bit (b || t n)) (eq-eqb x n e) in
         let other_bit : bit (t n) ≡ 0 = ap bit (ap t (sym e) ∙ not_x) in
         let below : length (voters (λ m. nat_eq x m || t m) n) ≡ length (voters t n) =
-        ap length (voters_same (λ m. nat_eq x m || t m) t n (λ m lt. ap (λ b. b || t m) (ne_eqb x m (λ same. let a : n ≡ m = sym e ∙ same in omega arith)))) in
+        ap length (voters_same (λ m. nat_eq x m || t m) t n
+        (λ m lt. ap (λ b. b || t m) (ne_eqb x m (λ same. let a : n ≡ m = sym e ∙ same in omega arith)))) in
         omega arith
     by_last (inr ne) one other deeper =
         let same_bit : bit (nat_eq x n || t n) ≡ bit (t n) = ap (λ b. bit (b || t n)) (ne_eqb x n ne) in
         let more : length (voters (λ m. nat_eq x m || t m) n) ≡ suc (length (voters t n)) = deeper (omega arith) in
         omega arith
 
-pub rising_counts : (xs : List ℕ) (n : ℕ) → Rising xs → Each (λ x. x < n) xs → length xs ≤ length (voters (has_master xs) n)
+pub rising_counts : (xs : List ℕ) (n : ℕ) → Rising xs → Each (λ x. x < n) xs →
+    length xs ≤ length (voters (has_master xs) n)
 rising_counts [] n h below = omega arith
 rising_counts (x ∷ xs) n h below =
     let less : length xs ≤ length (voters (has_master xs) n) = rising_counts xs n h.1 (λ y k. below y (there x xs k)) in
@@ -131,10 +144,13 @@ below_from (suc n) x h = elim (in_cases (numbers_below n) h) [
 
 signers_kept : {B : Type 0} (xs : List (Signed B)) (n : ℕ) → Rising (signers_of xs) → Each (λ y. y < n) (signers_of xs)
     → Rising (signers_of (xs ++ [])) × Each (λ y. y < suc n) (signers_of (xs ++ []))
-signers_kept {B} xs n rising below = subst (λ (ys : List (Signed B)). Rising (signers_of ys) × Each (λ y. y < suc n) (signers_of ys)) (sym (append-nil xs))
+signers_kept {B} xs n rising below =
+    subst (λ (ys : List (Signed B)). Rising (signers_of ys) × Each (λ y. y < suc n) (signers_of ys))
+    (sym (append-nil xs))
     (rising, λ y k. let less : y < n = below y k in omega arith)
 
-signers_more : {B : Type 0} (xs : List (Signed B)) (x : Signed B) (n : ℕ) → Rising (signers_of xs) → Each (λ y. y < n) (signers_of xs) → x.signer ≡ n
+signers_more : {B : Type 0} (xs : List (Signed B)) (x : Signed B) (n : ℕ) → Rising (signers_of xs) →
+    Each (λ y. y < n) (signers_of xs) → x.signer ≡ n
     → Rising (signers_of (xs ++ x ∷ [])) × Each (λ y. y < suc n) (signers_of (xs ++ x ∷ []))
 signers_more xs x n rising below at =
     let split : signers_of (xs ++ x ∷ []) ≡ signers_of xs ++ x.signer ∷ [] = map-append (λ f. f.signer) xs (x ∷ []) in
@@ -147,16 +163,22 @@ signers_more xs x n rising below at =
     )
 
 -- what each master has one of at most, master by master, has rising signers
-pub rising_by_master : {B : Type 0} (f : ℕ → Option (Signed B)) → ((m : ℕ) (x : Signed B) → f m ≡ Some x → x.signer ≡ m) → (n : ℕ)
-    → Rising (signers_of (filter_map f (numbers_below n))) × Each (λ y. y < n) (signers_of (filter_map f (numbers_below n)))
+pub rising_by_master : {B : Type 0} (f : ℕ → Option (Signed B)) →
+    ((m : ℕ) (x : Signed B) → f m ≡ Some x → x.signer ≡ m) → (n : ℕ)
+    → Rising (signers_of (filter_map f (numbers_below n)))
+    × Each (λ y. y < n) (signers_of (filter_map f (numbers_below n)))
 unfolding numbers_below
 rising_by_master f own zero = (tt, each_none (λ y. y < 0))
 rising_by_master {B} f own (suc n) =
     let less = rising_by_master f own n in
-    let split : filter_map f (numbers_below n ++ n ∷ []) ≡ filter_map f (numbers_below n) ++ filter_map f (n ∷ []) = filter_map-append f (numbers_below n) (n ∷ []) in
-    subst (λ (xs : List (Signed B)). Rising (signers_of xs) × Each (λ y. y < suc n) (signers_of xs)) (sym split) (by_last (f n) refl less.0 less.1)
+    let split : filter_map f (numbers_below n ++ n ∷ []) ≡ filter_map f (numbers_below n) ++ filter_map f (n ∷ []) =
+    filter_map-append f (numbers_below n) (n ∷ []) in
+    subst (λ (xs : List (Signed B)). Rising (signers_of xs) × Each (λ y. y < suc n) (signers_of xs)) (sym split)
+    (by_last (f n) refl less.0 less.1)
   where
-    by_last : (o : Option (Signed B)) → f n ≡ o → Rising (signers_of (filter_map f (numbers_below n))) → Each (λ y. y < n) (signers_of (filter_map f (numbers_below n)))
-        → Rising (signers_of (filter_map f (numbers_below n) ++ cons_option o [])) × Each (λ y. y < suc n) (signers_of (filter_map f (numbers_below n) ++ cons_option o []))
+    by_last : (o : Option (Signed B)) → f n ≡ o → Rising (signers_of (filter_map f (numbers_below n))) →
+        Each (λ y. y < n) (signers_of (filter_map f (numbers_below n)))
+        → Rising (signers_of (filter_map f (numbers_below n) ++ cons_option o []))
+        × Each (λ y. y < suc n) (signers_of (filter_map f (numbers_below n) ++ cons_option o []))
     by_last None e rising below = signers_kept (filter_map f (numbers_below n)) n rising below
     by_last (Some x) e rising below = signers_more (filter_map f (numbers_below n)) x n rising below (own n x e)

@@ -1,5 +1,6 @@
 -- What the rules make a correct master say, by kinds.
-use Rattle.std.proofs.Common.{◌≡◌, ℕ, ◌+◌, ◌≤◌, Bool, true, false, cond, ◌&&◌, List, [], ◌∷◌, ◌++◌, Option, Some, None, take, map, nat_eq, nat_lt, length, refl, sym, ◌∙◌, ap, subst, ◌-◌, arith, suc}
+use Rattle.std.proofs.Common.{◌≡◌, ℕ, ◌+◌, ◌≤◌, Bool, true, false, cond, ◌&&◌, List, [], ◌∷◌, ◌++◌, Option, Some}
+use Rattle.std.proofs.Common.{None, take, map, nat_eq, nat_lt, length, refl, sym, ◌∙◌, ap, subst, ◌-◌, arith, suc}
 use Rattle.std.proofs.lemmas.Bool.{and_parts, leb-true}
 use Rattle.std.specs.List.{filter_map, list_any}
 use Rattle.std.specs.Prelude.{slice_get}
@@ -19,60 +20,83 @@ use Rattle.protocol_rules.specs.declared.facts.OrderFact.{OrderFact}
 use Rattle.protocol_rules.specs.Words.{first_of_list, numbers_from, greatest_of}
 use Rattle.protocol_rules.specs.Group.{Group, most_number, is_door}
 use Rattle.protocol_rules.specs.Facts.{facts_of}
-use Rattle.protocol_rules.specs.Preorder.{certified, vector, updates_requested, update_of, requests_said, requests_said_for, next_request, requests_due, acks, acks_due}
+use Rattle.protocol_rules.specs.Preorder.{certified, vector, updates_requested, update_of, requests_said}
+use Rattle.protocol_rules.specs.Preorder.{requests_said_for, next_request, requests_due, acks, acks_due}
 use Rattle.protocol_rules.specs.Matrix.{latest_frames}
-use Rattle.protocol_rules.specs.Order.{ordered, stable, marks_for, certificates_below, offered, prepared, plan_known, prepares_said, commits_said, prepares_due, commits_due, mark_due, marks_due, in_window, commit_by, quorum_of}
+use Rattle.protocol_rules.specs.Order.{ordered, stable, marks_for, certificates_below, offered, prepared, plan_known}
+use Rattle.protocol_rules.specs.Order.{prepares_said, commits_said, prepares_due, commits_due, mark_due, marks_due}
+use Rattle.protocol_rules.specs.Order.{in_window, commit_by, quorum_of}
 use Rattle.protocol_rules.specs.Views.{view, is_open, report_due, new_view_due, first_reports}
-use Rattle.protocol_rules.specs.Measures.{Told, ticks_of, waited, pings_due, pongs_due, pongs_due_to, round_trips_due, round_trips_due_from, tat_reports_due, tat_bounds_due, own_bound, suspects_due}
-use Rattle.protocol_rules.specs.Reconcile.{ask_update_due, ask_order_due, gives_due, gives_ordered_due, request_of, quorum_of_acks, committed_views}
+use Rattle.protocol_rules.specs.Measures.{Told, ticks_of, waited, pings_due, pongs_due, pongs_due_to, round_trips_due}
+use Rattle.protocol_rules.specs.Measures.{round_trips_due_from, tat_reports_due, tat_bounds_due, own_bound}
+use Rattle.protocol_rules.specs.Measures.{suspects_due}
+use Rattle.protocol_rules.specs.Reconcile.{ask_update_due, ask_order_due, gives_due, gives_ordered_due, request_of}
+use Rattle.protocol_rules.specs.Reconcile.{quorum_of_acks, committed_views}
 use Rattle.protocol_rules.specs.Execution.{Request}
-use Rattle.protocol_rules.specs.Master.{Heard, known_at, taken_at, said_before, answers, summaries_due, preprepares_due, next_number, vouchers_due, vouchers_from, vouchers_said, waiting_for, gap_of, executed, told_of}
+use Rattle.protocol_rules.specs.Master.{Heard, known_at, taken_at, said_before, answers, summaries_due}
+use Rattle.protocol_rules.specs.Master.{preprepares_due, next_number, vouchers_due, vouchers_from, vouchers_said}
+use Rattle.protocol_rules.specs.Master.{waiting_for, gap_of, executed, told_of}
 use Rattle.history_rules.specs.Audit.{IsIn}
-use Rattle.agreement.proofs.Lists.{Each, each_none, each_one, each_append, each_if, each_map, each_flat_map, in_filter_map_from, first_in, some_same, none_some}
+use Rattle.agreement.proofs.Lists.{Each, each_none, each_one, each_append, each_if, each_map, each_flat_map}
+use Rattle.agreement.proofs.Lists.{in_filter_map_from, first_in, some_same, none_some}
 
-pub each_elim : {X Y : Type 0} (P : X → Type 0) (o : Option Y) (f : Y → List X) → ((y : Y) → o ≡ Some y → Each P (f y)) → Each P (elim o [ None ↦ [] | Some y ↦ f y ])
+pub each_elim : {X Y : Type 0} (P : X → Type 0) (o : Option Y) (f : Y → List X) →
+    ((y : Y) → o ≡ Some y → Each P (f y)) → Each P (elim o [ None ↦ [] | Some y ↦ f y ])
 each_elim P None f h = each_none P
 each_elim P (Some y) f h = h y refl
 
 -- What the rules say of a word that is due where these words are known, these frames were taken, and this was said.
-abbrev pub Due : Group → (List Update → ℕ → List Order) → List (Signed Body) → List (Signed Body) → List Body → Body → Type 0
+abbrev pub Due : Group → (List Update → ℕ → List Order) → List (Signed Body) → List (Signed Body) →
+    List Body → Body → Type 0
 Due g orders known taken said (body.Update b) = ⊥
 Due g orders known taken said (body.PoRequest b) = IsIn (as_frame body.Update b.update) taken
 Due g orders known taken said (body.PoAck b) =
-    (u : Update) × (first_of_list (updates_requested known b.j b.k) ≡ Some u) × (b.digest ≡ digest_of_update u) × (list_any (acks b.j b.k) said ≡ false)
+    (u : Update) × (first_of_list (updates_requested known b.j b.k) ≡ Some u) × (b.digest ≡ digest_of_update u)
+    × (list_any (acks b.j b.k) said ≡ false)
 Due g orders known taken said (body.PoSummary b) = b.numbers ≡ map (vector g known) (numbers_below g.n)
-Due g orders known taken said (body.PrePrepare b) = (b.frames ≡ latest_frames g known) × (plan : Plan) × (b.s ≡ next_number said b.v plan)
+Due g orders known taken said (body.PrePrepare b) = (b.frames ≡ latest_frames g known) × (plan : Plan)
+    × (b.s ≡ next_number said b.v plan)
 Due g orders known taken said (body.Prepare b) =
-    (rows : List (List ℕ)) × (offered (facts_of g known) b.v b.s ≡ Some rows) × (b.digest ≡ digest_of_rows rows) × (b.v ≡ view g known)
+    (rows : List (List ℕ)) × (offered (facts_of g known) b.v b.s ≡ Some rows) × (b.digest ≡ digest_of_rows rows)
+    × (b.v ≡ view g known)
     × (is_open g known ≡ true) × (list_any (prepares_said b.v b.s) said ≡ false)
 Due g orders known taken said (body.Commit b) =
-    (rows : List (List ℕ)) × (prepared g (facts_of g known) b.v b.s ≡ Some rows) × (b.digest ≡ digest_of_rows rows) × (b.v ≡ view g known)
+    (rows : List (List ℕ)) × (prepared g (facts_of g known) b.v b.s ≡ Some rows) × (b.digest ≡ digest_of_rows rows)
+    × (b.v ≡ view g known)
     × IsIn b.s (in_window g (facts_of g known)) × (list_any (commits_said b.v b.s) said ≡ false)
 Due g orders known taken said (body.Report b) =
-    (b.v ≡ view g known) × (b.base ≡ stable g (facts_of g known)) × (b.marks ≡ marks_for g (facts_of g known) (stable g (facts_of g known)))
+    (b.v ≡ view g known) × (b.base ≡ stable g (facts_of g known))
+    × (b.marks ≡ marks_for g (facts_of g known) (stable g (facts_of g known)))
     × (b.certificates ≡ certificates_below g (facts_of g known) (view g known))
 Due g orders known taken said (body.NewView b) =
     (1 ≤ b.v) × (b.reports ≡ take g.q (first_reports g known b.v)) × (g.q ≤ length (first_reports g known b.v))
 Due g orders known taken said (body.Give b) =
-    (j k : ℕ) × (digest : List ℕ) × IsIn (as_frame body.PoRequest b.request) known × (b.acks ≡ quorum_of_acks g known j k digest)
+    (j k : ℕ) × (digest : List ℕ) × IsIn (as_frame body.PoRequest b.request) known
+    × (b.acks ≡ quorum_of_acks g known j k digest)
 Due g orders known taken said (body.GiveOrdered b) =
-    (v : ℕ) × (digest : List ℕ) × (ordered g (facts_of g known) b.s ≡ Some b.rows) × (b.commits ≡ quorum_of g (commit_by v b.s digest) (facts_of g known))
-Due g orders known taken said (body.Voucher b) = (1 ≤ b.number) × (slice_get (orders (executed g known) b.client) (b.number - 1) ≡ Some b.order)
+    (v : ℕ) × (digest : List ℕ) × (ordered g (facts_of g known) b.s ≡ Some b.rows)
+    × (b.commits ≡ quorum_of g (commit_by v b.s digest) (facts_of g known))
+Due g orders known taken said (body.Voucher b) =
+    (1 ≤ b.number) × (slice_get (orders (executed g known) b.client) (b.number - 1) ≡ Some b.order)
 Due g orders known taken said _ = Unit {0}
 
 pub if_some : {X : Type 0} (b : Bool) {x y : X} → cond b (Some x) None ≡ Some y → (b ≡ true) × (x ≡ y)
 if_some true e = (refl, some_same e)
 if_some false e = absurd (none_some e)
 
-update_of_body : (c t signer : ℕ) (word : Body) (sig : List ℕ) (u : Signed Update) → update_of c t record { signer = signer; body = word; sig = sig } ≡ Some u
+update_of_body : (c t signer : ℕ) (word : Body) (sig : List ℕ) (u : Signed Update) →
+    update_of c t record { signer = signer; body = word; sig = sig } ≡ Some u
     → record { signer = signer; body = word; sig = sig } ≡ as_frame body.Update u
-update_of_body c t signer (body.Update b) sig u e = ap (λ (r : Signed Update). as_frame body.Update r) (if_some (nat_eq b.client c && nat_eq b.t t) e).1
+update_of_body c t signer (body.Update b) sig u e = ap (λ (r : Signed Update). as_frame body.Update r)
+    (if_some (nat_eq b.client c && nat_eq b.t t) e).1
 update_of_body c t signer _ sig u e = absurd (none_some e)
 
-request_of_body : (j k : ℕ) (v : Update) (signer : ℕ) (word : Body) (sig : List ℕ) (r : Signed PoRequest) → request_of j k v record { signer = signer; body = word; sig = sig } ≡ Some r
+request_of_body : (j k : ℕ) (v : Update) (signer : ℕ) (word : Body) (sig : List ℕ) (r : Signed PoRequest) →
+    request_of j k v record { signer = signer; body = word; sig = sig } ≡ Some r
     → record { signer = signer; body = word; sig = sig } ≡ as_frame body.PoRequest r
 request_of_body j k v signer (body.PoRequest b) sig r e =
-    ap (λ (x : Signed PoRequest). as_frame body.PoRequest x) (if_some (nat_eq signer j && nat_eq b.k k && bytes_eq (update_text b.update.body) (update_text v)) e).1
+    ap (λ (x : Signed PoRequest). as_frame body.PoRequest x)
+    (if_some (nat_eq signer j && nat_eq b.k k && bytes_eq (update_text b.update.body) (update_text v)) e).1
 request_of_body j k v signer _ sig r e = absurd (none_some e)
 
 plus_none : (k : ℕ) → k + 0 ≡ k
@@ -90,54 +114,75 @@ less_one k = omega arith
 one_on : (k x : ℕ) → k + 1 + x ≡ k + suc x
 one_on k x = omega arith
 
-module _ (g : Group) (orders : List Update → ℕ → List Order) (me : ℕ) (known taken : List (Signed Body)) (said : List Body) where
+module _ (g : Group) (orders : List Update → ℕ → List Order) (me : ℕ) (known taken : List (Signed Body))
+    (said : List Body) where
   abbrev IsDue : Body → Type 0
   IsDue b = Due g orders known taken said b
 
-  update_of_frame : (c t : ℕ) (f : Signed Body) (u : Signed Update) → update_of c t f ≡ Some u → f ≡ as_frame body.Update u
+  update_of_frame : (c t : ℕ) (f : Signed Body) (u : Signed Update) → update_of c t f ≡ Some u →
+      f ≡ as_frame body.Update u
   update_of_frame c t f u e = update_of_body c t f.signer f.body f.sig u e
 
   next_request_due : (before : List Body) (c : ℕ) → Each IsDue (next_request g me taken before c)
-  next_request_due before c = each_if IsDue (is_door g c me && nat_lt (length (requests_said before)) most_number) _ [] (λ _.
+  next_request_due before c =
+      each_if IsDue (is_door g c me && nat_lt (length (requests_said before)) most_number) _ [] (λ _.
       each_elim IsDue (first_of_list (filter_map (update_of c (requests_said_for c before + 1)) taken)) _ (λ u e.
       each_one IsDue (body.PoRequest record { k = length (requests_said before) + 1; update = u }) (
-      let found = in_filter_map_from (update_of c (requests_said_for c before + 1)) taken (first_in (filter_map (update_of c (requests_said_for c before + 1)) taken) e) in
-      subst (λ (f : Signed Body). IsIn f taken) (update_of_frame c (requests_said_for c before + 1) found.0 u found.2) found.1)))
+      let found = in_filter_map_from (update_of c (requests_said_for c before + 1)) taken
+      (first_in (filter_map (update_of c (requests_said_for c before + 1)) taken) e) in
+      subst (λ (f : Signed Body). IsIn f taken) (update_of_frame c (requests_said_for c before + 1) found.0 u found.2)
+      found.1)))
       (λ _. each_none IsDue)
 
   requests_are_due : (before : List Body) (clients : List ℕ) → Each IsDue (requests_due g me taken before clients)
   requests_are_due before [] = each_none IsDue
   requests_are_due before (c ∷ clients) =
-      each_append IsDue (next_request g me taken before c) _ (next_request_due before c) (requests_are_due (before ++ next_request g me taken before c) clients)
+      each_append IsDue (next_request g me taken before c) _ (next_request_due before c)
+      (requests_are_due (before ++ next_request g me taken before c) clients)
 
   ack_from : (j k : ℕ) (us : List Update) → updates_requested known j k ≡ us → list_any (acks j k) said ≡ false
       → Each IsDue (elim us [ [] ↦ [] | u ∷ _ ↦ body.PoAck record { j = j; k = k; digest = digest_of_update u } ∷ [] ])
   ack_from j k [] e fresh = each_none IsDue
-  ack_from j k (u ∷ us) e fresh = each_one IsDue (body.PoAck record { j = j; k = k; digest = digest_of_update u }) (u, ap first_of_list e, refl, fresh)
+  ack_from j k (u ∷ us) e fresh = each_one IsDue (body.PoAck record { j = j; k = k; digest = digest_of_update u })
+      (u, ap first_of_list e, refl, fresh)
 
   acks_are_due : Each IsDue (acks_due g known said)
-  acks_are_due = each_flat_map IsDue _ (numbers_below g.n) (λ j _. each_flat_map IsDue _ (numbers_from 1 most_number) (λ k _.
-      each_if IsDue (list_any (acks j k) said) [] _ (λ _. each_none IsDue) (λ fresh. ack_from j k (updates_requested known j k) refl fresh)))
+  acks_are_due = each_flat_map IsDue _ (numbers_below g.n)
+      (λ j _. each_flat_map IsDue _ (numbers_from 1 most_number) (λ k _.
+      each_if IsDue (list_any (acks j k) said) [] _ (λ _. each_none IsDue)
+      (λ fresh. ack_from j k (updates_requested known j k) refl fresh)))
 
   summaries_are_due : (at_tick : Bool) → Each IsDue (summaries_due g known said at_tick)
-  summaries_are_due at_tick = each_if IsDue _ _ [] (λ _. each_one IsDue (body.PoSummary record { numbers = map (vector g known) (numbers_below g.n) }) refl) (λ _. each_none IsDue)
+  summaries_are_due at_tick =
+      each_if IsDue _ _ [] (λ _. each_one IsDue
+      (body.PoSummary record { numbers = map (vector g known) (numbers_below g.n) }) refl) (λ _. each_none IsDue)
 
-  preprepares_are_due : (facts : List OrderFact) (at_tick : Bool) → Each IsDue (preprepares_due g me known facts said at_tick)
+  preprepares_are_due : (facts : List OrderFact) (at_tick : Bool) →
+      Each IsDue (preprepares_due g me known facts said at_tick)
   preprepares_are_due facts at_tick = each_elim IsDue (plan_known facts (view g known)) _ (λ plan _.
-      each_if IsDue _ _ [] (λ _. each_one IsDue (body.PrePrepare record { v = view g known; s = next_number said (view g known) plan; frames = latest_frames g known }) (refl, plan, refl)) (λ _. each_none IsDue))
+      each_if IsDue _ _ [] (λ _. each_one IsDue
+      (body.PrePrepare record {
+        v = view g known;
+        s = next_number said (view g known) plan;
+        frames =
+            latest_frames g known;
+      }) (refl, plan, refl)) (λ _. each_none IsDue))
 
   prepares_are_due : Each IsDue (prepares_due g (facts_of g known) said (view g known) (is_open g known))
-  prepares_are_due = each_if IsDue (is_open g known) _ [] (λ opened. each_flat_map IsDue _ (in_window g (facts_of g known)) (λ s _.
+  prepares_are_due = each_if IsDue (is_open g known) _ []
+      (λ opened. each_flat_map IsDue _ (in_window g (facts_of g known)) (λ s _.
       each_if IsDue (list_any (prepares_said (view g known) s) said) [] _ (λ _. each_none IsDue) (λ fresh.
       each_elim IsDue (offered (facts_of g known) (view g known) s) _ (λ rows e.
-      each_one IsDue (body.Prepare record { v = view g known; s = s; digest = digest_of_rows rows }) (rows, e, refl, refl, opened, fresh)))))
+      each_one IsDue (body.Prepare record { v = view g known; s = s; digest = digest_of_rows rows })
+      (rows, e, refl, refl, opened, fresh)))))
       (λ _. each_none IsDue)
 
   commits_are_due : Each IsDue (commits_due g (facts_of g known) said (view g known))
   commits_are_due = each_flat_map IsDue _ (in_window g (facts_of g known)) (λ s within.
       each_if IsDue (list_any (commits_said (view g known) s) said) [] _ (λ _. each_none IsDue) (λ fresh.
       each_elim IsDue (prepared g (facts_of g known) (view g known) s) _ (λ rows e.
-      each_one IsDue (body.Commit record { v = view g known; s = s; digest = digest_of_rows rows }) (rows, e, refl, refl, within, fresh))))
+      each_one IsDue (body.Commit record { v = view g known; s = s; digest = digest_of_rows rows })
+      (rows, e, refl, refl, within, fresh))))
 
   pings_are_due : (ticks : ℕ) (at_tick : Bool) → Each IsDue (pings_due ticks at_tick)
   pings_are_due ticks at_tick = each_if IsDue _ _ [] (λ _. each_one IsDue _ tt) (λ _. each_none IsDue)
@@ -146,18 +191,24 @@ module _ (g : Group) (orders : List Update → ℕ → List Order) (me : ℕ) (k
   pongs_are_due = each_flat_map IsDue (pongs_due_to known said) _ (λ master _. each_map IsDue _ _ (λ number _. tt))
 
   round_trips_are_due : (ticks : ℕ) → Each IsDue (round_trips_due g me known said ticks)
-  round_trips_are_due ticks = each_flat_map IsDue (round_trips_due_from me known said ticks) _ (λ master _. each_map IsDue _ _ (λ number _. tt))
+  round_trips_are_due ticks = each_flat_map IsDue (round_trips_due_from me known said ticks) _
+      (λ master _. each_map IsDue _ _ (λ number _. tt))
 
   tat_reports_are_due : (v waiting : ℕ) (at_tick : Bool) → Each IsDue (tat_reports_due said v waiting at_tick)
   tat_reports_are_due v waiting at_tick = each_if IsDue _ _ [] (λ _. each_one IsDue _ tt) (λ _. each_none IsDue)
 
   tat_bounds_are_due : (v : ℕ) (at_tick : Bool) → Each IsDue (tat_bounds_due g me known said v at_tick)
-  tat_bounds_are_due v at_tick = each_elim IsDue (own_bound g me known) _ (λ bound _. each_if IsDue _ _ [] (λ _. each_one IsDue _ tt) (λ _. each_none IsDue))
+  tat_bounds_are_due v at_tick =
+      each_elim IsDue (own_bound g me known) _
+      (λ bound _. each_if IsDue _ _ [] (λ _. each_one IsDue _ tt) (λ _. each_none IsDue))
 
   suspects_are_due : (v : ℕ) (at_tick : Bool) → Each IsDue (suspects_due g known said v at_tick)
   suspects_are_due v at_tick = each_if IsDue _ _ [] (λ _. each_one IsDue _ tt) (λ _. each_none IsDue)
 
-  report_is_due : Each IsDue (report_due g known said (stable g (facts_of g known)) (marks_for g (facts_of g known) (stable g (facts_of g known))) (certificates_below g (facts_of g known) (view g known)))
+  report_is_due : Each IsDue
+      (report_due g known said (stable g (facts_of g known))
+      (marks_for g (facts_of g known) (stable g (facts_of g known)))
+      (certificates_below g (facts_of g known) (view g known)))
   report_is_due = each_if IsDue _ _ [] (λ _. each_one IsDue _ (refl, refl, refl, refl)) (λ _. each_none IsDue)
 
   new_view_is_due : Each IsDue (new_view_due g me known said)
@@ -165,7 +216,11 @@ module _ (g : Group) (orders : List Update → ℕ → List Order) (me : ℕ) (k
       let rest = and_parts _ _ holds in
       let enough = and_parts _ _ rest.0 in
       let leads = and_parts _ _ enough.0 in
-      each_one IsDue _ (leb-true 1 (view g known) leads.0, refl, leb-true g.q (length (first_reports g known (view g known))) enough.1)) (λ _. each_none IsDue)
+      each_one IsDue _ (
+        leb-true 1 (view g known) leads.0,
+        refl,
+        leb-true g.q (length (first_reports g known (view g known))) enough.1,
+      )) (λ _. each_none IsDue)
 
   ask_update_is_due : (at_tick : Bool) (o : Option Request) → Each IsDue (ask_update_due said at_tick o)
   ask_update_is_due at_tick None = each_none IsDue
@@ -175,43 +230,71 @@ module _ (g : Group) (orders : List Update → ℕ → List Order) (me : ℕ) (k
   ask_order_is_due at_tick None = each_none IsDue
   ask_order_is_due at_tick (Some s) = each_if IsDue _ _ [] (λ _. each_one IsDue _ tt) (λ _. each_none IsDue)
 
-  request_of_frame : (j k : ℕ) (u : Update) (f : Signed Body) (r : Signed PoRequest) → request_of j k u f ≡ Some r → f ≡ as_frame body.PoRequest r
+  request_of_frame : (j k : ℕ) (u : Update) (f : Signed Body) (r : Signed PoRequest) → request_of j k u f ≡ Some r →
+      f ≡ as_frame body.PoRequest r
   request_of_frame j k u f r e = request_of_body j k u f.signer f.body f.sig r e
 
   gives_are_due : Each IsDue (gives_due g me known said)
-  gives_are_due = each_flat_map IsDue _ (numbers_below g.n) (λ j _. each_flat_map IsDue _ (numbers_from 1 most_number) (λ k _.
-      each_if IsDue _ _ [] (λ _. each_elim IsDue (certified g known j k) _ (λ u _. each_elim IsDue (first_of_list (filter_map (request_of j k u) known)) _ (λ request e.
+  gives_are_due = each_flat_map IsDue _ (numbers_below g.n)
+      (λ j _. each_flat_map IsDue _ (numbers_from 1 most_number) (λ k _.
+      each_if IsDue _ _ [] (λ _. each_elim IsDue (certified g known j k) _
+      (λ u _. each_elim IsDue (first_of_list (filter_map (request_of j k u) known)) _ (λ request e.
       each_one IsDue (body.Give record { request = request; acks = quorum_of_acks g known j k (digest_of_update u) }) (
-      let found = in_filter_map_from (request_of j k u) known (first_in (filter_map (request_of j k u) known) e) in
-      (j, k, digest_of_update u, subst (λ (f : Signed Body). IsIn f known) (request_of_frame j k u found.0 request found.2) found.1, refl)))))
+      let found = in_filter_map_from (request_of j k u) known (first_in (filter_map (request_of j k u) known) e) in (
+        j,
+        k,
+        digest_of_update u,
+        subst (λ (f : Signed Body). IsIn f known) (request_of_frame j k u found.0 request found.2) found.1,
+        refl,
+      )))))
       (λ _. each_none IsDue)))
 
   gives_ordered_are_due : Each IsDue (gives_ordered_due g me known (facts_of g known) said)
   gives_ordered_are_due = each_flat_map IsDue _ (numbers_from 1 most_number) (λ s _.
       each_if IsDue _ _ [] (λ _. each_elim IsDue (ordered g (facts_of g known) s) _ (λ rows e.
-      each_one IsDue (body.GiveOrdered record { s = s; v = greatest_of (committed_views g (facts_of g known) s (digest_of_rows rows)); rows = rows; commits = quorum_of g (commit_by (greatest_of (committed_views g (facts_of g known) s (digest_of_rows rows))) s (digest_of_rows rows)) (facts_of g known) }) (greatest_of (committed_views g (facts_of g known) s (digest_of_rows rows)), digest_of_rows rows, e, refl)))
+      each_one IsDue (body.GiveOrdered record {
+        s = s;
+        v =
+            greatest_of (committed_views g (facts_of g known) s (digest_of_rows rows));
+        rows = rows;
+        commits =
+            quorum_of g (commit_by (greatest_of (committed_views g (facts_of g known) s (digest_of_rows rows))) s
+            (digest_of_rows rows)) (facts_of g known);
+      })
+      (greatest_of (committed_views g (facts_of g known) s (digest_of_rows rows)), digest_of_rows rows, e, refl)))
       (λ _. each_none IsDue))
 
-  vouchers_from_are_due : (c k : ℕ) (rest : List Order) → ((x : ℕ) → slice_get (orders (executed g known) c) (k + x) ≡ slice_get rest x) → Each IsDue (vouchers_from said c (k + 1) rest)
+  vouchers_from_are_due : (c k : ℕ) (rest : List Order) →
+      ((x : ℕ) → slice_get (orders (executed g known) c) (k + x) ≡ slice_get rest x) →
+      Each IsDue (vouchers_from said c (k + 1) rest)
   vouchers_from_are_due c k [] at = each_none IsDue
   vouchers_from_are_due c k (order ∷ rest) at =
-      let first : slice_get (orders (executed g known) c) k ≡ Some order = ap (slice_get (orders (executed g known) c)) (sym (plus_none k)) ∙ at 0 in
+      let first : slice_get (orders (executed g known) c) k ≡ Some order =
+      ap (slice_get (orders (executed g known) c)) (sym (plus_none k)) ∙ at 0 in
       let due : Each IsDue (body.Voucher record { client = c; number = k + 1; order = order } ∷ []) =
-      each_one IsDue (body.Voucher record { client = c; number = k + 1; order = order }) (omega arith, ap (slice_get (orders (executed g known) c)) (less_one k) ∙ first) in
+      each_one IsDue (body.Voucher record { client = c; number = k + 1; order = order })
+      (omega arith, ap (slice_get (orders (executed g known) c)) (less_one k) ∙ first) in
       each_append IsDue _ _
-      (each_if IsDue (list_any (vouchers_said c (k + 1)) said) [] (body.Voucher record { client = c; number = k + 1; order = order } ∷ []) (λ _. each_none IsDue) (λ _. due))
-      (vouchers_from_are_due c (k + 1) rest (λ x. ap (slice_get (orders (executed g known) c)) (one_on k x) ∙ at (suc x)))
+      (each_if IsDue (list_any (vouchers_said c (k + 1)) said) []
+      (body.Voucher record { client = c; number = k + 1; order = order } ∷ []) (λ _. each_none IsDue) (λ _. due))
+      (vouchers_from_are_due c (k + 1) rest
+      (λ x. ap (slice_get (orders (executed g known) c)) (one_on k x) ∙ at (suc x)))
 
   vouchers_are_due : Each IsDue (vouchers_due g orders known said)
-  vouchers_are_due = each_flat_map IsDue _ (numbers_below g.clients) (λ c _. subst (λ (x : ℕ). Each IsDue (vouchers_from said c x (orders (executed g known) c))) none_and_one
-      (vouchers_from_are_due c 0 (orders (executed g known) c) (λ x. ap (slice_get (orders (executed g known) c)) (none_plus x))))
+  vouchers_are_due = each_flat_map IsDue _ (numbers_below g.clients)
+      (λ c _. subst (λ (x : ℕ). Each IsDue (vouchers_from said c x (orders (executed g known) c))) none_and_one
+      (vouchers_from_are_due c 0 (orders (executed g known) c)
+      (λ x. ap (slice_get (orders (executed g known) c)) (none_plus x))))
 
   marks_are_due : Each IsDue (marks_due g (facts_of g known) said)
-  marks_are_due = each_flat_map IsDue (mark_due said) _ (λ s _. each_if IsDue _ _ [] (λ _. each_one IsDue _ tt) (λ _. each_none IsDue))
+  marks_are_due = each_flat_map IsDue (mark_due said) _
+      (λ s _. each_if IsDue _ _ [] (λ _. each_one IsDue _ tt) (λ _. each_none IsDue))
 
 -- each word that is said is one that is due
-pub answers_are_due : (g : Group) (orders : List Update → ℕ → List Order) (me : ℕ) (before : List Heard) (took : Option (Signed Body)) (at_tick : Bool)
-    → Each (Due g orders (known_at before took) (taken_at before took) (said_before before)) (answers g orders me before took at_tick)
+pub answers_are_due : (g : Group) (orders : List Update → ℕ → List Order) (me : ℕ) (before : List Heard)
+    (took : Option (Signed Body)) (at_tick : Bool)
+    → Each (Due g orders (known_at before took) (taken_at before took) (said_before before))
+    (answers g orders me before took at_tick)
 unfolding answers
 answers_are_due g orders me before took at_tick =
     let known : List (Signed Body) = known_at before took in

@@ -23,7 +23,8 @@ use Rattle.agreement.proofs.Once.{IsBacked, said_of, length-filter_map, some_fro
 use Rattle.agreement.proofs.Requests.{known_in}
 
 -- what correct masters know in a correct master's name, that master said
-pub quorum_backed : (w : Setup) (history : List Entry) → IsSound w history → (b : Body) → IsQuorumKnown w history b → IsBacked w history (λ x. x ≡ b)
+pub quorum_backed : (w : Setup) (history : List Entry) → IsSound w history → (b : Body) → IsQuorumKnown w history b →
+    IsBacked w history (λ x. x ≡ b)
 quorum_backed w history sound b quorum = record {
   test = quorum.masters;
   enough = quorum.enough;
@@ -37,15 +38,20 @@ quorum_backed w history sound b quorum = record {
 }
 
 -- the votes of a quorum that one correct master knows
-votes_known : {X : Type 0} (w : Setup) (history upto : List Entry) (i : ℕ) (b : Body) (vote : ℕ → OrderFact → Option X) → Begins upto history → is_correct_master w i ≡ true
-    → ((m : ℕ) (x : X) (f : OrderFact) → IsIn f (facts_of w.group (known_by w upto i)) → vote m f ≡ Some x → (p : Signed Body) × IsIn p (known_by w upto i) × (p.signer ≡ m) × (p.body ≡ b))
+votes_known : {X : Type 0} (w : Setup) (history upto : List Entry) (i : ℕ) (b : Body) (vote : ℕ → OrderFact →
+    Option X) → Begins upto history → is_correct_master w i ≡ true
+    → ((m : ℕ) (x : X) (f : OrderFact) → IsIn f (facts_of w.group (known_by w upto i)) → vote m f ≡ Some x →
+    (p : Signed Body) × IsIn p (known_by w upto i) × (p.signer ≡ m) × (p.body ≡ b))
     → is_voted w.group vote (facts_of w.group (known_by w upto i)) ≡ true → IsQuorumKnown w history b
 unfolding is_voted
 votes_known w history upto i b vote begins correct each voted =
     let facts : List OrderFact = facts_of w.group (known_by w upto i) in
-    let enough : w.group.q ≤ length (first_votes w.group vote (facts_of w.group (known_by w upto i))) = leb-true w.group.q (length (first_votes w.group vote (facts_of w.group (known_by w upto i)))) voted in
-    let same : length (first_votes w.group vote (facts_of w.group (known_by w upto i))) ≡ length (voters (λ m. is_some (first_of_list (filter_map (vote m) (facts_of w.group (known_by w upto i))))) w.group.n) =
-    length-filter_map (λ m. first_of_list (filter_map (vote m) (facts_of w.group (known_by w upto i)))) (numbers_below w.group.n) in
+    let enough : w.group.q ≤ length (first_votes w.group vote (facts_of w.group (known_by w upto i))) =
+    leb-true w.group.q (length (first_votes w.group vote (facts_of w.group (known_by w upto i)))) voted in
+    let same : length (first_votes w.group vote (facts_of w.group (known_by w upto i))) ≡ length
+    (voters (λ m. is_some (first_of_list (filter_map (vote m) (facts_of w.group (known_by w upto i))))) w.group.n) =
+    length-filter_map (λ m. first_of_list (filter_map (vote m) (facts_of w.group (known_by w upto i))))
+    (numbers_below w.group.n) in
     record {
       masters = λ m. is_some (first_of_list (filter_map (vote m) (facts_of w.group (known_by w upto i))));
       enough = omega arith;
@@ -53,17 +59,40 @@ votes_known w history upto i b vote begins correct each voted =
           let first = some_from (first_of_list (filter_map (vote m) facts)) some in
           let found = in_filter_map_from (vote m) facts (first_in (filter_map (vote m) facts) first.1) in
           let word = each m first.0 found.0 found.1 found.2 in
-          record { upto = upto; begins = begins; master = i; correct = correct; part = word.0; among = word.1; by = word.2; word = word.3 };
+          record {
+            upto = upto;
+            begins = begins;
+            master = i;
+            correct = correct;
+            part = word.0;
+            among = word.1;
+            by = word.2;
+            word = word.3;
+          };
     }
 
 pub votes_are_known : VotesAreKnown
 votes_are_known w history upto i begins correct v s digest = (
-  votes_known w history upto i (body.Prepare record { v = v; s = s; digest = digest }) (prepare_by v s digest) begins correct (λ m x f h e.
+  votes_known w history upto i (body.Prepare record { v = v; s = s; digest = digest }) (prepare_by v s digest)
+      begins correct (λ m x f h e.
       let is = prepare_by_from v s digest m f x e in
-      let told = fact_from w.group (known_by w upto i) (fact.Prepare x) (subst (λ (z : OrderFact). IsIn z (facts_of w.group (known_by w upto i))) is.0 h) in
-      (told.0, told.1, ap (λ (p : Signed Body). p.signer) told.2 ∙ is.1, ap (λ (p : Signed Body). p.body) told.2 ∙ prepare_same x.body v s digest is.2 is.3 is.4)),
-  votes_known w history upto i (body.Commit record { v = v; s = s; digest = digest }) (commit_by v s digest) begins correct (λ m x f h e.
+      let told = fact_from w.group (known_by w upto i) (fact.Prepare x)
+      (subst (λ (z : OrderFact). IsIn z (facts_of w.group (known_by w upto i))) is.0 h) in (
+        told.0,
+        told.1,
+        ap (λ (p : Signed Body). p.signer) told.2 ∙ is.1,
+        ap (λ (p : Signed Body). p.body) told.2
+            ∙ prepare_same x.body v s digest is.2 is.3 is.4,
+      )),
+  votes_known w history upto i (body.Commit record { v = v; s = s; digest = digest }) (commit_by v s digest)
+      begins correct (λ m x f h e.
       let is = commit_by_from v s digest m f x e in
-      let told = fact_from w.group (known_by w upto i) (fact.Commit x) (subst (λ (z : OrderFact). IsIn z (facts_of w.group (known_by w upto i))) is.0 h) in
-      (told.0, told.1, ap (λ (p : Signed Body). p.signer) told.2 ∙ is.1, ap (λ (p : Signed Body). p.body) told.2 ∙ commit_same x.body v s digest is.2 is.3 is.4)),
+      let told = fact_from w.group (known_by w upto i) (fact.Commit x)
+      (subst (λ (z : OrderFact). IsIn z (facts_of w.group (known_by w upto i))) is.0 h) in (
+        told.0,
+        told.1,
+        ap (λ (p : Signed Body). p.signer) told.2 ∙ is.1,
+        ap (λ (p : Signed Body). p.body) told.2
+            ∙ commit_same x.body v s digest is.2 is.3 is.4,
+      )),
 )

@@ -1,7 +1,7 @@
--- What no correct master says in two ways, as statements over every setup and legal history. Of two words of one of these
--- kinds, said by it at any two entries (or at one), that bear the same numbers, both are the same. So whoever is found to
--- have said two different ones is no correct master. (Prime's acknowledgements and PBFT's three phases; the laws of
--- agreement rest on the first two.)
+-- What no correct master says in two ways, as statements over every setup and legal history. Of two words of one of
+-- these kinds, said by it at any two entries (or at one), that bear the same numbers, both are the same. So whoever is
+-- found to have said two different ones is no correct master. (Prime's acknowledgements and PBFT's three phases; the
+-- laws of agreement rest on the first two.)
 use Rattle.std.specs.Prelude.{◌≡◌, ℕ, true, List}
 use Rattle.message_types.specs.declared.preordering.PoAck.{PoAck}
 use Rattle.message_types.specs.declared.ordering.PrePrepare.{PrePrepare}

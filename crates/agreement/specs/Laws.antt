@@ -57,18 +57,22 @@ pub record Start : Type 0 where
   pub v : ℕ
   pub reports : List Report
 
--- The induction on views, over plain lists. Each start's certificates are of views below its own, and listed. The listed
--- certificates for number s of view v have one digest. Each one of a view above v is for the rows that some start of its
--- view plans for s. And each start of a view above v has a base of at least s, or a certificate for s of view v or later.
+-- The induction on views, over plain lists. Each start's certificates are of views below its own, and listed. The
+-- listed certificates for number s of view v have one digest. Each one of a view above v is for the rows that some
+-- start of its view plans for s. And each start of a view above v has a base of at least s, or a certificate for s of
+-- view v or later.
 -- Then all certificates for s of view v or later have that digest.
 abbrev pub ViewInduction : Type 0
 ViewInduction =
     (g : Group) (v s : ℕ) (digest : List ℕ) (certificates : List Certificate) (starts : List Start)
-    → ((p : Start) (c : Certificate) → IsIn p starts → IsIn c (certificates_of p.reports) → (c.v < p.v) × IsIn c certificates)
+    → ((p : Start) (c : Certificate) → IsIn p starts → IsIn c (certificates_of p.reports) →
+    (c.v < p.v) × IsIn c certificates)
     → ((c : Certificate) → IsIn c certificates → c.s ≡ s → c.v ≡ v → digest_of_rows c.rows ≡ digest)
     → ((c : Certificate) → IsIn c certificates → c.s ≡ s → v < c.v
-    → (p : Start) × IsIn p starts × (p.v ≡ c.v) × (base_of p.reports < s) × (digest_of_rows c.rows ≡ digest_of_rows (planned g p.reports s)))
-    → ((p : Start) → IsIn p starts → v < p.v → (s ≤ base_of p.reports) ⊎ ((c : Certificate) × IsIn c (certificates_of p.reports) × (c.s ≡ s) × (v ≤ c.v)))
+    → (p : Start) × IsIn p starts × (p.v ≡ c.v) × (base_of p.reports < s)
+    × (digest_of_rows c.rows ≡ digest_of_rows (planned g p.reports s)))
+    → ((p : Start) → IsIn p starts → v < p.v → (s ≤ base_of p.reports)
+    ⊎ ((c : Certificate) × IsIn c (certificates_of p.reports) × (c.s ≡ s) × (v ≤ c.v)))
     → (c : Certificate) → IsIn c certificates → c.s ≡ s → v ≤ c.v → digest_of_rows c.rows ≡ digest
 
 -- all that a master knows at its last event of a history
@@ -78,9 +82,11 @@ known_by w history i = known_of (heard w history i)
 -- Of any two correct masters, at any two times, what both have certified as one request is one update.
 abbrev pub CertifiedAgree : Type 0
 CertifiedAgree =
-    (w : Setup) (history first second : List Entry) (i j : ℕ) → IsSound w history → Begins first history → Begins second history
+    (w : Setup) (history first second : List Entry) (i j : ℕ) → IsSound w history → Begins first history →
+    Begins second history
     → is_correct_master w i ≡ true → is_correct_master w j ≡ true
-    → (master number : ℕ) (a b : Update) → certified w.group (known_by w first i) master number ≡ Some a → certified w.group (known_by w second j) master number ≡ Some b → a ≡ b
+    → (master number : ℕ) (a b : Update) → certified w.group (known_by w first i) master number ≡ Some a →
+    certified w.group (known_by w second j) master number ≡ Some b → a ≡ b
 
 -- some correct master, at some time of the history, knows the body in the signer's name
 pub record IsKnown (w : Setup) (history : List Entry) (signer : ℕ) (b : Body) : Type 0 where
@@ -93,8 +99,8 @@ pub record IsKnown (w : Setup) (history : List Entry) (signer : ℕ) (b : Body) 
   pub by : part.signer ≡ signer
   pub word : part.body ≡ b
 
--- A quorum said the body, as far as correct masters know: each of the quorum's words is known to some correct master at some
--- time, and no one master need know them all.
+-- A quorum said the body, as far as correct masters know: each of the quorum's words is known to some correct master at
+-- some time, and no one master need know them all.
 pub record IsQuorumKnown (w : Setup) (history : List Entry) (b : Body) : Type 0 where
   pub masters : ℕ → Bool
   pub enough : w.group.q ≤ length (voters masters w.group.n)
@@ -103,13 +109,15 @@ pub record IsQuorumKnown (w : Setup) (history : List Entry) (b : Body) : Type 0 
 -- The votes of a quorum that one correct master knows are such.
 abbrev pub VotesAreKnown : Type 0
 VotesAreKnown =
-    (w : Setup) (history upto : List Entry) (i : ℕ) → Begins upto history → is_correct_master w i ≡ true → (v s : ℕ) (digest : List ℕ)
+    (w : Setup) (history upto : List Entry) (i : ℕ) → Begins upto history → is_correct_master w i ≡ true →
+    (v s : ℕ) (digest : List ℕ)
     → (is_voted w.group (prepare_by v s digest) (facts_of w.group (known_by w upto i)) ≡ true
     → IsQuorumKnown w history (body.Prepare record { v = v; s = s; digest = digest }))
     × (is_voted w.group (commit_by v s digest) (facts_of w.group (known_by w upto i)) ≡ true
     → IsQuorumKnown w history (body.Commit record { v = v; s = s; digest = digest }))
 
--- Where a quorum committed a number in view v, each quorum that prepared it in view v or later prepared the same digest.
+-- Where a quorum committed a number in view v, each quorum that prepared it in view v or later prepared the same
+-- digest.
 abbrev pub CommittedStays : Type 0
 CommittedStays =
     (w : Setup) (history : List Entry) → IsSound w history → (v u s : ℕ) (a b : List ℕ) → v ≤ u
@@ -119,27 +127,31 @@ CommittedStays =
 -- What any two correct masters, at any two times, have ordered as one number is the same.
 abbrev pub OrderedAgree : Type 0
 OrderedAgree =
-    (w : Setup) (history first second : List Entry) (i j : ℕ) → IsSound w history → Begins first history → Begins second history
+    (w : Setup) (history first second : List Entry) (i j : ℕ) → IsSound w history → Begins first history →
+    Begins second history
     → is_correct_master w i ≡ true → is_correct_master w j ≡ true
-    → (s : ℕ) (a b : List (List ℕ)) → ordered w.group (facts_of w.group (known_by w first i)) s ≡ Some a → ordered w.group (facts_of w.group (known_by w second j)) s ≡ Some b → a ≡ b
+    → (s : ℕ) (a b : List (List ℕ)) → ordered w.group (facts_of w.group (known_by w first i)) s ≡ Some a →
+    ordered w.group (facts_of w.group (known_by w second j)) s ≡ Some b → a ≡ b
 
 -- Of what any two correct masters, at any two times, have executed one begins the other.
 abbrev pub ExecutionsAgree : Type 0
 ExecutionsAgree =
-    (w : Setup) (history first second : List Entry) (i j : ℕ) → IsSound w history → Begins first history → Begins second history
+    (w : Setup) (history first second : List Entry) (i j : ℕ) → IsSound w history → Begins first history →
+    Begins second history
     → is_correct_master w i ≡ true → is_correct_master w j ≡ true
     → Begins (executions w first i) (executions w second j) ⊎ Begins (executions w second j) (executions w first i)
 
 -- What a master has executed only grows.
 abbrev pub ExecutionsGrow : Type 0
-ExecutionsGrow = (w : Setup) (history first : List Entry) (i : ℕ) → Begins first history → Begins (executions w first i) (executions w history i)
+ExecutionsGrow = (w : Setup) (history first : List Entry) (i : ℕ) → Begins first history →
+    Begins (executions w first i) (executions w history i)
 
 -- the update is among the parts of the frame that the entry took
 abbrev pub TakesUpdate : Entry → Update → Type 0
 TakesUpdate e u = IsIn (body.Update u) (map (λ p. p.body) (parts_taken e))
 
--- The entry at which a master came to know an update: it took a frame with the update among its parts, took none before, and
--- had learned no such word before, its own words included.
+-- The entry at which a master came to know an update: it took a frame with the update among its parts, took none
+-- before, and had learned no such word before, its own words included.
 pub record FirstTaking (w : Setup) (history : List Entry) (master : ℕ) (u : Update) : Type 0 where
   pub before : List Entry
   pub entry : Entry
@@ -149,8 +161,8 @@ pub record FirstTaking (w : Setup) (history : List Entry) (master : ℕ) (u : Up
   pub first : (earlier : List Entry) (d : Entry) → Stands before earlier d → d.actor ≡ master → TakesUpdate d u → ⊥
   pub unknown : IsIn (body.Update u) (map (λ p. p.body) (flat_map learned (heard w before master))) → ⊥
 
--- Each update that a correct master has executed came to it in a frame taken, and its client said it at an entry before the
--- first such.
+-- Each update that a correct master has executed came to it in a frame taken, and its client said it at an entry before
+-- the first such.
 abbrev pub ExecutedWereSaid : Type 0
 ExecutedWereSaid =
     (w : Setup) (history : List Entry) (i : ℕ) → IsLegal w history → HasSizes w.group → NothingForged w history
@@ -177,25 +189,29 @@ pub record IsTaken (history : List Entry) (signer : ℕ) (b : Body) : Type 0 whe
 pub record IsVouched (w : Setup) (history : List Entry) (client number : ℕ) (order : Order) : Type 0 where
   pub masters : ℕ → Bool
   pub enough : w.group.f < length (voters masters w.group.n)
-  pub taken : (m : ℕ) → m < w.group.n → masters m ≡ true → IsTaken history m (body.Voucher record { client = client; number = number; order = order })
+  pub taken : (m : ℕ) → m < w.group.n → masters m ≡ true →
+      IsTaken history m (body.Voucher record { client = client; number = number; order = order })
 
--- Orders of a client that are vouched for one by one, from number 1 on, begin the orders of some correct master at the end
--- of the history, where longer lists of updates only append orders. So do a proxy's writes and a screen's notices.
+-- Orders of a client that are vouched for one by one, from number 1 on, begin the orders of some correct master at the
+-- end of the history, where longer lists of updates only append orders. So do a proxy's writes and a screen's notices.
 abbrev pub VouchedBegin : Type 0
 VouchedBegin =
-    (w : Setup) (history : List Entry) (client : ℕ) → IsSound w history → ((xs ys : List Update) → Begins xs ys → Begins (w.orders xs client) (w.orders ys client))
-    → (orders : List Order) → ((x : ℕ) (order : Order) → slice_get orders x ≡ Some order → IsVouched w history client (x + 1) order)
+    (w : Setup) (history : List Entry) (client : ℕ) → IsSound w history →
+    ((xs ys : List Update) → Begins xs ys → Begins (w.orders xs client) (w.orders ys client))
+    → (orders : List Order) →
+    ((x : ℕ) (order : Order) → slice_get orders x ≡ Some order → IsVouched w history client (x + 1) order)
     → (i : ℕ) × (is_correct_master w i ≡ true) × Begins orders (w.orders (executions w history i) client)
 
 -- the votes that a client took, whoever they are for
 abbrev pub votes_taken : List Entry → ℕ → List Vote
 votes_taken history actor = votes_in (flat_map parts_taken (own history actor))
 
--- What a client has done, of orders that it can act on, begins the orders of some correct master at the end of the history,
--- where longer lists of updates only append orders.
+-- What a client has done, of orders that it can act on, begins the orders of some correct master at the end of the
+-- history, where longer lists of updates only append orders.
 abbrev pub DoneBegins : Type 0
 DoneBegins =
     (w : Setup) (history : List Entry) (client : ℕ) (can_act : Order → Bool) → IsSound w history
     → ((xs ys : List Update) → Begins xs ys → Begins (w.orders xs client) (w.orders ys client))
     → (i : ℕ) × (is_correct_master w i ≡ true)
-    × Begins (orders_done can_act client w.group.n w.group.f (votes_taken history (w.group.n + client))) (w.orders (executions w history i) client)
+    × Begins (orders_done can_act client w.group.n w.group.f (votes_taken history (w.group.n + client)))
+    (w.orders (executions w history i) client)

@@ -1,4 +1,7 @@
-use Rattle.std.proofs.Common.{◌≡◌, ◌<◌, ℕ, zero, suc, true, List, [], ◌∷◌, ◌++◌, length, take, drop, get_or, set, refl, ap, arith, ℤ, ◌+ℤ◌, ◌-ℤ◌}
+-- That a value leaves an alarm's limit is decided as the definition says, for each kind of alarm. One rule at a
+-- time, a new value settles the next state and tells the next change.
+use Rattle.std.proofs.Common.{◌≡◌, ◌<◌, ℕ, zero, suc, true, List, [], ◌∷◌, ◌++◌, length, take, drop, get_or, set}
+use Rattle.std.proofs.Common.{refl, ap, arith, ℤ, ◌+ℤ◌, ◌-ℤ◌}
 use Rattle.std.specs.Option.{option_to_list}
 use lib.Signed.{lt_z}
 use Rattle.alarm_rules.specs.declared.alarm.AlarmRule.{AlarmRule}
@@ -20,17 +23,25 @@ raised_within (s ∷ ss) zero h = omega arith
 raised_within (s ∷ ss) (suc i) h = let below = raised_within ss i h in omega arith
 
 -- one more state is settled
-pub settle_step : (p : ℕ) (v : ℤ) (rs : List AlarmRule) (ss : List AlarmState) (i : ℕ) (r : AlarmRule) (s : AlarmState) → i < length rs → i < length ss → r ≡ get_or rs i r → s ≡ get_or ss i s
-    → take (suc i) (set ss i (state_after p v r s)) ++ seen p v (drop (suc i) rs) (drop (suc i) (set ss i (state_after p v r s))) ≡ take i ss ++ seen p v (drop i rs) (drop i ss)
+pub settle_step : (p : ℕ) (v : ℤ) (rs : List AlarmRule) (ss : List AlarmState) (i : ℕ) (r : AlarmRule)
+    (s : AlarmState) → i < length rs → i < length ss → r ≡ get_or rs i r → s ≡ get_or ss i s
+    → take (suc i) (set ss i (state_after p v r s)) ++ seen p v (drop (suc i) rs)
+    (drop (suc i) (set ss i (state_after p v r s))) ≡ take i ss ++ seen p v (drop i rs) (drop i ss)
 settle_step p v [] ss i r s low high at on = absurd (omega arith)
 settle_step p v (q ∷ rs) [] i r s low high at on = absurd (omega arith)
-settle_step p v (q ∷ rs) (t ∷ ss) zero r s low high at on = let there : r ≡ q = at in let state : s ≡ t = on in rw (there, state) refl
-settle_step p v (q ∷ rs) (t ∷ ss) (suc i) r s low high at on = ap (λ (rest : List AlarmState). t ∷ rest) (settle_step p v rs ss i r s (omega arith) (omega arith) at on)
+settle_step p v (q ∷ rs) (t ∷ ss) zero r s low high at on = let there : r ≡ q = at in let state : s ≡ t =
+    on in rw (there, state) refl
+settle_step p v (q ∷ rs) (t ∷ ss) (suc i) r s low high at on =
+    ap (λ (rest : List AlarmState). t ∷ rest) (settle_step p v rs ss i r s (omega arith) (omega arith) at on)
 
 -- one more alarm has told its change
-pub told_step : (p : ℕ) (v : ℤ) (rs : List AlarmRule) (ss : List AlarmState) (i n : ℕ) (r : AlarmRule) (s : AlarmState) → i < length rs → i < length ss → r ≡ get_or rs i r → s ≡ get_or ss i s
-    → changes p v n (drop i rs) (drop i ss) ≡ option_to_list (change p v n r s) ++ changes p v (suc n) (drop (suc i) rs) (drop (suc i) ss)
+pub told_step : (p : ℕ) (v : ℤ) (rs : List AlarmRule) (ss : List AlarmState) (i n : ℕ) (r : AlarmRule)
+    (s : AlarmState) → i < length rs → i < length ss → r ≡ get_or rs i r → s ≡ get_or ss i s
+    → changes p v n (drop i rs) (drop i ss) ≡ option_to_list (change p v n r s)
+    ++ changes p v (suc n) (drop (suc i) rs) (drop (suc i) ss)
 told_step p v [] ss i n r s low high at on = absurd (omega arith)
 told_step p v (q ∷ rs) [] i n r s low high at on = absurd (omega arith)
-told_step p v (q ∷ rs) (t ∷ ss) zero n r s low high at on = let there : r ≡ q = at in let state : s ≡ t = on in rw (there, state) refl
-told_step p v (q ∷ rs) (t ∷ ss) (suc i) n r s low high at on = told_step p v rs ss i n r s (omega arith) (omega arith) at on
+told_step p v (q ∷ rs) (t ∷ ss) zero n r s low high at on = let there : r ≡ q = at in let state : s ≡ t =
+    on in rw (there, state) refl
+told_step p v (q ∷ rs) (t ∷ ss) (suc i) n r s low high at on =
+    told_step p v rs ss i n r s (omega arith) (omega arith) at on

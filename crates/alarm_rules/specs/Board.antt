@@ -1,4 +1,5 @@
-use Rattle.std.specs.Prelude.{ℕ, suc, ◌==◌, Bool, true, false, if◌then◌else◌, List, [], ◌∷◌, ◌++◌, map, Option, Some, None, ℤ, slice_get, position}
+use Rattle.std.specs.Prelude.{ℕ, suc, ◌==◌, Bool, true, false, if◌then◌else◌, List, [], ◌∷◌, ◌++◌, map, Option, Some}
+use Rattle.std.specs.Prelude.{None, ℤ, slice_get, position}
 use Rattle.std.specs.Option.{option_to_list, option_map_or}
 use Rattle.std.specs.Str.{bytes_eq}
 use Rattle.alarm_rules.specs.declared.alarm.AlarmState.{AlarmState}
@@ -25,13 +26,15 @@ change_between number true true = None
 
 -- what a value of a point does to the alarm of that number
 abbrev pub change : ℕ → ℤ → ℕ → AlarmRule → AlarmState → Option Change
-change point v number r s = if r.point == point then change_between number (is_raised s) (is_raised (next_state r v s)) else None
+change point v number r s = if r.point == point then change_between number (is_raised s)
+    (is_raised (next_state r v s)) else None
 
 -- what a value of a point does to alarms that are numbered from a first one on, in number order
 abbrev pub changes : ℕ → ℤ → ℕ → List AlarmRule → List AlarmState → List Change
 changes point v number [] states = []
 changes point v number (r ∷ rs) [] = []
-changes point v number (r ∷ rs) (s ∷ ss) = option_to_list (change point v number r s) ++ changes point v (suc number) rs ss
+changes point v number (r ∷ rs) (s ∷ ss) = option_to_list (change point v number r s)
+    ++ changes point v (suc number) rs ss
 
 -- the state of one alarm after a value of a point
 abbrev pub state_after : ℕ → ℤ → AlarmRule → AlarmState → AlarmState

@@ -3,7 +3,7 @@ ghost use Rattle.std.specs.Prelude.{◌≡◌};
 use plain_lists::{Copied, Text, Want};
 
 /// On which side of its limit an alarm is raised.
-#[derive(Clone, Copy, Debug, PartialEq, Eq)]
+#[derive(Clone, Copy, PartialEq, Eq)]
 pub enum AlarmKind {
     /// Raised at the limit and above.
     High,
@@ -24,7 +24,7 @@ pub struct AlarmRule {
 }
 
 /// What is remembered of an alarm.
-#[derive(Clone, Copy, Debug, PartialEq, Eq)]
+#[derive(Clone, Copy, PartialEq, Eq)]
 pub enum AlarmState {
     Quiet,
     Raised,

@@ -8,7 +8,8 @@ use Rattle.protocol_rules.specs.Master.{taken_frames}
 use Rattle.field_proxy.specs.Front.{Front}
 use Rattle.operator_screen.specs.Board.{Desk}
 use Rattle.scenario_file.specs.Reading.{Contents}
-use Rattle.history_rules.specs.Events.{Event, Took, Tick, Command, Field, Poll, Cry, Skip, Restart, Entry, frame_taken, is_tick, is_silent, is_restart}
+use Rattle.history_rules.specs.Events.{Event, Took, Tick, Command, Field, Poll, Cry, Skip, Restart, Entry}
+use Rattle.history_rules.specs.Events.{frame_taken, is_tick, is_silent, is_restart}
 use Rattle.history_rules.specs.Audit.{parts_taken}
 use Rattle.world_rules.specs.Clients.{happenings_of, proxy_says, screen_says}
 use Rattle.world_rules.specs.Frames.{cried}
@@ -17,7 +18,9 @@ use Rattle.world_rules.proofs.Fields.{setup_goes_by}
 use Rattle.alike_histories.specs.Laws.{without_place, bare}
 
 -- A function of events that doesn't ask where a frame was said, case by case.
-pub same_for : {X : Type 0} (g : Event → X) → ((stamp place : ℕ) (frame : Signed Body) → g (Took 0 0 frame) ≡ g (Took stamp place frame)) → (event : Event) → g (without_place event) ≡ g event
+pub same_for : {X : Type 0} (g : Event → X) →
+    ((stamp place : ℕ) (frame : Signed Body) → g (Took 0 0 frame) ≡ g (Took stamp place frame)) → (event : Event) →
+    g (without_place event) ≡ g event
 same_for g same (Took stamp place frame) = same stamp place frame
 same_for g same Tick = refl
 same_for g same (Command op) = refl
@@ -60,6 +63,8 @@ pub screen_bare : (s : Desk) (event : Event) → screen_says s (without_place ev
 screen_bare s event = same_for (screen_says s) (λ stamp place frame. refl) event
 
 -- so it is one of the same roles
-pub fits_bare : (c : Contents) (actor : ℕ) (event : Event) → (setup_of c).fits actor (without_place event) ≡ (setup_of c).fits actor event
+pub fits_bare : (c : Contents) (actor : ℕ) (event : Event) →
+    (setup_of c).fits actor (without_place event) ≡ (setup_of c).fits actor event
 fits_bare c actor event =
-    same_for ((setup_of c).fits actor) (λ stamp place frame. (setup_goes_by c).fits actor (Took 0 0 frame) ∙ sym ((setup_goes_by c).fits actor (Took stamp place frame))) event
+    same_for ((setup_of c).fits actor) (λ stamp place frame. (setup_goes_by c).fits actor (Took 0 0 frame)
+    ∙ sym ((setup_goes_by c).fits actor (Took stamp place frame))) event

@@ -26,11 +26,14 @@ entry_bare (e ∷ history) (suc stamp) = entry_bare history stamp
 abbrev frames_by : Setup → List Entry → Option Entry → List (Signed Body)
 frames_by w before o = elim o [ None ↦ [] | Some e ↦ frames_of w (own before e.actor) e ]
 
-found_frames : (w : Setup) (before : List Entry) (o : Option Entry) → frames_by w (map bare before) (bare_if o) ≡ frames_by w before o
+found_frames : (w : Setup) (before : List Entry) (o : Option Entry) →
+    frames_by w (map bare before) (bare_if o) ≡ frames_by w before o
 found_frames w before None = refl
-found_frames w before (Some e) = ap (λ (list : List Entry). frames_of w list (bare e)) (own_bare before e.actor) ∙ entry_frames w (own before e.actor) e
+found_frames w before (Some e) = ap (λ (list : List Entry). frames_of w list (bare e)) (own_bare before e.actor)
+    ∙ entry_frames w (own before e.actor) e
 
-pub frames_bare : (w : Setup) (history : List Entry) (stamp : ℕ) → frames_at_stamp w (map bare history) stamp ≡ frames_at_stamp w history stamp
+pub frames_bare : (w : Setup) (history : List Entry) (stamp : ℕ) →
+    frames_at_stamp w (map bare history) stamp ≡ frames_at_stamp w history stamp
 unfolding frames_at_stamp
 frames_bare w history stamp =
     (λ i. frames_by w (take-map bare stamp history i) (entry_bare history stamp i))

@@ -25,13 +25,16 @@ AreAlike xs ys = map bare xs ≡ map bare ys
 
 -- What the actors say after two histories, and what they have come to, is the same.
 pub record ComeToTheSame (c : Contents) (xs ys : List Entry) : Type 0 where
-  pub words : (actor : ℕ) (event other : Event) → without_place event ≡ without_place other → says (setup_of c) xs actor event ≡ says (setup_of c) ys actor other
+  pub words : (actor : ℕ) (event other : Event) → without_place event ≡ without_place other →
+      says (setup_of c) xs actor event ≡ says (setup_of c) ys actor other
   pub halted : (actor : ℕ) → is_halted (setup_of c) actor (own xs actor) ≡ is_halted (setup_of c) actor (own ys actor)
   pub frames : (stamp : ℕ) → frames_at_stamp (setup_of c) xs stamp ≡ frames_at_stamp (setup_of c) ys stamp
   pub views : (master : ℕ) → view_by (setup_of c) xs master ≡ view_by (setup_of c) ys master
   pub executed : (master : ℕ) → executions (setup_of c) xs master ≡ executions (setup_of c) ys master
-  pub fronts : (client actor : ℕ) → front_of (masters_in c) c.settings.f c.plant client (own xs actor) ≡ front_of (masters_in c) c.settings.f c.plant client (own ys actor)
-  pub desks : (client actor : ℕ) → desk_of (masters_in c) c.settings.f client (own xs actor) ≡ desk_of (masters_in c) c.settings.f client (own ys actor)
+  pub fronts : (client actor : ℕ) → front_of (masters_in c) c.settings.f c.plant client (own xs actor) ≡ front_of
+      (masters_in c) c.settings.f c.plant client (own ys actor)
+  pub desks : (client actor : ℕ) → desk_of (masters_in c) c.settings.f client (own xs actor) ≡ desk_of (masters_in c)
+      c.settings.f client (own ys actor)
   pub forgeries : forged (setup_of c) xs ≡ forged (setup_of c) ys
   pub digests : alike (setup_of c).group xs ≡ alike (setup_of c).group ys
   pub agreement : agrees (setup_of c) xs ≡ agrees (setup_of c) ys

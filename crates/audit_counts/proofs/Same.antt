@@ -39,7 +39,10 @@ use Rattle.message_types.specs.declared.vouchers.Voucher.{Voucher}
 use Rattle.message_types.specs.declared.body.Body.{Body}
 use Rattle.message_types.specs.declared.body.Body.TheVariants as body
 use Rattle.message_types.specs.Texts.{notice_number}
-use Rattle.history_rules.specs.Sameness.{is_same_signed, are_same_signed, are_same_rows, is_same_op, is_same_update, is_same_request, is_same_ack, is_same_summary, is_same_preprepare, is_same_prepare, is_same_commit, is_same_mark, is_same_certificate, is_same_report, is_same_order, is_same_body}
+use Rattle.history_rules.specs.Sameness.{is_same_signed, are_same_signed, are_same_rows, is_same_op, is_same_update}
+use Rattle.history_rules.specs.Sameness.{is_same_request, is_same_ack, is_same_summary, is_same_preprepare}
+use Rattle.history_rules.specs.Sameness.{is_same_prepare, is_same_commit, is_same_mark, is_same_certificate}
+use Rattle.history_rules.specs.Sameness.{is_same_report, is_same_order, is_same_body}
 
 -- a test of values of a type decides their equality
 abbrev pub IsTest : {X : Type 0} → (X → X → Bool) → Type 0
@@ -48,16 +51,21 @@ IsTest {X} same = (a b : X) → Decides (same a b) (a ≡ b)
 two : {P Q R : Type 0} (x y : Bool) → Decides x P → Decides y Q → (P × Q → R) → (R → P × Q) → Decides (x && y) R
 two x y p q to from = Decides-like (x && y) to from (Decides-and x y p q)
 
-three : {P Q R S : Type 0} (x y z : Bool) → Decides x P → Decides y Q → Decides z R → (P × Q × R → S) → (S → P × Q × R) → Decides (x && y && z) S
-three x y z p q r to from = two (x && y) z (Decides-and x y p q) r (λ h. to (h.0.0, h.0.1, h.1)) (λ s. let h = from s in ((h.0, h.1), h.2))
+three : {P Q R S : Type 0} (x y z : Bool) → Decides x P → Decides y Q → Decides z R → (P × Q × R → S) →
+    (S → P × Q × R) → Decides (x && y && z) S
+three x y z p q r to from = two (x && y) z (Decides-and x y p q) r (λ h. to (h.0.0, h.0.1, h.1))
+    (λ s. let h = from s in ((h.0, h.1), h.2))
 
-four : {P Q R S T : Type 0} (x y z t : Bool) → Decides x P → Decides y Q → Decides z R → Decides t S → (P × Q × R × S → T) → (T → P × Q × R × S) → Decides (x && y && z && t) T
+four : {P Q R S T : Type 0} (x y z t : Bool) → Decides x P → Decides y Q → Decides z R → Decides t S →
+    (P × Q × R × S → T) → (T → P × Q × R × S) → Decides (x && y && z && t) T
 four x y z t p q r s to from =
-    two (x && y && z) t (three x y z p q r (λ h. h) (λ h. h)) s (λ h. to (h.0.0, h.0.1, h.0.2, h.1)) (λ v. let h = from v in ((h.0, h.1, h.2), h.3))
+    two (x && y && z) t (three x y z p q r (λ h. h) (λ h. h)) s (λ h. to (h.0.0, h.0.1, h.0.2, h.1))
+    (λ v. let h = from v in ((h.0, h.1, h.2), h.3))
 
 pub signed_test : {B : Type 0} (same : B → B → Bool) → IsTest same → IsTest (is_same_signed same)
 signed_test {B} same decides a b =
-    three (nat_eq a.signer b.signer) (same a.body b.body) (bytes_eq a.sig b.sig) (Decides-eqb a.signer b.signer) (decides a.body b.body) (bytes_eq-Decides a.sig b.sig)
+    three (nat_eq a.signer b.signer) (same a.body b.body) (bytes_eq a.sig b.sig) (Decides-eqb a.signer b.signer)
+    (decides a.body b.body) (bytes_eq-Decides a.sig b.sig)
     (λ h i. record { signer = h.0 i; body = h.1 i; sig = h.2 i })
     (λ e. (ap (λ (x : Signed B). x.signer) e, ap (λ (x : Signed B). x.body) e, ap (λ (x : Signed B). x.sig) e))
 
@@ -71,8 +79,10 @@ other : {P : Type 0} → (P → ⊥) → Decides false P
 other differ = (λ e. absurd (false≢true e), λ p. absurd (differ p))
 
 pub op_test : IsTest is_same_op
-op_test (op.Reading p x) (op.Reading q y) = two (nat_eq p q) (int_eq x y) (Decides-eqb p q) (Decides-int_eq x y) (λ h i. op.Reading (h.0 i) (h.1 i)) (λ e. (cc, cc))
-op_test (op.Set p x) (op.Set q y) = two (nat_eq p q) (int_eq x y) (Decides-eqb p q) (Decides-int_eq x y) (λ h i. op.Set (h.0 i) (h.1 i)) (λ e. (cc, cc))
+op_test (op.Reading p x) (op.Reading q y) = two (nat_eq p q) (int_eq x y) (Decides-eqb p q) (Decides-int_eq x y)
+    (λ h i. op.Reading (h.0 i) (h.1 i)) (λ e. (cc, cc))
+op_test (op.Set p x) (op.Set q y) = two (nat_eq p q) (int_eq x y) (Decides-eqb p q) (Decides-int_eq x y)
+    (λ h i. op.Set (h.0 i) (h.1 i)) (λ e. (cc, cc))
 op_test (op.Ack p) (op.Ack q) = Decides-like (nat_eq p q) (λ h i. op.Ack (h i)) (λ e. cc) (Decides-eqb p q)
 op_test _ _ = other (λ e. cc)
 
@@ -98,7 +108,8 @@ ack_test a b =
     (λ e. (ap (λ (x : PoAck). x.j) e, ap (λ (x : PoAck). x.k) e, ap (λ (x : PoAck). x.digest) e))
 
 pub summary_test : IsTest is_same_summary
-summary_test a b = Decides-like (bytes_eq a.numbers b.numbers) (λ h i. record { numbers = h i }) (λ e. ap (λ (x : PoSummary). x.numbers) e) (bytes_eq-Decides a.numbers b.numbers)
+summary_test a b = Decides-like (bytes_eq a.numbers b.numbers) (λ h i. record { numbers = h i })
+    (λ e. ap (λ (x : PoSummary). x.numbers) e) (bytes_eq-Decides a.numbers b.numbers)
 
 pub preprepare_test : IsTest is_same_preprepare
 preprepare_test a b =
@@ -122,25 +133,46 @@ commit_test a b =
     (λ e. (ap (λ (x : Commit). x.v) e, ap (λ (x : Commit). x.s) e, ap (λ (x : Commit). x.digest) e))
 
 pub mark_test : IsTest is_same_mark
-mark_test a b = Decides-like (nat_eq a.s b.s) (λ h i. record { s = h i }) (λ e. ap (λ (x : Mark). x.s) e) (Decides-eqb a.s b.s)
+mark_test a b = Decides-like (nat_eq a.s b.s) (λ h i. record { s = h i }) (λ e. ap (λ (x : Mark). x.s) e)
+    (Decides-eqb a.s b.s)
 
 pub certificate_test : IsTest is_same_certificate
 certificate_test a b =
-    four (nat_eq a.s b.s) (nat_eq a.v b.v) (are_same_rows a.rows b.rows) (are_same_signed is_same_prepare a.prepares b.prepares)
-    (Decides-eqb a.s b.s) (Decides-eqb a.v b.v) (rows_test a.rows b.rows) (signed_lists_test is_same_prepare prepare_test a.prepares b.prepares)
+    four (nat_eq a.s b.s) (nat_eq a.v b.v) (are_same_rows a.rows b.rows)
+    (are_same_signed is_same_prepare a.prepares b.prepares)
+    (Decides-eqb a.s b.s) (Decides-eqb a.v b.v) (rows_test a.rows b.rows)
+    (signed_lists_test is_same_prepare prepare_test a.prepares b.prepares)
     (λ h i. record { s = h.0 i; v = h.1 i; rows = h.2 i; prepares = h.3 i })
-    (λ e. (ap (λ (x : Certificate). x.s) e, ap (λ (x : Certificate). x.v) e, ap (λ (x : Certificate). x.rows) e, ap (λ (x : Certificate). x.prepares) e))
+    (λ e. (
+      ap (λ (x : Certificate). x.s) e,
+      ap (λ (x : Certificate). x.v) e,
+      ap (λ (x : Certificate). x.rows) e,
+      ap (λ (x : Certificate). x.prepares) e,
+    ))
 
 pub report_test : IsTest is_same_report
 report_test a b =
-    four (nat_eq a.v b.v) (nat_eq a.base b.base) (are_same_signed is_same_mark a.marks b.marks) (pointwise is_same_certificate a.certificates b.certificates)
-    (Decides-eqb a.v b.v) (Decides-eqb a.base b.base) (signed_lists_test is_same_mark mark_test a.marks b.marks) (pointwise_decides {E = is_same_certificate} certificate_test a.certificates b.certificates)
+    four (nat_eq a.v b.v) (nat_eq a.base b.base) (are_same_signed is_same_mark a.marks b.marks)
+    (pointwise is_same_certificate a.certificates b.certificates)
+    (Decides-eqb a.v b.v) (Decides-eqb a.base b.base) (signed_lists_test is_same_mark mark_test a.marks b.marks)
+    (pointwise_decides {E = is_same_certificate} certificate_test a.certificates b.certificates)
     (λ h i. record { v = h.0 i; base = h.1 i; marks = h.2 i; certificates = h.3 i })
-    (λ e. (ap (λ (x : Report). x.v) e, ap (λ (x : Report). x.base) e, ap (λ (x : Report). x.marks) e, ap (λ (x : Report). x.certificates) e))
+    (λ e. (
+      ap (λ (x : Report). x.v) e,
+      ap (λ (x : Report). x.base) e,
+      ap (λ (x : Report). x.marks) e,
+      ap (λ (x : Report). x.certificates) e,
+    ))
 
 -- the kind of a notice from its number
 abbrev kind_numbered : ℕ → NoticeKind
-kind_numbered n = (if nat_eq n 1 then notice.Done else (if nat_eq n 2 then notice.Denied else (if nat_eq n 3 then notice.NoPoint else (if nat_eq n 4 then notice.OutOfRange else (if nat_eq n 5 then notice.NotWritable else (if nat_eq n 6 then notice.NoAlarm else (if nat_eq n 7 then notice.Raised else (if nat_eq n 8 then notice.Cleared else notice.WrongPart))))))))
+kind_numbered n = (if nat_eq n 1 then notice.Done else
+    (if nat_eq n 2 then notice.Denied else
+    (if nat_eq n 3 then notice.NoPoint else
+    (if nat_eq n 4 then notice.OutOfRange else
+    (if nat_eq n 5 then notice.NotWritable else
+    (if nat_eq n 6 then notice.NoAlarm else
+    (if nat_eq n 7 then notice.Raised else (if nat_eq n 8 then notice.Cleared else notice.WrongPart))))))))
 
 kind_again : (kind : NoticeKind) → kind_numbered (notice_number kind) ≡ kind
 kind_again notice.Done = refl
@@ -155,23 +187,29 @@ kind_again notice.WrongPart = refl
 
 kind_test : (a b : NoticeKind) → Decides (nat_eq (notice_number a) (notice_number b)) (a ≡ b)
 kind_test a b =
-    Decides-like (nat_eq (notice_number a) (notice_number b)) (λ h. sym (kind_again a) ∙ (ap kind_numbered h ∙ kind_again b)) (λ e. ap notice_number e)
+    Decides-like (nat_eq (notice_number a) (notice_number b))
+    (λ h. sym (kind_again a) ∙ (ap kind_numbered h ∙ kind_again b)) (λ e. ap notice_number e)
     (Decides-eqb (notice_number a) (notice_number b))
 
-notice_test : (a b : Notice) → Decides (nat_eq (notice_number a.what) (notice_number b.what) && nat_eq a.t b.t && nat_eq a.number b.number) (a ≡ b)
+notice_test : (a b : Notice) →
+    Decides (nat_eq (notice_number a.what) (notice_number b.what) && nat_eq a.t b.t && nat_eq a.number b.number) (a ≡ b)
 notice_test a b =
-    three (nat_eq (notice_number a.what) (notice_number b.what)) (nat_eq a.t b.t) (nat_eq a.number b.number) (kind_test a.what b.what) (Decides-eqb a.t b.t) (Decides-eqb a.number b.number)
+    three (nat_eq (notice_number a.what) (notice_number b.what)) (nat_eq a.t b.t) (nat_eq a.number b.number)
+    (kind_test a.what b.what) (Decides-eqb a.t b.t) (Decides-eqb a.number b.number)
     (λ h i. record { what = h.0 i; t = h.1 i; number = h.2 i })
     (λ e. (ap (λ (x : Notice). x.what) e, ap (λ (x : Notice). x.t) e, ap (λ (x : Notice). x.number) e))
 
 pub order_test : IsTest is_same_order
-order_test (order.Write p x) (order.Write q y) = two (nat_eq p q) (nat_eq x y) (Decides-eqb p q) (Decides-eqb x y) (λ h i. order.Write (h.0 i) (h.1 i)) (λ e. (cc, cc))
+order_test (order.Write p x) (order.Write q y) = two (nat_eq p q) (nat_eq x y) (Decides-eqb p q) (Decides-eqb x y)
+    (λ h i. order.Write (h.0 i) (h.1 i)) (λ e. (cc, cc))
 order_test (order.Notice a) (order.Notice b) =
-    Decides-like (is_same_order (order.Notice a) (order.Notice b)) (λ h i. order.Notice (h i)) (λ e. cc) (notice_test a b)
+    Decides-like (is_same_order (order.Notice a) (order.Notice b)) (λ h i. order.Notice (h i))
+    (λ e. cc) (notice_test a b)
 order_test _ _ = other (λ e. cc)
 
 pub ping_test : IsTest {X = Ping} (λ a b. nat_eq a.number b.number)
-ping_test a b = Decides-like (nat_eq a.number b.number) (λ h i. record { number = h i }) (λ e. ap (λ (x : Ping). x.number) e) (Decides-eqb a.number b.number)
+ping_test a b = Decides-like (nat_eq a.number b.number) (λ h i. record { number = h i })
+    (λ e. ap (λ (x : Ping). x.number) e) (Decides-eqb a.number b.number)
 
 pub pong_test : IsTest {X = Pong} (λ a b. nat_eq a.to b.to && nat_eq a.number b.number)
 pong_test a b =
@@ -202,7 +240,8 @@ tat_bound_test a b =
     (λ e. (ap (λ (x : TatBound). x.v) e, ap (λ (x : TatBound). x.ticks) e))
 
 pub suspect_test : IsTest {X = Suspect} (λ a b. nat_eq a.v b.v)
-suspect_test a b = Decides-like (nat_eq a.v b.v) (λ h i. record { v = h i }) (λ e. ap (λ (x : Suspect). x.v) e) (Decides-eqb a.v b.v)
+suspect_test a b = Decides-like (nat_eq a.v b.v) (λ h i. record { v = h i }) (λ e. ap (λ (x : Suspect). x.v) e)
+    (Decides-eqb a.v b.v)
 
 pub ask_update_test : IsTest {X = AskUpdate} (λ a b. nat_eq a.j b.j && nat_eq a.k b.k)
 ask_update_test a b =
@@ -212,7 +251,8 @@ ask_update_test a b =
     (λ e. (ap (λ (x : AskUpdate). x.j) e, ap (λ (x : AskUpdate). x.k) e))
 
 pub ask_order_test : IsTest {X = AskOrder} (λ a b. nat_eq a.s b.s)
-ask_order_test a b = Decides-like (nat_eq a.s b.s) (λ h i. record { s = h i }) (λ e. ap (λ (x : AskOrder). x.s) e) (Decides-eqb a.s b.s)
+ask_order_test a b = Decides-like (nat_eq a.s b.s) (λ h i. record { s = h i }) (λ e. ap (λ (x : AskOrder). x.s) e)
+    (Decides-eqb a.s b.s)
 
 pub new_view_test : IsTest {X = NewView} (λ a b. nat_eq a.v b.v && are_same_signed is_same_report a.reports b.reports)
 new_view_test a b =
@@ -221,21 +261,32 @@ new_view_test a b =
     (λ h i. record { v = h.0 i; reports = h.1 i })
     (λ e. (ap (λ (x : NewView). x.v) e, ap (λ (x : NewView). x.reports) e))
 
-pub give_test : IsTest {X = Give} (λ a b. is_same_signed is_same_request a.request b.request && are_same_signed is_same_ack a.acks b.acks)
+pub give_test : IsTest {X = Give} (λ a b. is_same_signed is_same_request a.request b.request
+    && are_same_signed is_same_ack a.acks b.acks)
 give_test a b =
     two (is_same_signed is_same_request a.request b.request) (are_same_signed is_same_ack a.acks b.acks)
-    (signed_test is_same_request request_test a.request b.request) (signed_lists_test is_same_ack ack_test a.acks b.acks)
+    (signed_test is_same_request request_test a.request b.request)
+    (signed_lists_test is_same_ack ack_test a.acks b.acks)
     (λ h i. record { request = h.0 i; acks = h.1 i })
     (λ e. (ap (λ (x : Give). x.request) e, ap (λ (x : Give). x.acks) e))
 
-pub give_ordered_test : IsTest {X = GiveOrdered} (λ a b. nat_eq a.s b.s && nat_eq a.v b.v && are_same_rows a.rows b.rows && are_same_signed is_same_commit a.commits b.commits)
+pub give_ordered_test : IsTest {X = GiveOrdered} (λ a b. nat_eq a.s b.s && nat_eq a.v b.v
+    && are_same_rows a.rows b.rows && are_same_signed is_same_commit a.commits b.commits)
 give_ordered_test a b =
-    four (nat_eq a.s b.s) (nat_eq a.v b.v) (are_same_rows a.rows b.rows) (are_same_signed is_same_commit a.commits b.commits)
-    (Decides-eqb a.s b.s) (Decides-eqb a.v b.v) (rows_test a.rows b.rows) (signed_lists_test is_same_commit commit_test a.commits b.commits)
+    four (nat_eq a.s b.s) (nat_eq a.v b.v) (are_same_rows a.rows b.rows)
+    (are_same_signed is_same_commit a.commits b.commits)
+    (Decides-eqb a.s b.s) (Decides-eqb a.v b.v) (rows_test a.rows b.rows)
+    (signed_lists_test is_same_commit commit_test a.commits b.commits)
     (λ h i. record { s = h.0 i; v = h.1 i; rows = h.2 i; commits = h.3 i })
-    (λ e. (ap (λ (x : GiveOrdered). x.s) e, ap (λ (x : GiveOrdered). x.v) e, ap (λ (x : GiveOrdered). x.rows) e, ap (λ (x : GiveOrdered). x.commits) e))
+    (λ e. (
+      ap (λ (x : GiveOrdered). x.s) e,
+      ap (λ (x : GiveOrdered). x.v) e,
+      ap (λ (x : GiveOrdered). x.rows) e,
+      ap (λ (x : GiveOrdered). x.commits) e,
+    ))
 
-pub voucher_test : IsTest {X = Voucher} (λ a b. nat_eq a.client b.client && nat_eq a.number b.number && is_same_order a.order b.order)
+pub voucher_test : IsTest {X = Voucher} (λ a b. nat_eq a.client b.client && nat_eq a.number b.number
+    && is_same_order a.order b.order)
 voucher_test a b =
     three (nat_eq a.client b.client) (nat_eq a.number b.number) (is_same_order a.order b.order)
     (Decides-eqb a.client b.client) (Decides-eqb a.number b.number) (order_test a.order b.order)

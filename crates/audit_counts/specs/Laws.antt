@@ -1,5 +1,6 @@
 -- The laws of an audit's counts, as statements over every setup and history.
-use Rattle.std.specs.Prelude.{◌≡◌, ◌↔◌, ℕ, suc, ◌+◌, ◌<◌, ◌≤◌, true, List, [], ◌∷◌, Some, length, map, nat_lt, slice_get}
+use Rattle.std.specs.Prelude.{◌≡◌, ◌↔◌, ℕ, suc, ◌+◌, ◌<◌, ◌≤◌, true, List, [], ◌∷◌, Some, length, map, nat_lt}
+use Rattle.std.specs.Prelude.{slice_get}
 use Rattle.std.specs.List.{list_all, flat_map}
 use Rattle.message_types.specs.declared.body.Body.{Body}
 use Rattle.quorum_sets.specs.Masters.{numbers_below}
@@ -24,7 +25,8 @@ ForgedCounts = (w : Setup) (history : List Entry) → (forged w history ≡ 0) �
 abbrev pub AlikeCounts : Type 0
 AlikeCounts = (g : Group) (history : List Entry) → (alike g history ≡ 0) ↔ NoSharedDigest g history
 
--- A legal history of a group is sound where at most f masters count as intruded, no word as forged and no text as alike.
+-- A legal history of a group is sound where at most f masters count as intruded, no word as forged and no text as
+-- alike.
 abbrev pub SoundByCounts : Type 0
 SoundByCounts =
     (w : Setup) (history : List Entry) → IsLegal w history → HasSizes w.group
@@ -40,14 +42,16 @@ MergedWhole =
 abbrev pub IsOwnList : ℕ → ℕ → List Entry → Type 0
 IsOwnList total actor [] = Unit {0}
 IsOwnList total actor (e ∷ rest) =
-    (e.actor ≡ actor) × (e.stamp < total) × (list_all (λ later. nat_lt e.stamp later.stamp) rest ≡ true) × IsOwnList total actor rest
+    (e.actor ≡ actor) × (e.stamp < total) × (list_all (λ later. nat_lt e.stamp later.stamp) rest ≡ true)
+    × IsOwnList total actor rest
 
 -- lists of entries, each of the actor whose number its place is, counted from `first`
 abbrev pub AreOwnLists : ℕ → ℕ → List (List Entry) → Type 0
 AreOwnLists total first [] = Unit {0}
 AreOwnLists total first (entries ∷ rest) = IsOwnList total first entries × AreOwnLists total (suc first) rest
 
--- What is merged of actors' lists, of rising stamps below the number of all entries, has those lists as the actors' own.
+-- What is merged of actors' lists, of rising stamps below the number of all entries, has those lists as the actors'
+-- own.
 abbrev pub OwnOfMerged : Type 0
 OwnOfMerged =
     (lists : List (List Entry)) → AreOwnLists (length (flat_map (λ entries. entries) lists)) 0 lists

@@ -1,5 +1,7 @@
 -- What a master hears along its own list.
-use Rattle.std.proofs.Common.{◌≡◌, ℕ, ◌+◌, ◌≤◌, Bool, true, false, cond, ◌&&◌, not, List, [], ◌∷◌, ◌++◌, length, length-append, take, filter, nat_eq, nat_lt, refl, sym, ◌∙◌, ap, subst, inl, inr, ◌⊎◌, arith}
+use Rattle.std.proofs.Common.{◌≡◌, ℕ, ◌+◌, ◌≤◌, Bool, true, false, cond, ◌&&◌, not, List, [], ◌∷◌, ◌++◌, length}
+use Rattle.std.proofs.Common.{length-append, take, filter, nat_eq, nat_lt, refl, sym, ◌∙◌, ap, subst, inl, inr, ◌⊎◌}
+use Rattle.std.proofs.Common.{arith}
 use Rattle.std.proofs.lemmas.Bool.{false≢true, eq-eqb, cases_Bool}
 use Rattle.std.proofs.lemmas.List.{append-nil}
 use Rattle.std.specs.List.{list_all}
@@ -12,35 +14,34 @@ use Rattle.history_rules.specs.Leaves.{leaves_for}
 use Rattle.history_rules.specs.Setup.{Setup, is_correct_master, heard_from, leaves_used, signed_from, room}
 use Rattle.history_rules.specs.Legal.{Stands, heard_in, says_in}
 use Rattle.history_rules.specs.Audit.{IsIn}
-use Rattle.agreement.proofs.Known.{hears, signed_from_in, signed_from_bodies}
-use Rattle.agreement.proofs.Places.{by_growth}
-use Rattle.audit_counts.proofs.Forged.{stands_in}
-use Rattle.own_words.specs.Laws.{ticks_heard}
-use Rattle.own_words.proofs.Limits.{all_from, filter_more}
+use Rattle.agreement.proofs.Known.{hears, signed_from_in, signed_from_bodies, heard_step}
+use Rattle.agreement.proofs.Places.{by_growth, stands_in}
+use Rattle.words_in_place.specs.Laws.{ticks_heard}
+use Rattle.words_in_place.proofs.Limits.{all_from, filter_more}
 use Rattle.master_node.specs.Running.{AreItsFrames}
 use Rattle.master_node.specs.Charge.{says_at}
 use Rattle.master_node.specs.Laws.{charge_of, SilentSayNothing}
 use Rattle.master_node.proofs.Histories.{says_as_histories_do}
 use Rattle.bench_rules.specs.Lists.{AddsEntry, IsBenchList, frames_after}
 use Rattle.bench_rules.specs.Laws.{FewTicks, MasterSays, MasterIsHanded, SilentSaysNothing, HeardNext, HeardSame}
-
-step : (w : Setup) (i used : ℕ) (e : Entry) (b : Bool) (rest more : List Heard) → is_silent e.event ≡ b
-    → cond b (rest ++ more) (hears w i used e ∷ (rest ++ more)) ≡ cond b rest (hears w i used e ∷ rest) ++ more
-step w i used e true rest more was = refl
-step w i used e false rest more was = refl
+use Rattle.quorum_sets.proofs.MastersLemmas.{at_most_one}
+use Rattle.words_in_place.proofs.Signing.{rule_of as rule_if}
 
 -- the last entry's event is heard behind those of the list
-heard_end : (w : Setup) (i used : ℕ) (list : List Entry) (e : Entry) → heard_from w i used (list ++ e ∷ []) ≡ heard_from w i used list ++ heard_from w i (used + leaves_used w list) (e ∷ [])
+heard_end : (w : Setup) (i used : ℕ) (list : List Entry) (e : Entry) →
+    heard_from w i used (list ++ e ∷ []) ≡ heard_from w i used list
+    ++ heard_from w i (used + leaves_used w list) (e ∷ [])
 heard_end w i used [] e = ap (λ (k : ℕ). heard_from w i k (e ∷ [])) (omega arith)
 heard_end w i used (x ∷ rest) e =
     let next : ℕ = used + leaves_for w.shared_leaves (length x.said) in
     let last : List Heard = heard_from w i (next + leaves_used w rest) (e ∷ []) in
     let same : next + leaves_used w rest ≡ used + leaves_used w (x ∷ rest) = omega arith in
     ap (λ (zs : List Heard). cond (is_silent x.event) zs (hears w i used x ∷ zs)) (heard_end w i next rest e)
-    ∙ step w i used x (is_silent x.event) (heard_from w i next rest) last refl
+    ∙ heard_step w i used x (is_silent x.event) (heard_from w i next rest) last refl
     ∙ ap (λ (k : ℕ). heard_from w i used (x ∷ rest) ++ heard_from w i k (e ∷ [])) same
 
-from_none : (w : Setup) (i : ℕ) (list : List Entry) (e : Entry) → heard_in w i (list ++ e ∷ []) ≡ heard_in w i list ++ heard_from w i (leaves_used w list) (e ∷ [])
+from_none : (w : Setup) (i : ℕ) (list : List Entry) (e : Entry) → heard_in w i (list ++ e ∷ []) ≡ heard_in w i list
+    ++ heard_from w i (leaves_used w list) (e ∷ [])
 unfolding heard_in
 from_none w i list e =
     let none : 0 + leaves_used w list ≡ leaves_used w list = omega arith in
@@ -48,19 +49,17 @@ from_none w i list e =
 
 pub heard_next : HeardNext
 heard_next w i list e loud =
-    from_none w i list e ∙ ap (λ (b : Bool). heard_in w i list ++ cond b [] (hears w i (leaves_used w list) e ∷ [])) loud
+    from_none w i list e ∙ ap (λ (b : Bool). heard_in w i list ++ cond b [] (hears w i (leaves_used w list) e ∷ []))
+    loud
 
 pub heard_same : HeardSame
 heard_same w i list e silent =
-    from_none w i list e ∙ ap (λ (b : Bool). heard_in w i list ++ cond b [] (hears w i (leaves_used w list) e ∷ [])) silent ∙ append-nil (heard_in w i list)
+    from_none w i list e ∙ ap (λ (b : Bool). heard_in w i list ++ cond b [] (hears w i (leaves_used w list) e ∷ []))
+    silent ∙ append-nil (heard_in w i list)
 
 pub heard_none : (w : Setup) (i : ℕ) → heard_in w i [] ≡ []
 unfolding heard_in
 heard_none w i = refl
-
-one_tick : (b : Bool) → cond b 1 0 ≤ 1
-one_tick true = omega arith
-one_tick false = omega arith
 
 pub few_ticks : FewTicks
 few_ticks w i = by_growth (λ (list : List Entry). ticks_heard (heard_in w i list) ≤ length list) none more
@@ -68,24 +67,30 @@ few_ticks w i = by_growth (λ (list : List Entry). ticks_heard (heard_in w i lis
     none : ticks_heard (heard_in w i []) ≤ 0
     none = let nothing : ticks_heard (heard_in w i []) ≡ 0 = ap ticks_heard (heard_none w i) in omega arith
 
-    more : (list : List Entry) (e : Entry) → ticks_heard (heard_in w i list) ≤ length list → ticks_heard (heard_in w i (list ++ e ∷ [])) ≤ length (list ++ e ∷ [])
+    more : (list : List Entry) (e : Entry) → ticks_heard (heard_in w i list) ≤ length list →
+        ticks_heard (heard_in w i (list ++ e ∷ [])) ≤ length (list ++ e ∷ [])
     more list e few = by (cases_Bool (is_silent e.event))
       where
         longer : length (list ++ e ∷ []) ≡ length list + 1
         longer = length-append list (e ∷ [])
 
-        by : (is_silent e.event ≡ true) ⊎ (is_silent e.event ≡ false) → ticks_heard (heard_in w i (list ++ e ∷ [])) ≤ length (list ++ e ∷ [])
+        by : (is_silent e.event ≡ true) ⊎ (is_silent e.event ≡ false) →
+            ticks_heard (heard_in w i (list ++ e ∷ [])) ≤ length (list ++ e ∷ [])
         by (inl silent) =
-            let same : ticks_heard (heard_in w i (list ++ e ∷ [])) ≡ ticks_heard (heard_in w i list) = ap ticks_heard (heard_same w i list e silent) in
+            let same : ticks_heard (heard_in w i (list ++ e ∷ [])) ≡ ticks_heard (heard_in w i list) =
+            ap ticks_heard (heard_same w i list e silent) in
             omega (arith, longer)
         by (inr loud) =
             let last : Heard = hears w i (leaves_used w list) e in
-            let counted : ticks_heard (heard_in w i (list ++ e ∷ [])) ≡ ticks_heard (heard_in w i list) + cond (is_tick e.event) 1 0 =
-            ap ticks_heard (heard_next w i list e loud) ∙ filter_more (λ (x : Heard). x.is_tick) (heard_in w i list) last in
-            let one = one_tick (is_tick e.event) in
+            let counted : ticks_heard (heard_in w i (list ++ e ∷ [])) ≡ ticks_heard (heard_in w i list) + cond
+            (is_tick e.event) 1 0 =
+            ap ticks_heard (heard_next w i list e loud) ∙ filter_more (λ (x : Heard). x.is_tick)
+            (heard_in w i list) last in
+            let one = at_most_one (is_tick e.event) in
             omega (arith, longer)
 
-not_in_nothing : (r : ℕ) (a x : Bool) (due other said : List Body) → said ≡ take r (cond a (cond x [] (cond true [] due)) other) → (a && not x) ≡ true → said ≡ []
+not_in_nothing : (r : ℕ) (a x : Bool) (due other said : List Body) →
+    said ≡ take r (cond a (cond x [] (cond true [] due)) other) → (a && not x) ≡ true → said ≡ []
 not_in_nothing r true false due other said is correct = is ∙ take-nil r
 not_in_nothing r true true due other said is correct = absurd (false≢true correct)
 not_in_nothing r false x due other said is correct = absurd (false≢true correct)
@@ -95,33 +100,36 @@ unfolding says_in
 silent_says_nothing w i list e correct adds silent =
     let due : List Body = answers w.group w.orders i (heard_in w i list) (frame_taken e.event) (is_tick e.event) in
     let other : List Body = w.client_says i list e.event in
-    let said : e.said ≡ take (room w list) (cond (nat_lt i w.group.n) (cond (w.intruded i) [] (cond true [] due)) other) =
-    adds.said ∙ ap (λ (s : Bool). take (room w list) (cond (nat_lt i w.group.n) (cond (w.intruded i) [] (cond s [] due)) other)) silent in
+    let said : e.said ≡ take (room w list)
+    (cond (nat_lt i w.group.n) (cond (w.intruded i) [] (cond true [] due)) other) =
+    adds.said ∙ ap (λ (s : Bool). take (room w list)
+    (cond (nat_lt i w.group.n) (cond (w.intruded i) [] (cond s [] due)) other)) silent in
     not_in_nothing (room w list) (nat_lt i w.group.n) (w.intruded i) due other e.said said correct
 
-rule_if : (r : ℕ) (a x s : Bool) (due other : List Body) → (a && not x) ≡ true → s ≡ false → take r (cond a (cond x [] (cond s [] due)) other) ≡ take r due
-rule_if r true false false due other correct loud = refl
-rule_if r true false true due other correct loud = absurd (false≢true (sym loud))
-rule_if r true true s due other correct loud = absurd (false≢true correct)
-rule_if r false x s due other correct loud = absurd (false≢true correct)
-
 -- what a correct master says at an entry is what the rules make it say, cut to its room
-pub rule_of : (w : Setup) (i : ℕ) (list : List Entry) (e : Entry) → AddsEntry w i list e → is_correct_master w i ≡ true → is_silent e.event ≡ false
-    → e.said ≡ take (room w list) (answers w.group w.orders i (heard_in w i list) (frame_taken e.event) (is_tick e.event))
+pub rule_of : (w : Setup) (i : ℕ) (list : List Entry) (e : Entry) → AddsEntry w i list e →
+    is_correct_master w i ≡ true → is_silent e.event ≡ false
+    → e.said ≡ take (room w list)
+    (answers w.group w.orders i (heard_in w i list) (frame_taken e.event) (is_tick e.event))
 unfolding says_in
 rule_of w i list e adds correct loud =
     adds.said ∙ rule_if (room w list) (nat_lt i w.group.n) (w.intruded i) (is_silent e.event)
-    (answers w.group w.orders i (heard_in w i list) (frame_taken e.event) (is_tick e.event)) (w.client_says i list e.event) correct loud
+    (answers w.group w.orders i (heard_in w i list) (frame_taken e.event) (is_tick e.event))
+    (w.client_says i list e.event) correct loud
 
-quiet : (w : Setup) (i : ℕ) (list : List Entry) → is_correct_master w i ≡ true → IsBenchList w i list → SilentSayNothing list
+quiet : (w : Setup) (i : ℕ) (list : List Entry) → is_correct_master w i ≡ true → IsBenchList w i list →
+    SilentSayNothing list
 quiet w i list correct is x h silent =
     let place = stands_in list h in silent_says_nothing w i place.0 x correct (is.entries place.0 x place.1) silent
 
 pub master_says : MasterSays
-master_says w i list e correct is adds loud = says_as_histories_do w i list e.event correct (quiet w i list correct is) loud ∙ sym adds.said
+master_says w i list e correct is adds loud =
+    says_as_histories_do w i list e.event correct (quiet w i list correct is) loud ∙ sym adds.said
 
 pub master_is_handed : MasterIsHanded
 master_is_handed w i list e correct is adds loud = record {
-  own = all_from (λ f. nat_eq f.signer i) (frames_after w i list e) (λ f h. eq-eqb f.signer i (signed_from_in w i (leaves_used w list) 0 e.said e.said f h).0);
-  words = signed_from_bodies w i (leaves_used w list) 0 e.said e.said ∙ sym (master_says w i list e correct is adds loud);
+  own = all_from (λ f. nat_eq f.signer i) (frames_after w i list e)
+      (λ f h. eq-eqb f.signer i (signed_from_in w i (leaves_used w list) 0 e.said e.said f h).0);
+  words = signed_from_bodies w i (leaves_used w list) 0 e.said e.said
+      ∙ sym (master_says w i list e correct is adds loud);
 }

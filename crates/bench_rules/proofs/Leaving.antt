@@ -1,5 +1,6 @@
 -- Leaves along an actor's list, and the frames that they sign.
-use Rattle.std.proofs.Common.{◌≡◌, ℕ, zero, suc, ◌+◌, ◌-◌, ◌*◌, ◌^◌, ◌<◌, ◌≤◌, Bool, true, false, List, [], ◌∷◌, ◌++◌, length, take, drop, map, refl, sym, ◌∙◌, ap, subst, inl, inr, arith}
+use Rattle.std.proofs.Common.{◌≡◌, ℕ, zero, suc, ◌+◌, ◌-◌, ◌*◌, ◌^◌, ◌<◌, ◌≤◌, Bool, true, false, List, [], ◌∷◌, ◌++◌}
+use Rattle.std.proofs.Common.{length, take, drop, map, refl, sym, ◌∙◌, ap, subst, inl, inr, arith}
 use Rattle.std.specs.Prelude.{All, ◌⊎◌}
 use Rattle.std.specs.List.{zip, slice_index_or}
 use Rattle.std.proofs.Math.Pow.{pow_mono}
@@ -18,10 +19,12 @@ use Rattle.scenario_file.specs.Reading.{Contents}
 use Rattle.scenario_file.specs.Valid.{IsScenario, IsHeight}
 use Rattle.world_rules.specs.Scenarios.{setup_of, key_in, shares_leaves, most_together, signature_in}
 use Rattle.world_rules.proofs.Fields.{setup_goes_by, key_heights, key_id, key_levels, key_made}
-use Rattle.world_rules.proofs.Signed.{CanBeMade, signed_upto, enough_groups, up_to_all, signature_is}
+use Rattle.world_rules.proofs.Signed.{CanBeMade, signed_upto, up_to_all, signature_is}
 use Rattle.bench_rules.specs.Lists.{AddsEntry, frames_with}
-use Rattle.bench_rules.specs.Laws.{LeavesAreFew, LeavesUsedNext, GroupsUseLeaves, LeavesEnough, SignaturesForAll, SignedBySignatures}
-use Rattle.bench_rules.proofs.Standing.{room_enough}
+use Rattle.bench_rules.specs.Laws.{LeavesAreFew, LeavesUsedNext, GroupsUseLeaves, LeavesEnough, SignaturesForAll}
+use Rattle.bench_rules.specs.Laws.{SignedBySignatures}
+use Rattle.checked_frames.proofs.EntryLaws.{enough_groups}
+use Rattle.words_in_place.proofs.Signing.{room_enough}
 
 total_few : (heights : List ℕ) → All IsHeight heights → total heights ≤ 10 * length heights
 total_few [] all = omega arith
@@ -35,10 +38,12 @@ pub leaves_are_few : LeavesAreFew
 leaves_are_few c actor is =
     let low = total_few c.settings.heights is.heights in
     let three = is.at_most_three_levels in
-    subst (λ (hs : List ℕ). 2 ^ total hs ≤ 2 ^ 30) (sym (key_heights c actor)) (pow_mono {i = total c.settings.heights} {j = 30} (omega arith))
+    subst (λ (hs : List ℕ). 2 ^ total hs ≤ 2 ^ 30) (sym (key_heights c actor))
+    (pow_mono {i = total c.settings.heights} {j = 30} (omega arith))
 
 used_next : (shared : Bool) (xs : List Entry) (e : Entry)
-    → leaves_of shared (map (λ (x : Entry). length x.said) (xs ++ e ∷ [])) ≡ leaves_of shared (map (λ (x : Entry). length x.said) xs) + leaves_for shared (length e.said)
+    → leaves_of shared (map (λ (x : Entry). length x.said) (xs ++ e ∷ [])) ≡ leaves_of shared
+    (map (λ (x : Entry). length x.said) xs) + leaves_for shared (length e.said)
 used_next shared [] e = omega arith
 used_next shared (x ∷ xs) e = let more = used_next shared xs e in omega arith
 
@@ -60,27 +65,34 @@ signatures_for_all c actor used said is =
     let shared : Bool = shares_leaves c in
     let texts : List (List ℕ) = map body_text said in
     let groups : ℕ = groups_for (group_size (shares_leaves c)) (length texts) in
-    let can : CanBeMade (key_in c actor) = record { levels = key_levels c actor is; made = key_made c actor is; id = key_id c actor } in
+    let can : CanBeMade (key_in c actor) =
+    record { levels = key_levels c actor is; made = key_made c actor is; id = key_id c actor } in
     let so = signed_upto shared (key_in c actor) used texts can groups (up_to_all groups) in
-    let all : take (group_size shared * groups) texts ≡ texts = take_all (group_size shared * groups) texts (enough_groups shared (length texts)) in
+    let all : take (group_size shared * groups) texts ≡ texts =
+    take_all (group_size shared * groups) texts (enough_groups shared (length texts)) in
     sym (ap length (sym all) ∙ so.size) ∙ length-map said body_text
 
-fields_from : (w : Setup) (actor used : ℕ) (said : List Body) (fields : List (List ℕ)) → ((place : ℕ) → w.signature actor used said place ≡ slice_index_or fields place [])
-    → (place : ℕ) (rest : List Body) (later : List (List ℕ)) → length later ≡ length rest → ((k : ℕ) → slice_index_or fields (place + k) [] ≡ slice_index_or later k [])
+fields_from : (w : Setup) (actor used : ℕ) (said : List Body) (fields : List (List ℕ)) →
+    ((place : ℕ) → w.signature actor used said place ≡ slice_index_or fields place [])
+    → (place : ℕ) (rest : List Body) (later : List (List ℕ)) → length later ≡ length rest →
+    ((k : ℕ) → slice_index_or fields (place + k) [] ≡ slice_index_or later k [])
     → signed_from w actor used said place rest ≡ frames_with actor rest later
 fields_from w actor used said fields are place [] later long same = refl
 fields_from w actor used said fields are place (b ∷ rest) [] long same = absurd (omega arith)
 fields_from w actor used said fields are place (b ∷ rest) (sig ∷ later) long same =
     let none : place + 0 ≡ place = omega arith in
-    let here : w.signature actor used said place ≡ sig = are place ∙ ap (λ (k : ℕ). slice_index_or fields k []) (sym none) ∙ same 0 in
+    let here : w.signature actor used said place ≡ sig =
+    are place ∙ ap (λ (k : ℕ). slice_index_or fields k []) (sym none) ∙ same 0 in
     let frame : List ℕ → Signed Body = λ s. record { signer = actor; body = b; sig = s } in
     ap (λ (s : List ℕ). frame s ∷ signed_from w actor used said (suc place) rest) here
-    ∙ ap (λ (fs : List (Signed Body)). frame sig ∷ fs) (fields_from w actor used said fields are (suc place) rest later (omega arith) (λ k.
+    ∙ ap (λ (fs : List (Signed Body)). frame sig ∷ fs)
+    (fields_from w actor used said fields are (suc place) rest later (omega arith) (λ k.
     let next : suc place + k ≡ place + suc k = omega arith in
     ap (λ (x : ℕ). slice_index_or fields x []) next ∙ same (suc k)))
 
 pub signed_by_signatures : SignedBySignatures
 signed_by_signatures c actor used said is =
     let fields : List (List ℕ) = entry_signatures (key_in c actor) used (most_together c) (map body_text said) in
-    fields_from (setup_of c) actor used said fields (λ place. (setup_goes_by c).signature actor used said place ∙ signature_is c actor used said place) 0 said
+    fields_from (setup_of c) actor used said fields (λ place. (setup_goes_by c).signature actor used said place
+    ∙ signature_is c actor used said place) 0 said
     fields (signatures_for_all c actor used said is) (λ k. ap (λ (x : ℕ). slice_index_or fields x []) (omega arith))

@@ -13,10 +13,11 @@ use Rattle.world_rules.specs.Scenarios.{group_in}
 
 -- the public keys of a scenario's actors, by which frames are checked
 abbrev pub ring_in : Contents → Ring
-ring_in c = ring_of (group_in c) (public_keys c.settings.seed c.settings.heights ((group_in c).n + (group_in c).clients))
+ring_in c = ring_of (group_in c)
+    (public_keys c.settings.seed c.settings.heights ((group_in c).n + (group_in c).clients))
 
--- The actor could add the entry after these of its own: its stamp is above theirs, the event is one of its role, a frame that
--- it takes stands and was said at a lower stamp, and what it says is what the rules make it say.
+-- The actor could add the entry after these of its own: its stamp is above theirs, the event is one of its role, a
+-- frame that it takes stands and was said at a lower stamp, and what it says is what the rules make it say.
 pub record AddsEntry (w : Setup) (actor : ℕ) (before : List Entry) (e : Entry) : Type 0 where
   pub by : e.actor ≡ actor
   pub later : list_all (λ b. nat_lt b.stamp e.stamp) before ≡ true
@@ -34,4 +35,5 @@ frames_after w actor before e = signed_from w actor (leaves_used w before) e.sai
 
 -- an actor's bodies as frames, each with its signature
 abbrev pub frames_with : ℕ → List Body → List (List ℕ) → List (Signed Body)
-frames_with actor bodies signatures = map (λ p. record { signer = actor; body = p.0; sig = p.1 }) (zip bodies signatures)
+frames_with actor bodies signatures =
+    map (λ p. record { signer = actor; body = p.0; sig = p.1 }) (zip bodies signatures)

@@ -1,6 +1,7 @@
 -- Rival words, as bodies and as what their keys say.
-use Rattle.std.proofs.Common.{◌≡◌, ◌↔◌, ℕ, Bool, true, false, ◌&&◌, not, Option, Some, None, nat_eq, refl, sym, ◌∙◌, ap, eqb-true, eq-eqb}
-use Rattle.std.proofs.lemmas.Bool.{true≢false, false≢true, and_parts, and_from}
+use Rattle.std.proofs.Common.{◌≡◌, ◌↔◌, ℕ, Bool, true, false, ◌&&◌, not, Option, Some, None, nat_eq, refl, sym, ◌∙◌}
+use Rattle.std.proofs.Common.{ap, eqb-true, eq-eqb}
+use Rattle.std.proofs.lemmas.Bool.{true≢false, false≢true, and_parts, and_from, not-true}
 use Rattle.std.specs.Option.{option_map_or}
 use Rattle.message_types.specs.declared.signed.Signed.{Signed}
 use Rattle.message_types.specs.declared.body.Body.{Body}
@@ -8,13 +9,9 @@ use Rattle.message_types.specs.declared.body.Body.TheVariants as body
 use Rattle.history_rules.specs.Sameness.{is_same_body}
 use Rattle.audit_counts.proofs.Same.{body_test}
 use Rattle.blame_check.specs.Contradictions.{are_rivals, contradict}
-use Rattle.blame_check.specs.Kept.{Slot, Key, same_key, key_for, slot_of, fills}
-
--- the comparison of two bodies
-same_truth : (x y : Bool) → (x ≡ true → y ≡ true) → (y ≡ true → x ≡ true) → x ≡ y
-same_truth true y to from = sym (to refl)
-same_truth false true to from = from refl
-same_truth false false to from = refl
+use Rattle.protocol_rules.specs.Keys.{Key, same_key}
+use Rattle.blame_check.specs.Slots.{Slot, key_for, slot_of, fills}
+use Rattle.plain_lists.proofs.Booleans.{same_truth}
 
 pub word_tested : (r : Bool) (a b : Body) → (r ≡ true) ↔ (a ≡ b) → r ≡ is_same_body a b
 word_tested r a b h = same_truth r (is_same_body a b) (λ t. (body_test a b).1 (h.0 t)) (λ t. h.1 ((body_test a b).0 t))
@@ -33,7 +30,9 @@ rivals_swap _ _ e = absurd (false≢true e)
 
 -- keys of two words are the same, x being that their signers are
 abbrev by_slots : Bool → Option Slot → Option Slot → Bool
-by_slots x a b = option_map_or (λ (s : Slot). option_map_or (λ (t : Slot). ((x && nat_eq s.0 t.0) && nat_eq s.1 t.1) && nat_eq s.2 t.2) b false) a false
+by_slots x a b = option_map_or
+    (λ (s : Slot). option_map_or (λ (t : Slot). ((x && nat_eq s.0 t.0) && nat_eq s.1 t.1) && nat_eq s.2 t.2) b false)
+    a false
 
 by_bodies : (a b : Body) → by_slots true (slot_of a) (slot_of b) ≡ are_rivals a b
 by_bodies (body.PoAck a) (body.PoAck b) = refl
@@ -55,8 +54,10 @@ by_either : (x : Bool) (a b : Body) → by_slots x (slot_of a) (slot_of b) ≡ (
 by_either true a b = by_bodies a b
 by_either false a b = none_by_slots (slot_of a) (slot_of b)
 
-pub fills_rivals : (p q : Signed Body) (s : Slot) → slot_of q.body ≡ Some s → fills (key_for q.signer s) p ≡ (nat_eq p.signer q.signer && are_rivals p.body q.body)
-fills_rivals p q s e = ap (by_slots (nat_eq p.signer q.signer) (slot_of p.body)) (sym e) ∙ by_either (nat_eq p.signer q.signer) p.body q.body
+pub fills_rivals : (p q : Signed Body) (s : Slot) → slot_of q.body ≡ Some s →
+    fills (key_for q.signer s) p ≡ (nat_eq p.signer q.signer && are_rivals p.body q.body)
+fills_rivals p q s e = ap (by_slots (nat_eq p.signer q.signer) (slot_of p.body)) (sym e)
+    ∙ by_either (nat_eq p.signer q.signer) p.body q.body
 
 -- a word without numbers has no rivals
 pub no_rivals : (p q : Signed Body) → slot_of q.body ≡ None → contradict p q ≡ false
@@ -68,23 +69,11 @@ no_rivals p q e = none (nat_eq p.signer q.signer) (are_rivals p.body q.body) (no
     none true false z h = refl
     none false y z h = refl
 
-same_key-same : (x y : Key) → same_key x y ≡ true → x ≡ y
-same_key-same x y e =
-    let last = and_parts ((nat_eq x.0 y.0 && nat_eq x.1 y.1) && nat_eq x.2 y.2) (nat_eq x.3 y.3) e in
-    let third = and_parts (nat_eq x.0 y.0 && nat_eq x.1 y.1) (nat_eq x.2 y.2) last.0 in
-    let pair = and_parts (nat_eq x.0 y.0) (nat_eq x.1 y.1) third.0 in
-    let a = eqb-true x.0 y.0 pair.0 in
-    let b = eqb-true x.1 y.1 pair.1 in
-    let c = eqb-true x.2 y.2 third.1 in
-    let d = eqb-true x.3 y.3 last.1 in
-    λ i. (a i, b i, c i, d i)
-
-pub keys_same : (x y : Key) → same_key x y ≡ true → x ≡ y
-keys_same = same_key-same
-
 -- what a word of this slot fills
-pub fills_its : (key : Key) (q : Signed Body) (s : Slot) → slot_of q.body ≡ Some s → fills key q ≡ same_key (key_for q.signer s) key
-fills_its key q s e = ap (λ (o : Option Slot). option_map_or (λ (t : Slot). same_key (key_for q.signer t) key) o false) e
+pub fills_its : (key : Key) (q : Signed Body) (s : Slot) → slot_of q.body ≡ Some s →
+    fills key q ≡ same_key (key_for q.signer s) key
+fills_its key q s e = ap (λ (o : Option Slot). option_map_or (λ (t : Slot). same_key (key_for q.signer t) key)
+    o false) e
 
 pub fills_none : (key : Key) (q : Signed Body) → slot_of q.body ≡ None → fills key q ≡ false
 fills_none key q e = ap (λ (o : Option Slot). option_map_or (λ (t : Slot). same_key (key_for q.signer t) key) o false) e
@@ -96,16 +85,18 @@ same_from true true false a b e = absurd (true≢false e)
 same_from true false s a b e = absurd (false≢true b)
 same_from false y s a b e = absurd (false≢true a)
 
-pub not_contrary : (p q : Signed Body) → p.signer ≡ q.signer → are_rivals p.body q.body ≡ true → contradict p q ≡ false → p.body ≡ q.body
+pub not_contrary : (p q : Signed Body) → p.signer ≡ q.signer → are_rivals p.body q.body ≡ true →
+    contradict p q ≡ false → p.body ≡ q.body
 not_contrary p q by rivals e =
-    (body_test p.body q.body).0 (same_from (nat_eq p.signer q.signer) (are_rivals p.body q.body) (is_same_body p.body q.body) (eq-eqb p.signer q.signer by) rivals e)
+    (body_test p.body q.body).0 (same_from (nat_eq p.signer q.signer) (are_rivals p.body q.body)
+    (is_same_body p.body q.body) (eq-eqb p.signer q.signer by) rivals e)
 
-not_true : (b : Bool) → not b ≡ true → b ≡ false
-not_true true e = absurd (false≢true e)
-not_true false e = refl
-
-pub contrary_parts : (p q : Signed Body) → contradict p q ≡ true → (p.signer ≡ q.signer) × (are_rivals p.body q.body ≡ true) × (p.body ≡ q.body → ⊥)
+pub contrary_parts : (p q : Signed Body) → contradict p q ≡ true → (p.signer ≡ q.signer)
+    × (are_rivals p.body q.body ≡ true) × (p.body ≡ q.body → ⊥)
 contrary_parts p q e =
     let both = and_parts (nat_eq p.signer q.signer) (are_rivals p.body q.body && not (is_same_body p.body q.body)) e in
-    let rest = and_parts (are_rivals p.body q.body) (not (is_same_body p.body q.body)) both.1 in
-    (eqb-true p.signer q.signer both.0, rest.0, λ same. true≢false (sym ((body_test p.body q.body).1 same) ∙ not_true (is_same_body p.body q.body) rest.1))
+    let rest = and_parts (are_rivals p.body q.body) (not (is_same_body p.body q.body)) both.1 in (
+      eqb-true p.signer q.signer both.0,
+      rest.0,
+      λ same. true≢false (sym ((body_test p.body q.body).1 same) ∙ not-true (is_same_body p.body q.body) rest.1),
+    )

@@ -1,6 +1,8 @@
 -- What blame is worth.
-use Rattle.std.proofs.Common.{◌≡◌, ℕ, ◌+◌, ◌*◌, ◌<◌, ◌≤◌, Bool, true, false, cond, ◌&&◌, not, List, [], ◌∷◌, Option, Some, None, length, filter, nat_eq, nat_lt, refl, sym, ◌∙◌, ap, subst, inl, inr, arith, eqb-true, eq-eqb}
-use Rattle.std.proofs.lemmas.Bool.{false≢true, and_parts, and_from}
+use Rattle.std.proofs.Common.{◌≡◌, ℕ, ◌+◌, ◌*◌, ◌<◌, ◌≤◌, Bool, true, false, cond, ◌&&◌, not, List, [], ◌∷◌, Option}
+use Rattle.std.proofs.Common.{Some, None, length, filter, nat_eq, nat_lt, refl, sym, ◌∙◌, ap, subst, inl, inr, arith}
+use Rattle.std.proofs.Common.{eqb-true, eq-eqb}
+use Rattle.std.proofs.lemmas.Bool.{false≢true, and_parts, and_from, not-true}
 use Rattle.std.specs.List.{list_all, list_any, filter_map, flat_map, cons_option}
 use Rattle.quorum_sets.specs.Masters.{numbers_below, voters}
 use Rattle.quorum_sets.proofs.MastersLemmas.{voters_meet}
@@ -18,41 +20,46 @@ use Rattle.history_rules.specs.Legal.{Stands, IsLegal, TakesWell}
 use Rattle.history_rules.specs.Audit.{IsIn, HasSaid, parts_taken, NothingForged}
 use Rattle.history_rules.specs.Sameness.{is_same_body}
 use Rattle.agreement.proofs.Lists.{none_in, in_cases, in_flat_map_from, in_filter_map_from, any_from, all_at}
-use Rattle.agreement.proofs.Places.{said_whole}
+use Rattle.agreement.proofs.Places.{said_whole, stands_in}
 use Rattle.agreement.proofs.Once.{correct_actor}
 use Rattle.agreement.proofs.Quorums.{below_from}
 use Rattle.agreement.proofs.Blame.{acknowledges_once, proposes_once, prepares_once, commits_once}
-use Rattle.audit_counts.proofs.Forged.{stands_in}
 use Rattle.audit_counts.proofs.Same.{body_test}
 use Rattle.blame_check.specs.declared.pairs.Named.{Named}
 use Rattle.blame_check.specs.Contradictions.{are_rivals, first_pair, named}
-use Rattle.blame_check.specs.Laws.{words_taken, NamedContradict, ContraryAreNamed, has_commit, QuorumsNameMany, CorrectAreNotNamed}
+use Rattle.blame_check.specs.Laws.{words_taken, NamedContradict, ContraryAreNamed, has_commit, QuorumsNameMany}
+use Rattle.blame_check.specs.Laws.{CorrectAreNotNamed}
 use Rattle.blame_check.proofs.Rivals.{contrary_parts}
 use Rattle.blame_check.proofs.FirstPairs.{IsPair, pair_is, one_word}
 use Rattle.blame_check.proofs.Rising.{is_of, there_is}
 use Rattle.blame_check.proofs.Taken.{own_pairs}
 
 -- who is named, and for what
-named_for : (n : ℕ) (words : List (Signed Body)) (x : Named) → IsIn x (named n words) → (m : ℕ) × (m < n) × IsPair m words x
+named_for : (n : ℕ) (words : List (Signed Body)) (x : Named) → IsIn x (named n words) →
+    (m : ℕ) × (m < n) × IsPair m words x
 named_for n words x among =
     let found = in_filter_map_from (λ m. first_pair m [] words) (numbers_below n) among in
     (found.0, below_from n found.0 found.1, pair_is found.0 words x found.2)
 
 abbrev part_stands : Setup → Signed Body → Bool
-part_stands w p = nat_lt p.signer (w.group.n + w.group.clients) && w.signs p.signer (body_text p.body) p.sig && in_place w.group p
+part_stands w p = nat_lt p.signer (w.group.n + w.group.clients) && w.signs p.signer (body_text p.body) p.sig
+    && in_place w.group p
 
 abbrev IsSigned : Setup → Signed Body → Type 0
 IsSigned w p = w.signs p.signer (body_text p.body) p.sig ≡ true
 
 -- the parts of a frame that stands are signed
-parts_signed : (w : Setup) (frame : Signed Body) → stands w frame ≡ true → (p : Signed Body) → IsIn p (parts frame) → IsSigned w p
+parts_signed : (w : Setup) (frame : Signed Body) → stands w frame ≡ true → (p : Signed Body) →
+    IsIn p (parts frame) → IsSigned w p
 unfolding stands
 parts_signed w frame well p among =
     let both = and_parts (has_spelling frame) (list_all (part_stands w) (parts frame)) well in
-    let at = and_parts (nat_lt p.signer (w.group.n + w.group.clients) && w.signs p.signer (body_text p.body) p.sig) (in_place w.group p) (all_at (part_stands w) among both.1) in
+    let at = and_parts (nat_lt p.signer (w.group.n + w.group.clients) && w.signs p.signer (body_text p.body) p.sig)
+    (in_place w.group p) (all_at (part_stands w) among both.1) in
     (and_parts (nat_lt p.signer (w.group.n + w.group.clients)) (w.signs p.signer (body_text p.body) p.sig) at.0).1
 
-taken_signed : (w : Setup) (now : ℕ) (event : Event) → TakesWell w now event → (p : Signed Body) → IsIn p (flat_map parts (taken_frames (frame_taken event))) → IsSigned w p
+taken_signed : (w : Setup) (now : ℕ) (event : Event) → TakesWell w now event → (p : Signed Body) →
+    IsIn p (flat_map parts (taken_frames (frame_taken event))) → IsSigned w p
 taken_signed w now (Took stamp place frame) well p among = elim (in_cases (parts frame) among) [
   | inl part ↦ parts_signed w frame well.0 p part
   | inr nowhere ↦ absurd (none_in nowhere)
@@ -60,13 +67,15 @@ taken_signed w now (Took stamp place frame) well p among = elim (in_cases (parts
 taken_signed w now _ well p among = absurd (none_in among)
 
 -- where a word taken was taken
-word_place : (history : List Entry) (p : Signed Body) → IsIn p (words_taken history) → (e : Entry) × (before : List Entry) × Stands history before e × IsIn p (parts_taken e)
+word_place : (history : List Entry) (p : Signed Body) → IsIn p (words_taken history) →
+    (e : Entry) × (before : List Entry) × Stands history before e × IsIn p (parts_taken e)
 word_place history p among =
     let found = in_flat_map_from parts_taken history among in
     let place = stands_in history found.1 in
     (found.0, place.0, place.1, found.2)
 
-word_signed : (w : Setup) (history : List Entry) → IsLegal w history → (p : Signed Body) → IsIn p (words_taken history) → IsSigned w p
+word_signed : (w : Setup) (history : List Entry) → IsLegal w history → (p : Signed Body) →
+    IsIn p (words_taken history) → IsSigned w p
 word_signed w history legal p among =
     let at = word_place history p among in
     taken_signed w (length at.1) at.0.event (legal.entries at.1 at.0 at.2).taken p at.3
@@ -82,8 +91,10 @@ named_contradict w history legal x among =
       is_master = subst (λ (m : ℕ). m < w.group.n) (sym pair.master) found.1;
       first_by = first;
       second_by = second;
-      first_signed = subst (λ (m : ℕ). w.signs m (body_text x.first.body) x.first.sig ≡ true) first (word_signed w history legal x.first pair.first_in);
-      second_signed = subst (λ (m : ℕ). w.signs m (body_text x.second.body) x.second.sig ≡ true) second (word_signed w history legal x.second pair.second_in);
+      first_signed = subst (λ (m : ℕ). w.signs m (body_text x.first.body) x.first.sig ≡ true) first
+          (word_signed w history legal x.first pair.first_in);
+      second_signed = subst (λ (m : ℕ). w.signs m (body_text x.second.body) x.second.sig ≡ true) second
+          (word_signed w history legal x.second pair.second_in);
       contrary = pair.contrary;
     }
 
@@ -97,30 +108,33 @@ contrary_are_named n words p q p_in q_in contrary below = by (first_pair p.signe
     by (Some x) has = there_is (λ m. first_pair m [] words) (own_pairs words) p.signer x has n below
 
 -- what a correct master said in two ways
-one_said : (w : Setup) (history : List Entry) (i : ℕ) → IsLegal w history → is_correct_master w i ≡ true → (a b : Body) → are_rivals a b ≡ true
+one_said : (w : Setup) (history : List Entry) (i : ℕ) → IsLegal w history → is_correct_master w i ≡ true →
+    (a b : Body) → are_rivals a b ≡ true
     → HasSaid history i a → HasSaid history i b → a ≡ b
 one_said w history i legal correct (body.PoAck a) (body.PoAck b) e p q =
     let both = and_parts (nat_eq a.j b.j) (nat_eq a.k b.k) e in
-    ap (λ x. body.PoAck x) (acknowledges_once w history i legal correct a b p q (eqb-true a.j b.j both.0) (eqb-true a.k b.k both.1))
+    ap (λ x. body.PoAck x) (acknowledges_once w history i legal correct a b p q (eqb-true a.j b.j both.0)
+    (eqb-true a.k b.k both.1))
 one_said w history i legal correct (body.PrePrepare a) (body.PrePrepare b) e p q =
     let both = and_parts (nat_eq a.v b.v) (nat_eq a.s b.s) e in
-    ap (λ x. body.PrePrepare x) (proposes_once w history i legal correct a b p q (eqb-true a.v b.v both.0) (eqb-true a.s b.s both.1))
+    ap (λ x. body.PrePrepare x) (proposes_once w history i legal correct a b p q (eqb-true a.v b.v both.0)
+    (eqb-true a.s b.s both.1))
 one_said w history i legal correct (body.Prepare a) (body.Prepare b) e p q =
     let both = and_parts (nat_eq a.v b.v) (nat_eq a.s b.s) e in
-    ap (λ x. body.Prepare x) (prepares_once w history i legal correct a b p q (eqb-true a.v b.v both.0) (eqb-true a.s b.s both.1))
+    ap (λ x. body.Prepare x) (prepares_once w history i legal correct a b p q (eqb-true a.v b.v both.0)
+    (eqb-true a.s b.s both.1))
 one_said w history i legal correct (body.Commit a) (body.Commit b) e p q =
     let both = and_parts (nat_eq a.v b.v) (nat_eq a.s b.s) e in
-    ap (λ x. body.Commit x) (commits_once w history i legal correct a b p q (eqb-true a.v b.v both.0) (eqb-true a.s b.s both.1))
+    ap (λ x. body.Commit x) (commits_once w history i legal correct a b p q (eqb-true a.v b.v both.0)
+    (eqb-true a.s b.s both.1))
 one_said w history i legal correct _ _ e p q = absurd (false≢true e)
 
-not_true : (b : Bool) → not b ≡ true → b ≡ false
-not_true true e = absurd (false≢true e)
-not_true false e = refl
-
-word_said : (w : Setup) (history : List Entry) (i : ℕ) → NothingForged w history → is_correct_master w i ≡ true → (p : Signed Body) → IsIn p (words_taken history) → p.signer ≡ i → HasSaid history i p.body
+word_said : (w : Setup) (history : List Entry) (i : ℕ) → NothingForged w history → is_correct_master w i ≡ true →
+    (p : Signed Body) → IsIn p (words_taken history) → p.signer ≡ i → HasSaid history i p.body
 word_said w history i unforged correct p among by =
     let at = word_place history p among in
-    let right : w.intruded i ≡ false = not_true (w.intruded i) (and_parts (nat_lt i w.group.n) (not (w.intruded i)) correct).1 in
+    let right : w.intruded i ≡ false =
+    not-true (w.intruded i) (and_parts (nat_lt i w.group.n) (not (w.intruded i)) correct).1 in
     let said = unforged.said at.1 at.0 at.2 p at.3 (correct_actor w p.signer (ap w.intruded by ∙ right)) in
     subst (λ (m : ℕ). HasSaid history m p.body) by (said_whole at.2 said)
 
@@ -135,7 +149,8 @@ correct_are_not_named w history legal unforged x among correct =
     (word_said w history x.master unforged correct x.second pair.second_in second))
 
 -- there are as many pairs as numbers that have one
-counted : (t : ℕ → Bool) (f : ℕ → Option Named) → ((m : ℕ) → t m ≡ true → f m ≡ None → ⊥) → (xs : List ℕ) → length (filter t xs) ≤ length (filter_map f xs)
+counted : (t : ℕ → Bool) (f : ℕ → Option Named) → ((m : ℕ) → t m ≡ true → f m ≡ None → ⊥) → (xs : List ℕ) →
+    length (filter t xs) ≤ length (filter_map f xs)
 counted t f has [] = omega arith
 counted t f has (x ∷ xs) = by (t x) (f x) refl refl (counted t f has xs)
   where
@@ -154,7 +169,8 @@ digest_in (body.Commit c) = c.digest
 digest_in _ = []
 
 -- a master that committed both
-both_committed : (words : List (Signed Body)) (v s : ℕ) (a b : List ℕ) → (a ≡ b → ⊥) → (m : ℕ) → (has_commit words v s a m && has_commit words v s b m) ≡ true → first_pair m [] words ≡ None → ⊥
+both_committed : (words : List (Signed Body)) (v s : ℕ) (a b : List ℕ) → (a ≡ b → ⊥) → (m : ℕ) →
+    (has_commit words v s a m && has_commit words v s b m) ≡ true → first_pair m [] words ≡ None → ⊥
 both_committed words v s a b apart m has none =
     let both = and_parts (has_commit words v s a m) (has_commit words v s b m) has in
     let one = any_from (λ p. nat_eq p.signer m && is_same_body p.body (commit v s a)) words both.0 in
@@ -164,8 +180,10 @@ both_committed words v s a b apart m has none =
     let is_a : one.0.body ≡ commit v s a = (body_test one.0.body (commit v s a)).0 first.1 in
     let is_b : other.0.body ≡ commit v s b = (body_test other.0.body (commit v s b)).0 second.1 in
     let rivals : are_rivals one.0.body other.0.body ≡ true =
-    ap (λ x. are_rivals x other.0.body) is_a ∙ ap (are_rivals (commit v s a)) is_b ∙ and_from (nat_eq v v) (nat_eq s s) (eq-eqb v v refl) (eq-eqb s s refl) in
-    apart (ap digest_in (sym is_a ∙ one_word m words none one.0 other.0 one.1 other.1 (eqb-true one.0.signer m first.0) (eqb-true other.0.signer m second.0) rivals ∙ is_b))
+    ap (λ x. are_rivals x other.0.body) is_a ∙ ap (are_rivals (commit v s a)) is_b
+    ∙ and_from (nat_eq v v) (nat_eq s s) (eq-eqb v v refl) (eq-eqb s s refl) in
+    apart (ap digest_in (sym is_a ∙ one_word m words none one.0 other.0 one.1 other.1
+    (eqb-true one.0.signer m first.0) (eqb-true other.0.signer m second.0) rivals ∙ is_b))
 
 pub quorums_name_many : QuorumsNameMany
 quorums_name_many g sizes words v s a b apart first second =
@@ -174,6 +192,8 @@ quorums_name_many g sizes words v s a b apart first second =
     let both : length (voters (has_commit words v s a) g.n) + length (voters (has_commit words v s b) g.n)
     ≤ g.n + length (voters (λ x. has_commit words v s a x && has_commit words v s b x) g.n) =
     voters_meet (has_commit words v s a) (has_commit words v s b) g.n in
-    let named_all : length (voters (λ x. has_commit words v s a x && has_commit words v s b x) g.n) ≤ length (named g.n words) =
-    counted (λ x. has_commit words v s a x && has_commit words v s b x) (λ m. first_pair m [] words) (both_committed words v s a b apart) (numbers_below g.n) in
+    let named_all : length (voters (λ x. has_commit words v s a x && has_commit words v s b x) g.n) ≤ length
+    (named g.n words) =
+    counted (λ x. has_commit words v s a x && has_commit words v s b x) (λ m. first_pair m [] words)
+    (both_committed words v s a b apart) (numbers_below g.n) in
     omega arith

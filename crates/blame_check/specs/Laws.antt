@@ -1,5 +1,5 @@
--- What blame is worth, as statements over every setup and legal history. (That two quorums' commits of different digests show
--- f + 1 masters at fault is PBFT's argument for safety, turned round.)
+-- What blame is worth, as statements over every setup and legal history. (That two quorums' commits of different
+-- digests show f + 1 masters at fault is PBFT's argument for safety, turned round.)
 use Rattle.std.specs.Prelude.{◌≡◌, ℕ, ◌+◌, ◌<◌, ◌≤◌, Bool, true, ◌&&◌, List, length, nat_eq}
 use Rattle.std.specs.List.{flat_map, list_any}
 use Rattle.quorum_sets.specs.Masters.{voters}
@@ -36,18 +36,21 @@ pub record IsProof (w : Setup) (pair : Named) : Type 0 where
 
 -- Who is named for a legal history signed two words that contradict each other.
 abbrev pub NamedContradict : Type 0
-NamedContradict = (w : Setup) (history : List Entry) → IsLegal w history → (pair : Named) → IsIn pair (blamed w history) → IsProof w pair
+NamedContradict = (w : Setup) (history : List Entry) → IsLegal w history → (pair : Named) →
+    IsIn pair (blamed w history) → IsProof w pair
 
 -- Who signed two words that contradict each other is named, wherever among those taken the two stand.
 abbrev pub ContraryAreNamed : Type 0
 ContraryAreNamed =
-    (n : ℕ) (words : List (Signed Body)) (p q : Signed Body) → IsIn p words → IsIn q words → contradict p q ≡ true → p.signer < n
+    (n : ℕ) (words : List (Signed Body)) (p q : Signed Body) → IsIn p words → IsIn q words →
+    contradict p q ≡ true → p.signer < n
     → list_any (λ x. nat_eq x.master p.signer) (named n words) ≡ true
 
 -- the master's commit of this digest is among the words
 abbrev pub has_commit : List (Signed Body) → ℕ → ℕ → List ℕ → ℕ → Bool
 has_commit words v s digest m =
-    list_any (λ p. nat_eq p.signer m && is_same_body p.body (body.Commit record { v = v; s = s; digest = digest })) words
+    list_any (λ p. nat_eq p.signer m && is_same_body p.body (body.Commit record { v = v; s = s; digest = digest }))
+    words
 
 -- Words that hold two quorums' commits of different digests, for one number of a view, name at least f + 1 masters.
 abbrev pub QuorumsNameMany : Type 0

@@ -1,3 +1,3 @@
 pub mod Contradictions
-pub mod Kept
+pub mod Slots
 pub mod Laws

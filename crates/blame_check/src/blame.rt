@@ -5,14 +5,13 @@ ghost use Rattle.message_types.specs.declared.body.Body.{Body as Word};
 ghost use Rattle.message_types.specs.Parts.{parts as parts_of_frame};
 ghost use Rattle.history_rules.specs.Sameness.{is_same_body};
 ghost use Rattle.blame_check.specs.Contradictions.{named};
-ghost use Rattle.blame_check.specs.Kept.{HasTaken};
+ghost use Rattle.blame_check.specs.Slots.{HasTaken};
 
 use crate::pairs::{Named, is_named, name};
 use crate::slots::{Firsts, slot_of};
 use checked_frames::Checked;
-use frame_parts::parts_of;
 use indexmap::IndexMap;
-use message_types::{Body, Frame};
+use message_types::{Body, Frame, parts_of};
 use plain_lists::{Same, Want};
 use quorum_sets::Sizes;
 use std::alloc::Global;

@@ -1,5 +1,5 @@
 ghost use Rattle.std.specs.Prelude.{◌≡◌};
-ghost use Rattle.blame_check.specs.Kept.{slot_of};
+ghost use Rattle.blame_check.specs.Slots.{slot_of};
 
 use indexmap::IndexMap;
 use message_types::{Body, Frame};

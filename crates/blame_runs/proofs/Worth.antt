@@ -1,5 +1,6 @@
 -- What a printed blame is worth.
-use Rattle.std.proofs.Common.{◌≡◌, ℕ, ◌+◌, ◌<◌, ◌≤◌, Bool, true, false, ◌&&◌, not, List, length, nat_lt, refl, sym, ◌∙◌, ap, subst}
+use Rattle.std.proofs.Common.{◌≡◌, ℕ, ◌+◌, ◌<◌, ◌≤◌, Bool, true, false, ◌&&◌, not, List, length, nat_lt, refl, sym}
+use Rattle.std.proofs.Common.{◌∙◌, ap, subst}
 use Rattle.std.proofs.lemmas.Bool.{and_from, lt-ltb}
 use Rattle.quorum_sets.specs.Masters.{voters}
 use Rattle.message_types.specs.declared.signed.Signed.{Signed}
@@ -18,7 +19,8 @@ use Rattle.blame_runs.proofs.Naming.{named_is}
 use Rattle.blame_runs.specs.Laws.{IsSigned, BlamedAreProved, QuorumsAreBlamed, CorrectAreNotBlamed}
 
 -- what a master's key bears out, by the signer of the frame
-signed_by : (c : Contents) (frame : Signed Body) (m : ℕ) → frame.signer ≡ m → (setup_of c).signs m (body_text frame.body) frame.sig ≡ true → IsSigned c frame
+signed_by : (c : Contents) (frame : Signed Body) (m : ℕ) → frame.signer ≡ m →
+    (setup_of c).signs m (body_text frame.body) frame.sig ≡ true → IsSigned c frame
 signed_by c frame m by signed =
     sym ((setup_goes_by c).signs frame.signer (body_text frame.body) frame.sig)
     ∙ ap (λ (k : ℕ). (setup_of c).signs k (body_text frame.body) frame.sig) by ∙ signed
@@ -38,14 +40,17 @@ blamed_are_proved c history legal pair among =
 -- what two quorums' commits do, over a group
 abbrev NamesMany : List (Signed Body) → ℕ → ℕ → List ℕ → List ℕ → Group → Type 0
 NamesMany words v s a b g =
-    g.q ≤ length (voters (has_commit words v s a) g.n) → g.q ≤ length (voters (has_commit words v s b) g.n) → g.f + 1 ≤ length (named g.n words)
+    g.q ≤ length (voters (has_commit words v s a) g.n) → g.q ≤ length (voters (has_commit words v s b) g.n) →
+    g.f + 1 ≤ length (named g.n words)
 
 pub quorums_are_blamed : QuorumsAreBlamed
 quorums_are_blamed c history is v s a b apart first second =
     let words = words_taken history in
     let many : NamesMany words v s a b (group_in c) =
-    subst (NamesMany words v s a b) (group_is c) (quorums_name_many (setup_of c).group (sizes_of_group c is) words v s a b apart) in
-    subst (λ (pairs : List Named). c.settings.f + 1 ≤ length pairs) (named_is c history (masters_in c) refl) (many first second)
+    subst (NamesMany words v s a b) (group_is c)
+    (quorums_name_many (setup_of c).group (sizes_of_group c is) words v s a b apart) in
+    subst (λ (pairs : List Named). c.settings.f + 1 ≤ length pairs) (named_is c history (masters_in c) refl)
+    (many first second)
 
 -- a master that isn't correct is intruded
 intruded_from : (low intruded : Bool) → low ≡ true → ((low && not intruded) ≡ true → ⊥) → intruded ≡ true
@@ -56,5 +61,6 @@ pub correct_are_not_blamed : CorrectAreNotBlamed
 correct_are_not_blamed c history legal none pair among =
     let master = (named_contradict (setup_of c) history legal pair among).is_master in
     sym ((setup_goes_by c).intruded pair.master)
-    ∙ intruded_from (nat_lt pair.master (setup_of c).group.n) ((setup_of c).intruded pair.master) (lt-ltb pair.master (setup_of c).group.n master)
+    ∙ intruded_from (nat_lt pair.master (setup_of c).group.n) ((setup_of c).intruded pair.master)
+    (lt-ltb pair.master (setup_of c).group.n master)
     (correct_are_not_named (setup_of c) history legal ((forged_counts (setup_of c) history).0 none) pair among)

@@ -1,5 +1,5 @@
--- What a printed blame is worth, as statements over every scenario and legal history. (This project's own; that two quorums'
--- commits of different digests show f + 1 masters at fault is PBFT's argument for safety, turned round.)
+-- What a printed blame is worth, as statements over every scenario and legal history. (This project's own; that two
+-- quorums' commits of different digests show f + 1 masters at fault is PBFT's argument for safety, turned round.)
 use Rattle.std.specs.Prelude.{◌≡◌, ℕ, ◌+◌, ◌<◌, ◌≤◌, true, List, length}
 use Rattle.quorum_sets.specs.Quorum.{quorum_size}
 use Rattle.quorum_sets.specs.Masters.{has_master, voters}
@@ -47,7 +47,8 @@ IsCommitted c history v s digest =
 abbrev pub QuorumsAreBlamed : Type 0
 QuorumsAreBlamed =
     (c : Contents) (history : List Entry) → IsScenario c → (v s : ℕ) (a b : List ℕ) → (a ≡ b → ⊥)
-    → IsCommitted c history v s a → IsCommitted c history v s b → c.settings.f + 1 ≤ length (blamed (setup_of c) history)
+    → IsCommitted c history v s a → IsCommitted c history v s b →
+    c.settings.f + 1 ≤ length (blamed (setup_of c) history)
 
 -- Where no word counts as forged, all that are named are intruded masters.
 abbrev pub CorrectAreNotBlamed : Type 0

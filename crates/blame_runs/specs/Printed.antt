@@ -1,5 +1,5 @@
--- The text that names the masters that contradicted themselves. Only what was taken counts: a cry that nobody took names
--- nobody. (This project's own.)
+-- The text that names the masters that contradicted themselves. Only what was taken counts: a cry that nobody took
+-- names nobody. (This project's own.)
 use Rattle.std.specs.Prelude.{◌≡◌, ℕ, true, List, ◌++◌, length, codes, decimal}
 use Rattle.std.specs.List.{flat_map}
 use Rattle.hex.specs.Hex.{encode_lower}
@@ -22,7 +22,8 @@ pub record IsSpelled (pair : Named) : Type 0 where
 unfoldable pub named_text : Named → List ℕ
 named_text pair =
     codes "m" ++ decimal pair.master ++ codes " " ++ kind_name (kind_of pair.first.body)
-    ++ codes " " ++ encode_lower (frame_text pair.first) ++ codes " " ++ encode_lower (frame_text pair.second) ++ codes "\n"
+    ++ codes " " ++ encode_lower (frame_text pair.first) ++ codes " "
+    ++ encode_lower (frame_text pair.second) ++ codes "\n"
 
 -- how many there are, and a line for each
 unfoldable pub named_lines : List Named → List ℕ

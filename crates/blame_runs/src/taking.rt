@@ -4,7 +4,7 @@ ghost use Rattle.message_types.specs.declared.signed.Signed.{Signed as SignedWor
 ghost use Rattle.message_types.specs.declared.body.Body.{Body as Word};
 ghost use Rattle.history_rules.specs.Audit.{parts_taken};
 ghost use Rattle.world_entries.specs.Entries.{entry_of};
-ghost use Rattle.blame_check.specs.Kept.{HasTaken};
+ghost use Rattle.blame_check.specs.Slots.{HasTaken};
 ghost use Rattle.blame_check.specs.Laws.{words_taken};
 
 use blame_check::Blame;

@@ -1,5 +1,6 @@
 -- The second version of a signature is read back from its bytes.
-use Rattle.std.proofs.Common.{◌≡◌, ◌≤◌, ◌<◌, ◌+◌, ◌*◌, ◌/◌, ◌^◌, ℕ, List, ◌++◌, length, take, drop, refl, sym, ap, ◌∙◌, arith, length-append, append_assoc}
+use Rattle.std.proofs.Common.{◌≡◌, ◌≤◌, ◌<◌, ◌+◌, ◌*◌, ◌/◌, ◌^◌, ℕ, List, ◌++◌, length, take, drop, refl, sym, ap}
+use Rattle.std.proofs.Common.{◌∙◌, arith, length-append, append_assoc}
 use Rattle.std.proofs.lemmas.List.{take_at, drop_at}
 use Rattle.byteorder.specs.Endian.{big_number}
 use Rattle.byteorder.specs.Numbers.{big_number-reads_back}
@@ -40,8 +41,10 @@ behind place count hashes path signed sig e =
     let labcd : length (a ++ b ++ c ++ d) ≡ 10 = omega (arith, length-append (a ++ b ++ c) d) in
     let four : sig ≡ (a ++ b ++ c ++ d) ++ (path ++ signed) = e ∙ append_assoc (a ++ b ++ c ++ d) path signed in
     let three : sig ≡ (a ++ b ++ c) ++ (d ++ (path ++ signed)) = four ∙ append_assoc (a ++ b ++ c) d (path ++ signed) in
-    let two : sig ≡ (a ++ b) ++ (c ++ (d ++ (path ++ signed))) = three ∙ append_assoc (a ++ b) c (d ++ (path ++ signed)) in
-    let one : sig ≡ a ++ (b ++ (c ++ (d ++ (path ++ signed)))) = two ∙ append_assoc a b (c ++ (d ++ (path ++ signed))) in
+    let two : sig ≡ (a ++ b) ++ (c ++ (d ++ (path ++ signed))) =
+    three ∙ append_assoc (a ++ b) c (d ++ (path ++ signed)) in
+    let one : sig ≡ a ++ (b ++ (c ++ (d ++ (path ++ signed)))) =
+    two ∙ append_assoc a b (c ++ (d ++ (path ++ signed))) in
     let at_four = ap (drop 4) one ∙ drop_at a (b ++ (c ++ (d ++ (path ++ signed)))) 4 la in
     let at_six = ap (drop 6) two ∙ drop_at (a ++ b) (c ++ (d ++ (path ++ signed))) 6 lab in
     let at_eight = ap (drop 8) three ∙ drop_at (a ++ b ++ c) (d ++ (path ++ signed)) 8 labc in
@@ -64,13 +67,15 @@ pub record AreRead (place count hashes : ℕ) (path signed sig : List ℕ) : Typ
   pub path_is : take (32 * hashes) (drop 10 sig) ≡ path
   pub signed_is : drop (32 * hashes) (drop 10 sig) ≡ signed
 
-pub group_field-read : (place count hashes : ℕ) (path signed : List ℕ) → place < 2 ^ 16 → count < 2 ^ 16 → hashes < 2 ^ 16 → length path ≡ 32 * hashes
+pub group_field-read : (place count hashes : ℕ) (path signed : List ℕ) → place < 2 ^ 16 → count < 2 ^ 16 →
+    hashes < 2 ^ 16 → length path ≡ 32 * hashes
     → AreRead place count hashes path signed (group_field place count path signed)
 unfolding group_head group_field
 group_field-read place count hashes path signed place_fits count_fits hashes_fits size =
     let sig = u32_bytes 256 ++ u16_bytes place ++ u16_bytes count ++ u16_bytes (length path / 32) ++ path ++ signed in
     let number : length path / 32 ≡ hashes = omega arith in
-    let at = behind place count hashes path signed sig (ap (λ (h : ℕ). u32_bytes 256 ++ u16_bytes place ++ u16_bytes count ++ u16_bytes h ++ path ++ signed) number) in
+    let at = behind place count hashes path signed sig
+    (ap (λ (h : ℕ). u32_bytes 256 ++ u16_bytes place ++ u16_bytes count ++ u16_bytes h ++ path ++ signed) number) in
     let head = u32_bytes 256 ++ u16_bytes place ++ u16_bytes count ++ u16_bytes (length path / 32) in
     record {
       room = omega (

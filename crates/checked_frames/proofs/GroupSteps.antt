@@ -1,5 +1,6 @@
 -- The definitions over levels at a number of levels that isn't 0.
-use Rattle.std.proofs.Common.{◌≡◌, ◌≤◌, ◌<◌, ◌+◌, ◌-◌, ◌/◌, ℕ, suc, true, List, length, take, drop, refl, sym, ap, ◌∙◌, arith, lt-ltb, le-leb, nat_lt, nat_le, Option, None, if◌then◌else◌, cond}
+use Rattle.std.proofs.Common.{◌≡◌, ◌≤◌, ◌<◌, ◌+◌, ◌-◌, ◌/◌, ℕ, suc, true, List, length, take, drop, refl, sym, ap}
+use Rattle.std.proofs.Common.{◌∙◌, arith, lt-ltb, le-leb, nat_lt, nat_le, Option, None, if◌then◌else◌, cond}
 use Rattle.std.proofs.lemmas.Bool.{cond-true}
 use Rattle.checked_frames.specs.Groups.{level_above, raised, sibling, parent_hash, led_to}
 

@@ -1,5 +1,7 @@
 -- An LMS public key is what is read at its fields' places.
-use Rattle.std.proofs.Common.{◌≡◌, ◌≤◌, ◌<◌, ◌+◌, ◌-◌, ◌*◌, ◌/◌, ◌^◌, ℕ, Bool, true, false, ◌&&◌, List, [], ◌∷◌, ◌++◌, length, take, drop, Option, Some, None, refl, sym, ap, ◌∙◌, subst, arith, nat_eq, eqb-true, if◌then◌else◌}
+use Rattle.std.proofs.Common.{◌≡◌, ◌≤◌, ◌<◌, ◌+◌, ◌-◌, ◌*◌, ◌/◌, ◌^◌, ℕ, Bool, true, false, ◌&&◌, List, [], ◌∷◌, ◌++◌}
+use Rattle.std.proofs.Common.{length, take, drop, Option, Some, None, refl, sym, ap, ◌∙◌, subst, arith, nat_eq}
+use Rattle.std.proofs.Common.{eqb-true, if◌then◌else◌}
 use Rattle.std.specs.Prelude.{option_and_then}
 use Rattle.std.specs.Bool.{Decides}
 use Rattle.std.specs.List.{list_any, Contains}
@@ -48,7 +50,8 @@ is_key-Decides key bytes =
 pub number_front : (bytes : List ℕ) (x : ℕ) → x < 2 ^ 32 → take 4 bytes ≡ u32_bytes x → big_number 4 bytes ≡ x
 unfolding u32_bytes
 number_front bytes x fits e =
-    ap (big_number 4) (sym (take-append-drop 4 bytes) ∙ ap (λ f. f ++ drop 4 bytes) e) ∙ big_number-reads_back 4 x (drop 4 bytes) fits
+    ap (big_number 4) (sym (take-append-drop 4 bytes) ∙ ap (λ f. f ++ drop 4 bytes) e)
+    ∙ big_number-reads_back 4 x (drop 4 bytes) fits
 
 height_back : (h : ℕ) → IsTreeHeight h → height_of (tree_code h) ≡ h
 height_back h is = grind arith
@@ -84,7 +87,8 @@ key_in-some key bytes is =
     let code = number_front (drop 4 bytes) (type_code key.ots) (type_code-lt key.ots) cuts.second in
     let found : ots_of (big_number 4 (drop 4 bytes)) ≡ Some key.ots = ap ots_of code ∙ ots_back key.ots in
     let read = read_is key bytes is in
-    let test : is_key (key_read bytes key.ots) bytes ≡ true = ap (λ k. is_key k bytes) read ∙ (is_key-Decides key bytes).1 is in
+    let test : is_key (key_read bytes key.ots) bytes ≡ true = ap (λ k. is_key k bytes) read
+    ∙ (is_key-Decides key bytes).1 is in
     ap (option_and_then (λ ots. if is_key (key_read bytes ots) bytes then Some (key_read bytes ots) else None)) found
     ∙ cond-true (is_key (key_read bytes key.ots) bytes) (Some (key_read bytes key.ots)) None test
     ∙ ap Some read
@@ -95,7 +99,8 @@ unfolding key_in
 key_in-is key bytes e = by (ots_of (big_number 4 (drop 4 bytes))) e
   where
     by : (o : Option Ots)
-        → option_and_then (λ ots. if is_key (key_read bytes ots) bytes then Some (key_read bytes ots) else None) o ≡ Some key
+        → option_and_then (λ ots. if is_key (key_read bytes ots) bytes then Some (key_read bytes ots) else None)
+        o ≡ Some key
         → IsKey key bytes
     by None h = cc
     by (Some ots) h =
@@ -108,7 +113,8 @@ pub of_key-Decides : (test : PublicKey → Bool) (P : PublicKey → Type 0) (byt
     → Decides (option_map_or test (key_in bytes) false) ((key : PublicKey) × IsKey key bytes × P key)
 of_key-Decides test P bytes each = (forward (key_in bytes) refl, backward)
   where
-    forward : (o : Option PublicKey) → key_in bytes ≡ o → option_map_or test o false ≡ true → (key : PublicKey) × IsKey key bytes × P key
+    forward : (o : Option PublicKey) → key_in bytes ≡ o → option_map_or test o false ≡ true →
+        (key : PublicKey) × IsKey key bytes × P key
     forward None e h = absurd (true≢false (sym h))
     forward (Some key) e h = let is = key_in-is key bytes e in (key, is, (each key is).0 h)
 

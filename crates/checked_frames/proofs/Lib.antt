@@ -1,4 +1,3 @@
-pub mod RowLaws
 pub mod GroupSteps
 pub mod PathLaws
 pub mod KeyReads

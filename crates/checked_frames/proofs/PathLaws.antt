@@ -1,10 +1,14 @@
 -- The path of a leaf leads to the root of its tree.
-use Rattle.std.proofs.Common.{◌≡◌, ◌≤◌, ◌<◌, ◌+◌, ◌-◌, ◌*◌, ◌/◌, ◌%◌, ◌==◌, ℕ, zero, suc, Bool, true, false, List, [], ◌∷◌, ◌++◌, length, take, drop, get_or, map, Option, Some, None, refl, sym, ap, ◌∙◌, subst, arith, inl, inr, nat_lt, nat_le, lt-ltb, le-leb, if◌then◌else◌, length-append, append_assoc}
+use Rattle.std.proofs.Common.{◌≡◌, ◌≤◌, ◌<◌, ◌+◌, ◌-◌, ◌*◌, ◌/◌, ◌%◌, ◌==◌, ℕ, zero, suc, Bool, true, false, List, []}
+use Rattle.std.proofs.Common.{◌∷◌, ◌++◌, length, take, drop, get_or, map, Option, Some, None, refl, sym, ap, ◌∙◌}
+use Rattle.std.proofs.Common.{subst, arith, inl, inr, nat_lt, nat_le, lt-ltb, le-leb, if◌then◌else◌, length-append}
+use Rattle.std.proofs.Common.{append_assoc}
 use Rattle.std.proofs.lemmas.Bool.{cond-true, cond-false, cases_lt, le-ltb}
 use Rattle.std.proofs.lemmas.List.{take_at, drop_at}
 use Rattle.sha2.proofs.Facts256.{length-sha256}
 use Rattle.wire_parts.specs.Fields.{u8_bytes}
-use Rattle.checked_frames.specs.Groups.{leaf_hash, joined_hash, level_above, raised, most_levels, root_of, sibling, beside, path_up, path_of, parent_hash, led_to}
+use Rattle.checked_frames.specs.Groups.{leaf_hash, joined_hash, level_above, raised, most_levels, root_of, sibling}
+use Rattle.checked_frames.specs.Groups.{beside, path_up, path_of, parent_hash, led_to}
 use Rattle.checked_frames.specs.Levels.{levels_up, path_through}
 
 -- each hash has 32 bytes
@@ -59,7 +63,8 @@ parent_on p here other = ap (λ (b : Bool). if b then joined_hash other here els
 
 -- the parent of two siblings stands in the level above
 parent_above : (nodes : List (List ℕ)) (place : ℕ) → place < length nodes → sibling place < length nodes
-    → get_or (level_above nodes) (place / 2) [] ≡ parent_hash place (get_or nodes place []) (get_or nodes (sibling place) [])
+    → get_or (level_above nodes) (place / 2) [] ≡ parent_hash place (get_or nodes place [])
+    (get_or nodes (sibling place) [])
 parent_above [] place inside paired = absurd (omega arith)
 parent_above (last ∷ []) zero inside paired = absurd (let h : 1 < 1 = paired in omega arith)
 parent_above (last ∷ []) (suc p) inside paired = absurd (omega arith)
@@ -79,8 +84,10 @@ last_above : (nodes : List (List ℕ)) (place : ℕ) → place < length nodes �
 last_above [] place inside alone = absurd (omega arith)
 last_above (last ∷ []) zero inside alone = refl
 last_above (last ∷ []) (suc p) inside alone = absurd (omega arith)
-last_above (left ∷ right ∷ rest) zero inside alone = absurd (let h : length (left ∷ right ∷ rest) ≤ 1 = alone in omega arith)
-last_above (left ∷ right ∷ rest) (suc zero) inside alone = absurd (let h : length (left ∷ right ∷ rest) ≤ 0 = alone in omega arith)
+last_above (left ∷ right ∷ rest) zero inside alone =
+    absurd (let h : length (left ∷ right ∷ rest) ≤ 1 = alone in omega arith)
+last_above (left ∷ right ∷ rest) (suc zero) inside alone =
+    absurd (let h : length (left ∷ right ∷ rest) ≤ 0 = alone in omega arith)
 last_above (left ∷ right ∷ rest) (suc (suc p)) inside alone =
     let on = sibling_on p in
     ap (λ (k : ℕ). get_or (joined_hash left right ∷ level_above rest) k []) (half_on p)
@@ -92,33 +99,42 @@ halved zero place = place
 halved (suc n) place = halved n (place / 2)
 
 -- a level's hash and what follows it, and nothing where there is no sibling
-beside_paired : (nodes : List (List ℕ)) (place : ℕ) → sibling place < length nodes → beside nodes place ≡ get_or nodes (sibling place) []
-beside_paired nodes place paired = cond-true (nat_lt (sibling place) (length nodes)) (get_or nodes (sibling place) []) [] (lt-ltb (sibling place) (length nodes) paired)
+beside_paired : (nodes : List (List ℕ)) (place : ℕ) → sibling place < length nodes →
+    beside nodes place ≡ get_or nodes (sibling place) []
+beside_paired nodes place paired = cond-true (nat_lt (sibling place) (length nodes)) (get_or nodes (sibling place) [])
+    [] (lt-ltb (sibling place) (length nodes) paired)
 
 beside_alone : (nodes : List (List ℕ)) (place : ℕ) → length nodes ≤ sibling place → beside nodes place ≡ []
-beside_alone nodes place alone = cond-false (nat_lt (sibling place) (length nodes)) (get_or nodes (sibling place) []) [] (le-ltb (sibling place) (length nodes) alone)
+beside_alone nodes place alone = cond-false (nat_lt (sibling place) (length nodes)) (get_or nodes (sibling place) [])
+    [] (le-ltb (sibling place) (length nodes) alone)
 
-step_paired : (n count place : ℕ) (here path hash rest : List ℕ) → sibling place < count → path ≡ hash ++ rest → length hash ≡ 32
+step_paired : (n count place : ℕ) (here path hash rest : List ℕ) → sibling place < count →
+    path ≡ hash ++ rest → length hash ≡ 32
     → led_to (suc n) count place here path ≡ led_to n ((count + 1) / 2) (place / 2) (parent_hash place here hash) rest
 step_paired n count place here path hash rest paired e len =
     let up = led_to n ((count + 1) / 2) (place / 2) (parent_hash place here (take 32 path)) (drop 32 path) in
     let straight = led_to n ((count + 1) / 2) (place / 2) here path in
     let enough : 32 ≤ length path = omega (arith, ap length e, length-append hash rest) in
-    cond-true (nat_lt (sibling place) count) (if nat_le 32 (length path) then up else None) straight (lt-ltb (sibling place) count paired)
+    cond-true (nat_lt (sibling place) count) (if nat_le 32 (length path) then up else None) straight
+    (lt-ltb (sibling place) count paired)
     ∙ cond-true (nat_le 32 (length path)) up None (le-leb 32 (length path) enough)
-    ∙ ap (λ h. led_to n ((count + 1) / 2) (place / 2) (parent_hash place here h) (drop 32 path)) (ap (take 32) e ∙ take_at hash rest 32 len)
-    ∙ ap (λ r. led_to n ((count + 1) / 2) (place / 2) (parent_hash place here hash) r) (ap (drop 32) e ∙ drop_at hash rest 32 len)
+    ∙ ap (λ h. led_to n ((count + 1) / 2) (place / 2) (parent_hash place here h) (drop 32 path))
+    (ap (take 32) e ∙ take_at hash rest 32 len)
+    ∙ ap (λ r. led_to n ((count + 1) / 2) (place / 2) (parent_hash place here hash) r)
+    (ap (drop 32) e ∙ drop_at hash rest 32 len)
 
 step_alone : (n count place : ℕ) (here path : List ℕ) → count ≤ sibling place
     → led_to (suc n) count place here path ≡ led_to n ((count + 1) / 2) (place / 2) here path
 step_alone n count place here path alone =
     let up = led_to n ((count + 1) / 2) (place / 2) (parent_hash place here (take 32 path)) (drop 32 path) in
     let straight = led_to n ((count + 1) / 2) (place / 2) here path in
-    cond-false (nat_lt (sibling place) count) (if nat_le 32 (length path) then up else None) straight (le-ltb (sibling place) count alone)
+    cond-false (nat_lt (sibling place) count) (if nat_le 32 (length path) then up else None) straight
+    (le-ltb (sibling place) count alone)
 
 -- the path of a place leads to the node above it
 leads_up : (n : ℕ) (nodes : List (List ℕ)) (place : ℕ) → AreHashes nodes → place < length nodes
-    → led_to n (length nodes) place (get_or nodes place []) (path_up n nodes place) ≡ Some (get_or (raised n nodes) (halved n place) [])
+    → led_to n (length nodes) place (get_or nodes place []) (path_up n nodes place) ≡ Some
+    (get_or (raised n nodes) (halved n place) [])
 unfolding halved
 leads_up zero nodes place all inside = refl
 leads_up (suc n) nodes place all inside =
@@ -129,9 +145,12 @@ leads_up (suc n) nodes place all inside =
     elim (cases_lt (sibling place) (length nodes)) [
       | inl paired ↦
           let hash = get_or nodes (sibling place) [] in
-          let path : path_up (suc n) nodes place ≡ hash ++ rest = ap (λ h. h ++ rest) (beside_paired nodes place paired) in
-          step_paired n (length nodes) place (get_or nodes place []) (path_up (suc n) nodes place) hash rest paired path (hash_at nodes (sibling place) all paired)
-          ∙ ap (λ (count : ℕ). led_to n count (place / 2) (parent_hash place (get_or nodes place []) hash) rest) (sym len)
+          let path : path_up (suc n) nodes place ≡ hash ++ rest =
+          ap (λ h. h ++ rest) (beside_paired nodes place paired) in
+          step_paired n (length nodes) place (get_or nodes place []) (path_up (suc n) nodes place)
+          hash rest paired path (hash_at nodes (sibling place) all paired)
+          ∙ ap (λ (count : ℕ). led_to n count (place / 2) (parent_hash place (get_or nodes place []) hash) rest)
+          (sym len)
           ∙ ap (λ here. led_to n (length above) (place / 2) here rest) (sym (parent_above nodes place inside paired))
           ∙ up
       | inr alone ↦
@@ -152,7 +171,8 @@ pub leads_to_root : (leaves : List (List ℕ)) (place : ℕ) → AreHashes leave
     → led_to most_levels (length leaves) place (get_or leaves place []) (path_of leaves place) ≡ Some (root_of leaves)
 unfolding most_levels root_of path_of
 leads_to_root leaves place all inside few =
-    leads_up 5 leaves place all inside ∙ ap (λ (k : ℕ). Some (get_or (raised 5 leaves) k [])) (halved_out place (omega arith))
+    leads_up 5 leaves place all inside ∙ ap (λ (k : ℕ). Some (get_or (raised 5 leaves) k []))
+    (halved_out place (omega arith))
 
 -- a path is some hashes, at most one a level
 pub path_size : (n : ℕ) (nodes : List (List ℕ)) (place : ℕ) → AreHashes nodes
@@ -164,7 +184,8 @@ path_size (suc n) nodes place all =
     elim (cases_lt (sibling place) (length nodes)) [
       | inl paired ↦
           let one = hash_at nodes (sibling place) all paired in
-          let both = ap length (ap (λ h. h ++ rest) (beside_paired nodes place paired)) ∙ length-append (get_or nodes (sibling place) []) rest in
+          let both = ap length (ap (λ h. h ++ rest) (beside_paired nodes place paired))
+          ∙ length-append (get_or nodes (sibling place) []) rest in
           (suc hashes, omega arith, omega arith)
       | inr alone ↦
           let both = ap length (ap (λ h. h ++ rest) (beside_alone nodes place alone)) in
@@ -172,9 +193,11 @@ path_size (suc n) nodes place all =
     ]
 
 -- a path through the kept levels is that of the tree
-pub path_through_levels : (n : ℕ) (nodes : List (List ℕ)) (place : ℕ) → path_through (levels_up n nodes) place ≡ path_up n nodes place
+pub path_through_levels : (n : ℕ) (nodes : List (List ℕ)) (place : ℕ) →
+    path_through (levels_up n nodes) place ≡ path_up n nodes place
 path_through_levels zero nodes place = refl
-path_through_levels (suc n) nodes place = ap (λ rest. beside nodes place ++ rest) (path_through_levels n (level_above nodes) (place / 2))
+path_through_levels (suc n) nodes place =
+    ap (λ rest. beside nodes place ++ rest) (path_through_levels n (level_above nodes) (place / 2))
 
 -- a level above some nodes has some
 above_some : (nodes : List (List ℕ)) → 1 ≤ length nodes → 1 ≤ length (level_above nodes)

@@ -1,5 +1,7 @@
 -- How faults are found part by part.
-use Rattle.std.proofs.Common.{◌≡◌, ◌≤◌, ◌<◌, ◌+◌, ◌-◌, ℕ, zero, suc, Bool, true, false, ◌&&◌, List, [], ◌∷◌, ◌++◌, length, take, drop, get_or, Option, Some, None, refl, sym, ap, ◌∙◌, subst, arith, nat_lt, ltb-true, inl, inr, if◌then◌else◌}
+use Rattle.std.proofs.Common.{◌≡◌, ◌≤◌, ◌<◌, ◌+◌, ◌-◌, ℕ, zero, suc, Bool, true, false, ◌&&◌, List, [], ◌∷◌, ◌++◌}
+use Rattle.std.proofs.Common.{length, take, drop, get_or, Option, Some, None, refl, sym, ap, ◌∙◌, subst, arith}
+use Rattle.std.proofs.Common.{nat_lt, ltb-true, inl, inr, if◌then◌else◌}
 use Rattle.std.specs.List.{list_all}
 use Rattle.std.proofs.lemmas.Bool.{and_from, and_parts, cases_Bool, cond-true, cond-false, true≢false}
 use Rattle.std.proofs.lemmas.List.{length-take-le}
@@ -15,10 +17,12 @@ use Rattle.history_rules.specs.Setup.{stands as history_stands}
 use Rattle.checked_frames.specs.declared.refusal.CheckRefusal.{CheckRefusal}
 use Rattle.checked_frames.specs.declared.refusal.CheckRefusal.TheVariants as refusal
 use Rattle.checked_frames.specs.Signing.{signs}
-use Rattle.checked_frames.specs.Standing.{Ring, actors, public_of, is_known, is_signed, part_stands, stands, part_fault, or_else, fault_from, first_fault, IsFault}
+use Rattle.checked_frames.specs.Standing.{Ring, actors, public_of, is_known, is_signed, part_stands, stands}
+use Rattle.checked_frames.specs.Standing.{part_fault, or_else, fault_from, first_fault, IsFault}
 
 -- a fault of a part is one of the whole, where it comes first
-pub IsFault-within : (e : CheckRefusal) (inner outer : Option CheckRefusal) → ((f : CheckRefusal) → inner ≡ Some f → outer ≡ Some f)
+pub IsFault-within : (e : CheckRefusal) (inner outer : Option CheckRefusal) →
+    ((f : CheckRefusal) → inner ≡ Some f → outer ≡ Some f)
     → IsFault e inner → IsFault e outer
 IsFault-within refusal.Want inner outer same h = tt
 IsFault-within (refusal.SignerUnknown signer) inner outer same h = same (refusal.SignerUnknown signer) h
@@ -54,20 +58,23 @@ both_none : (a b : Option CheckRefusal) → a ≡ None → b ≡ None → or_els
 both_none a b e f = ap (λ x. or_else x b) e ∙ f
 
 -- after one part more without a fault
-pub one_more_faultless : (ring : Ring) (frames : List (Signed Body)) (i part : ℕ) (frame : Signed Body) → part ≡ i + 1 → i < length frames
+pub one_more_faultless : (ring : Ring) (frames : List (Signed Body)) (i part : ℕ) (frame : Signed Body) →
+    part ≡ i + 1 → i < length frames
     → frame ≡ get_or frames i frame → fault_from ring 1 (take i frames) ≡ None → part_fault ring part frame ≡ None
     → fault_from ring 1 (take (i + 1) frames) ≡ None
 one_more_faultless ring frames i part frame number inside is before here =
     let len = length-take-le i frames (omega arith) in
     let place : 1 + length (take i frames) ≡ part = omega arith in
-    let last : or_else (part_fault ring part frame) None ≡ None = both_none (part_fault ring part frame) None here refl in
+    let last : or_else (part_fault ring part frame) None ≡ None =
+    both_none (part_fault ring part frame) None here refl in
     ap (fault_from ring 1) (around frames i frame inside is).0
     ∙ fault_from-append ring 1 (take i frames) (frame ∷ [])
     ∙ both_none (fault_from ring 1 (take i frames)) (fault_from ring (1 + length (take i frames)) (frame ∷ [])) before
     (ap (λ (k : ℕ). fault_from ring k (frame ∷ [])) place ∙ last)
 
 -- the fault of the first faulty part is that of all
-pub fault_is_first : (ring : Ring) (frames : List (Signed Body)) (i part : ℕ) (frame : Signed Body) → part ≡ i + 1 → i < length frames
+pub fault_is_first : (ring : Ring) (frames : List (Signed Body)) (i part : ℕ) (frame : Signed Body) →
+    part ≡ i + 1 → i < length frames
     → frame ≡ get_or frames i frame → fault_from ring 1 (take i frames) ≡ None
     → (f : CheckRefusal) → part_fault ring part frame ≡ Some f → fault_from ring 1 frames ≡ Some f
 fault_is_first ring frames i part frame number inside is before f here =
@@ -81,23 +88,27 @@ fault_is_first ring frames i part frame number inside is before f here =
     ∙ ap (λ x. or_else x (fault_from ring (suc part) rest)) here
 
 -- the frame itself is part 0
-pub fault_of_frame : (ring : Ring) (frame : Signed Body) (f : CheckRefusal) → part_fault ring 0 frame ≡ Some f → first_fault ring frame ≡ Some f
+pub fault_of_frame : (ring : Ring) (frame : Signed Body) (f : CheckRefusal) → part_fault ring 0 frame ≡ Some f →
+    first_fault ring frame ≡ Some f
 unfolding first_fault
 fault_of_frame ring frame f e = ap (λ x. or_else x (fault_from ring 1 (drop 1 (parts frame)))) e
 
-pub fault_inside : (ring : Ring) (frame : Signed Body) (inner : List (Signed Body)) → parts frame ≡ frame ∷ inner → part_fault ring 0 frame ≡ None
+pub fault_inside : (ring : Ring) (frame : Signed Body) (inner : List (Signed Body)) → parts frame ≡ frame ∷ inner →
+    part_fault ring 0 frame ≡ None
     → first_fault ring frame ≡ fault_from ring 1 inner
 unfolding first_fault
 fault_inside ring frame inner e none = ap (fault_from ring 0) e ∙ ap (λ x. or_else x (fault_from ring 1 inner)) none
 
 -- a part has no fault exactly where it passes the three tests
-part_none : (a b c : Bool) (x y z : CheckRefusal) → (if a then (if b then (if c then None else Some z) else Some y) else Some x) ≡ None → (a && b && c) ≡ true
+part_none : (a b c : Bool) (x y z : CheckRefusal) →
+    (if a then (if b then (if c then None else Some z) else Some y) else Some x) ≡ None → (a && b && c) ≡ true
 part_none true true true x y z e = refl
 part_none true true false x y z e = cc
 part_none true false c x y z e = cc
 part_none false b c x y z e = cc
 
-part_passes : (a b c : Bool) (x y z : CheckRefusal) → (a && b && c) ≡ true → (if a then (if b then (if c then None else Some z) else Some y) else Some x) ≡ None
+part_passes : (a b c : Bool) (x y z : CheckRefusal) → (a && b && c) ≡ true →
+    (if a then (if b then (if c then None else Some z) else Some y) else Some x) ≡ None
 part_passes true true true x y z e = refl
 part_passes true true false x y z e = cc
 part_passes true false c x y z e = cc
@@ -105,36 +116,45 @@ part_passes false b c x y z e = cc
 
 none_passes : (ring : Ring) (n : ℕ) (part : Signed Body) → part_fault ring n part ≡ None → part_stands ring part ≡ true
 unfolding part_fault
-none_passes ring n part e = part_none (is_known ring part) (is_signed ring part) (in_place ring.group part) (refusal.SignerUnknown part.signer) (refusal.Unsigned n) (refusal.Misplaced n) e
+none_passes ring n part e = part_none (is_known ring part) (is_signed ring part) (in_place ring.group part)
+    (refusal.SignerUnknown part.signer) (refusal.Unsigned n) (refusal.Misplaced n) e
 
 passes_none : (ring : Ring) (n : ℕ) (part : Signed Body) → part_stands ring part ≡ true → part_fault ring n part ≡ None
 unfolding part_fault
-passes_none ring n part e = part_passes (is_known ring part) (is_signed ring part) (in_place ring.group part) (refusal.SignerUnknown part.signer) (refusal.Unsigned n) (refusal.Misplaced n) e
+passes_none ring n part e = part_passes (is_known ring part) (is_signed ring part) (in_place ring.group part)
+    (refusal.SignerUnknown part.signer) (refusal.Unsigned n) (refusal.Misplaced n) e
 
 or_else-none : (a b : Option CheckRefusal) → or_else a b ≡ None → (a ≡ None) × (b ≡ None)
 or_else-none None b e = (refl, e)
 or_else-none (Some f) b e = absurd (let no : Some f ≡ None = e in cc)
 
-all_pass : (ring : Ring) (n : ℕ) (list : List (Signed Body)) → fault_from ring n list ≡ None → list_all (part_stands ring) list ≡ true
+all_pass : (ring : Ring) (n : ℕ) (list : List (Signed Body)) → fault_from ring n list ≡ None →
+    list_all (part_stands ring) list ≡ true
 all_pass ring n [] e = refl
 all_pass ring n (part ∷ rest) e =
     let both = or_else-none (part_fault ring n part) (fault_from ring (suc n) rest) e in
-    and_from (part_stands ring part) (list_all (part_stands ring) rest) (none_passes ring n part both.0) (all_pass ring (suc n) rest both.1)
+    and_from (part_stands ring part) (list_all (part_stands ring) rest) (none_passes ring n part both.0)
+    (all_pass ring (suc n) rest both.1)
 
-all_none : (ring : Ring) (n : ℕ) (list : List (Signed Body)) → list_all (part_stands ring) list ≡ true → fault_from ring n list ≡ None
+all_none : (ring : Ring) (n : ℕ) (list : List (Signed Body)) → list_all (part_stands ring) list ≡ true →
+    fault_from ring n list ≡ None
 all_none ring n [] e = refl
 all_none ring n (part ∷ rest) e =
     let both = and_parts (part_stands ring part) (list_all (part_stands ring) rest) e in
-    both_none (part_fault ring n part) (fault_from ring (suc n) rest) (passes_none ring n part both.0) (all_none ring (suc n) rest both.1)
+    both_none (part_fault ring n part) (fault_from ring (suc n) rest) (passes_none ring n part both.0)
+    (all_none ring (suc n) rest both.1)
 
 -- a spelled frame stands exactly where it has no fault
-pub faultless_stands : (ring : Ring) (frame : Signed Body) → has_spelling frame ≡ true → first_fault ring frame ≡ None → stands ring frame ≡ true
+pub faultless_stands : (ring : Ring) (frame : Signed Body) → has_spelling frame ≡ true →
+    first_fault ring frame ≡ None → stands ring frame ≡ true
 unfolding stands first_fault
-faultless_stands ring frame spelled e = and_from (has_spelling frame) (list_all (part_stands ring) (parts frame)) spelled (all_pass ring 0 (parts frame) e)
+faultless_stands ring frame spelled e = and_from (has_spelling frame) (list_all (part_stands ring) (parts frame))
+    spelled (all_pass ring 0 (parts frame) e)
 
 pub stands_faultless : (ring : Ring) (frame : Signed Body) → stands ring frame ≡ true → first_fault ring frame ≡ None
 unfolding stands first_fault
-stands_faultless ring frame e = all_none ring 0 (parts frame) (and_parts (has_spelling frame) (list_all (part_stands ring) (parts frame)) e).1
+stands_faultless ring frame e =
+    all_none ring 0 (parts frame) (and_parts (has_spelling frame) (list_all (part_stands ring) (parts frame)) e).1
 
 pub stands_spelled : (ring : Ring) (frame : Signed Body) → stands ring frame ≡ true → has_spelling frame ≡ true
 unfolding stands
@@ -145,16 +165,19 @@ same_test : (a x y z : Bool) → (a ≡ true → x ≡ y) → (a && x && z) ≡ 
 same_test true x y z same = ap (λ b. b && z) (same refl)
 same_test false x y z same = refl
 
-same_all : (p q : Signed Body → Bool) (list : List (Signed Body)) → ((f : Signed Body) → p f ≡ q f) → list_all p list ≡ list_all q list
+same_all : (p q : Signed Body → Bool) (list : List (Signed Body)) → ((f : Signed Body) → p f ≡ q f) →
+    list_all p list ≡ list_all q list
 same_all p q [] same = refl
 same_all p q (f ∷ rest) same = ap (λ b. b && list_all p rest) (same f) ∙ ap (λ b. q f && b) (same_all p q rest same)
 
 pub same_as_in_histories : (w : Setup) (ring : Ring) → w.group ≡ ring.group
-    → ((actor : ℕ) (text sig : List ℕ) → actor < actors ring.group → w.signs actor text sig ≡ signs (public_of ring actor) text sig)
+    → ((actor : ℕ) (text sig : List ℕ) → actor < actors ring.group →
+    w.signs actor text sig ≡ signs (public_of ring actor) text sig)
     → (frame : Signed Body) → history_stands w frame ≡ stands ring frame
 unfolding history_stands stands
 same_as_in_histories w ring group same frame =
-    let test : Group → Signed Body → Bool = λ g p. nat_lt p.signer (g.n + g.clients) && w.signs p.signer (body_text p.body) p.sig && in_place g p in
+    let test : Group → Signed Body → Bool = λ g p. nat_lt p.signer (g.n + g.clients)
+    && w.signs p.signer (body_text p.body) p.sig && in_place g p in
     let at : (p : Signed Body) → test ring.group p ≡ part_stands ring p = λ p.
     same_test (is_known ring p) (w.signs p.signer (body_text p.body) p.sig) (is_signed ring p) (in_place ring.group p)
     (λ known. same p.signer (body_text p.body) p.sig (ltb-true p.signer (actors ring.group) known)) in

@@ -1,5 +1,7 @@
 -- The test `verifies` is true exactly where the relation `Verifies` holds.
-use Rattle.std.proofs.Common.{◌≡◌, ◌≤◌, ◌<◌, ◌+◌, ◌-◌, ◌*◌, ◌/◌, ◌^◌, ℕ, zero, suc, Bool, true, false, ◌&&◌, List, ◌++◌, length, take, drop, refl, sym, ap, ◌∙◌, subst, arith, nat_eq, nat_lt, nat_le, le-leb}
+use Rattle.std.proofs.Common.{◌≡◌, ◌≤◌, ◌<◌, ◌+◌, ◌-◌, ◌*◌, ◌/◌, ◌^◌, ℕ, zero, suc, Bool, true, false, ◌&&◌, List}
+use Rattle.std.proofs.Common.{◌++◌, length, take, drop, refl, sym, ap, ◌∙◌, subst, arith, nat_eq, nat_lt, nat_le}
+use Rattle.std.proofs.Common.{le-leb}
 use Rattle.std.specs.Bool.{Decides}
 use Rattle.std.specs.Option.{option_map_or}
 use Rattle.std.specs.Str.{bytes_eq}
@@ -14,11 +16,12 @@ use Rattle.ots_keys.specs.Parameters.{type_code, signature_len}
 use Rattle.ots_keys.specs.Keys.{candidate}
 use Rattle.tree_keys.specs.declared.public_key.PublicKey.{PublicKey}
 use Rattle.tree_keys.specs.Nodes.{leaf_hash, climbed}
-use Rattle.tree_keys.specs.PublicKeys.{IsTreeHeight, IsKey, tree_signature_len, signature_bytes, IsSignedUnder, TreeVerifies}
+use Rattle.tree_keys.specs.PublicKeys.{IsTreeHeight, IsKey, tree_signature_len, signature_bytes, IsSignedUnder}
+use Rattle.tree_keys.specs.PublicKeys.{TreeVerifies}
 use Rattle.tree_keys.proofs.Heights.{height_le, leaves_le}
 use Rattle.tree_keys.proofs.KeyLaws.{signed_cuts}
 use Rattle.hash_signatures.specs.Verification.{LeadsThrough, Verifies}
-use Rattle.hash_signatures.proofs.LeadLaws.{tree_key_len, LeadCuts, lead_cuts, lead_of_cuts, lead_key}
+use Rattle.hash_signatures.proofs.LeadLaws.{LeadCuts, lead_cuts, lead_of_cuts, lead_key, leads_len}
 use Rattle.checked_frames.specs.Verifying.{key_in, fields_lead, signed_under, leads_through, verifies}
 use Rattle.checked_frames.proofs.KeyReads.{number_front, of_key-Decides}
 
@@ -32,7 +35,8 @@ pub record Fields (key : PublicKey) (message sig : List ℕ) (q : ℕ) (ots_sig 
   pub levels : length path ≡ 32 * key.height
   pub code : take 4 ots_sig ≡ u32_bytes (type_code key.ots)
   pub len : length ots_sig ≡ signature_len key.ots
-  pub root : climbed key.id path (2 ^ key.height + q) (leaf_hash key.id (2 ^ key.height + q) (candidate key.ots key.id q message ots_sig)) key.height ≡ key.root
+  pub root : climbed key.id path (2 ^ key.height + q)
+      (leaf_hash key.id (2 ^ key.height + q) (candidate key.ots key.id q message ots_sig)) key.height ≡ key.root
 
 fields-Decides : (key : PublicKey) (message sig : List ℕ) (q : ℕ) (ots_sig path : List ℕ)
     → Decides (fields_lead key message sig q ots_sig path) (Fields key message sig q ots_sig path)
@@ -44,13 +48,22 @@ fields-Decides key message sig q ots_sig path =
     let c = nat_eq (length path) (32 * key.height) in
     let d = bytes_eq (take 4 ots_sig) (u32_bytes (type_code key.ots)) in
     let e = nat_eq (length ots_sig) (signature_len key.ots) in
-    let two = Decides-and a b (bytes_eq-Decides sig (signature_bytes key.height q ots_sig path)) (Decides-ltb q (2 ^ key.height)) in
+    let two = Decides-and a b (bytes_eq-Decides sig (signature_bytes key.height q ots_sig path))
+    (Decides-ltb q (2 ^ key.height)) in
     let three = Decides-and (a && b) c two (Decides-eqb (length path) (32 * key.height)) in
     let four = Decides-and (a && b && c) d three (bytes_eq-Decides (take 4 ots_sig) (u32_bytes (type_code key.ots))) in
     let five = Decides-and (a && b && c && d) e four (Decides-eqb (length ots_sig) (signature_len key.ots)) in
     let six = Decides-and (a && b && c && d && e) (bytes_eq top key.root) five (bytes_eq-Decides top key.root) in
     Decides-like (fields_lead key message sig q ots_sig path)
-    (λ t. record { spelled = t.0.0.0.0.0; leaf = t.0.0.0.0.1; levels = t.0.0.0.1; code = t.0.0.1; len = t.0.1; root = t.1 })
+    (λ t. record {
+      spelled = t.0.0.0.0.0;
+      leaf = t.0.0.0.0.1;
+      levels = t.0.0.0.1;
+      code =
+          t.0.0.1;
+      len = t.0.1;
+      root = t.1;
+    })
     (λ f. (((((f.spelled, f.leaf), f.levels), f.code), f.len), f.root))
     six
 
@@ -65,7 +78,8 @@ signed_under-Decides key message sig height = (forward, backward)
 
     forward : signed_under key message sig ≡ true → IsSignedUnder key message sig
     forward t =
-        let f = (fields-Decides key message sig (big_number 4 sig) (take (signature_len key.ots) (drop 4 sig)) (drop 4 (drop (signature_len key.ots) (drop 4 sig)))).0 t in
+        let f = (fields-Decides key message sig (big_number 4 sig) (take (signature_len key.ots) (drop 4 sig))
+        (drop 4 (drop (signature_len key.ots) (drop 4 sig)))).0 t in
         record {
           q = big_number 4 sig;
           ots_sig = take (signature_len key.ots) (drop 4 sig);
@@ -83,20 +97,26 @@ signed_under-Decides key message sig height = (forward, backward)
         let leaf = s.leaf in
         let q : big_number 4 sig ≡ s.q = number_front sig s.q (omega arith) cuts.first in
         let fields : Fields key message sig s.q s.ots_sig s.path =
-        record { spelled = s.spelled; leaf = s.leaf; levels = s.levels; code = s.leads.form.code; len = s.leads.form.len; root = s.leads.root } in
-        ap (λ x. fields_lead key message sig x (take (signature_len key.ots) (drop 4 sig)) (drop 4 (drop (signature_len key.ots) (drop 4 sig)))) q
+        record {
+          spelled = s.spelled;
+          leaf = s.leaf;
+          levels = s.levels;
+          code = s.leads.form.code;
+          len =
+              s.leads.form.len;
+          root = s.leads.root;
+        } in
+        ap (λ x. fields_lead key message sig x (take (signature_len key.ots) (drop 4 sig))
+        (drop 4 (drop (signature_len key.ots) (drop 4 sig)))) q
         ∙ ap (λ x. fields_lead key message sig s.q x (drop 4 (drop (signature_len key.ots) (drop 4 sig)))) cuts.second
         ∙ ap (λ x. fields_lead key message sig s.q s.ots_sig x) cuts.fourth
         ∙ (fields-Decides key message sig s.q s.ots_sig s.path).1 fields
 
--- what leads on is a key of 56 bytes
-leads_len : (n : ℕ) (public message sig : List ℕ) → LeadsThrough n public message sig → length public ≡ 56
-leads_len zero public message sig h = tree_key_len public message sig h
-leads_len (suc n) public message sig (signed, next, rest, e, first, leads) = tree_key_len public next signed first
-
 cuts_of : (n : ℕ) (key : PublicKey) (message sig : List ℕ)
-    → IsSignedUnder key (take 56 (drop (tree_signature_len key.height key.ots) sig)) (take (tree_signature_len key.height key.ots) sig)
-    → LeadsThrough n (take 56 (drop (tree_signature_len key.height key.ots) sig)) message (drop 56 (drop (tree_signature_len key.height key.ots) sig))
+    → IsSignedUnder key (take 56 (drop (tree_signature_len key.height key.ots) sig))
+    (take (tree_signature_len key.height key.ots) sig)
+    → LeadsThrough n (take 56 (drop (tree_signature_len key.height key.ots) sig)) message
+    (drop 56 (drop (tree_signature_len key.height key.ots) sig))
     → LeadCuts n key message sig
 cuts_of n key message sig signed leads =
     let len = tree_signature_len key.height key.ots in
@@ -111,20 +131,25 @@ lead_tests : (n : ℕ) (public message sig : List ℕ)
     → Decides (leads_through (suc n) public message sig) (LeadsThrough (suc n) public message sig)
 lead_tests n public message sig below =
     let test : PublicKey → Bool = λ key.
-    signed_under key (take 56 (drop (tree_signature_len key.height key.ots) sig)) (take (tree_signature_len key.height key.ots) sig)
-    && leads_through n (take 56 (drop (tree_signature_len key.height key.ots) sig)) message (drop 56 (drop (tree_signature_len key.height key.ots) sig)) in
+    signed_under key (take 56 (drop (tree_signature_len key.height key.ots) sig))
+    (take (tree_signature_len key.height key.ots) sig)
+    && leads_through n (take 56 (drop (tree_signature_len key.height key.ots) sig)) message
+    (drop 56 (drop (tree_signature_len key.height key.ots) sig)) in
     let each : (key : PublicKey) → IsKey key public → Decides (test key) (LeadCuts n key message sig) = λ key is.
     let len = tree_signature_len key.height key.ots in
     let behind = drop len sig in
     Decides-like (test key) (λ both. cuts_of n key message sig both.0 both.1) (λ cuts. (cuts.signed, cuts.leads))
-    (Decides-and (signed_under key (take 56 behind) (take len sig)) (leads_through n (take 56 behind) message (drop 56 behind))
+    (Decides-and (signed_under key (take 56 behind) (take len sig))
+    (leads_through n (take 56 behind) message (drop 56 behind))
     (signed_under-Decides key (take 56 behind) (take len sig) is.height) (below (take 56 behind) (drop 56 behind))) in
     Decides-like (leads_through (suc n) public message sig)
     (λ (key, is, cuts). lead_of_cuts n key public message sig is cuts)
-    (λ leads. let (key, is) = lead_key n public message sig leads in (key, is, lead_cuts n key public message sig is leads))
+    (λ leads. let (key, is) = lead_key n public message sig leads in
+    (key, is, lead_cuts n key public message sig is leads))
     (of_key-Decides test (λ key. LeadCuts n key message sig) public each)
 
-leads_through-Decides : (n : ℕ) (public message sig : List ℕ) → Decides (leads_through n public message sig) (LeadsThrough n public message sig)
+leads_through-Decides : (n : ℕ) (public message sig : List ℕ) →
+    Decides (leads_through n public message sig) (LeadsThrough n public message sig)
 leads_through-Decides zero public message sig =
     of_key-Decides (λ key. signed_under key message sig) (λ key. IsSignedUnder key message sig) public
     (λ key is. signed_under-Decides key message sig is.height)
@@ -135,7 +160,8 @@ leads_through-Decides (suc n) public message sig =
 verified_levels : (public message sig : List ℕ) (v : Verifies public message sig) → big_number 4 public ≡ v.levels
 verified_levels public message sig v =
     let high = v.high in
-    number_front public v.levels (omega arith) (ap (take 4) v.public_bytes ∙ take_at (u32_bytes v.levels) v.key 4 (length-u32_bytes v.levels))
+    number_front public v.levels (omega arith)
+    (ap (take 4) v.public_bytes ∙ take_at (u32_bytes v.levels) v.key 4 (length-u32_bytes v.levels))
 
 -- the facts that the bytes are tested for
 record Whole (public message sig : List ℕ) (levels : ℕ) : Type 0 where
@@ -145,7 +171,8 @@ record Whole (public message sig : List ℕ) (levels : ℕ) : Type 0 where
   sig_bytes : sig ≡ u32_bytes (levels - 1) ++ drop 4 sig
   leads : LeadsThrough (levels - 1) (drop 4 public) message (drop 4 sig)
 
-whole-Decides : (public message sig : List ℕ) → Decides (verifies public message sig) (Whole public message sig (big_number 4 public))
+whole-Decides : (public message sig : List ℕ) →
+    Decides (verifies public message sig) (Whole public message sig (big_number 4 public))
 unfolding verifies
 whole-Decides public message sig =
     let levels = big_number 4 public in
@@ -157,13 +184,15 @@ whole-Decides public message sig =
     let two = Decides-and a b (Decides-leb 1 levels) (Decides-leb levels 8) in
     let three = Decides-and (a && b) c two (bytes_eq-Decides public (u32_bytes levels ++ drop 4 public)) in
     let four = Decides-and (a && b && c) d three (bytes_eq-Decides sig (u32_bytes (levels - 1) ++ drop 4 sig)) in
-    let five = Decides-and (a && b && c && d) e four (leads_through-Decides (levels - 1) (drop 4 public) message (drop 4 sig)) in
+    let five = Decides-and (a && b && c && d) e four
+    (leads_through-Decides (levels - 1) (drop 4 public) message (drop 4 sig)) in
     Decides-like (a && b && c && d && e)
     (λ t. record { low = t.0.0.0.0; high = t.0.0.0.1; public_bytes = t.0.0.1; sig_bytes = t.0.1; leads = t.1 })
     (λ w. ((((w.low, w.high), w.public_bytes), w.sig_bytes), w.leads))
     five
 
-whole_verifies : (public message sig : List ℕ) (levels : ℕ) → Whole public message sig levels → Verifies public message sig
+whole_verifies : (public message sig : List ℕ) (levels : ℕ) → Whole public message sig levels →
+    Verifies public message sig
 whole_verifies public message sig levels w = record {
   levels = levels;
   key = drop 4 public;
@@ -178,8 +207,10 @@ whole_verifies public message sig levels w = record {
 verifies_whole : (public message sig : List ℕ) → (v : Verifies public message sig) → Whole public message sig v.levels
 verifies_whole public message sig v =
     let key = ap (drop 4) v.public_bytes ∙ drop_at (u32_bytes v.levels) v.key 4 (length-u32_bytes v.levels) in
-    let rest = ap (drop 4) v.sig_bytes ∙ drop_at (u32_bytes (v.levels - 1)) v.rest 4 (length-u32_bytes (v.levels - 1)) in
-    let at_key : LeadsThrough (v.levels - 1) (drop 4 public) message v.rest = subst (λ x. LeadsThrough (v.levels - 1) x message v.rest) (sym key) v.leads in
+    let rest = ap (drop 4) v.sig_bytes ∙ drop_at (u32_bytes (v.levels - 1)) v.rest 4
+    (length-u32_bytes (v.levels - 1)) in
+    let at_key : LeadsThrough (v.levels - 1) (drop 4 public) message v.rest =
+    subst (λ x. LeadsThrough (v.levels - 1) x message v.rest) (sym key) v.leads in
     record {
       low = v.low;
       high = v.high;
@@ -188,13 +219,17 @@ verifies_whole public message sig v =
       leads = subst (λ x. LeadsThrough (v.levels - 1) (drop 4 public) message x) (sym rest) at_key;
     }
 
-pub verifies-Decides : (public message sig : List ℕ) → Decides (verifies public message sig) (Verifies public message sig)
+pub verifies-Decides : (public message sig : List ℕ) →
+    Decides (verifies public message sig) (Verifies public message sig)
 verifies-Decides public message sig =
     Decides-like (verifies public message sig)
     (λ w. whole_verifies public message sig (big_number 4 public) w)
-    (λ v. subst (Whole public message sig) (sym (verified_levels public message sig v)) (verifies_whole public message sig v))
+    (λ v. subst (Whole public message sig) (sym (verified_levels public message sig v))
+    (verifies_whole public message sig v))
     (whole-Decides public message sig)
 
 -- an answer that is true exactly where the relation holds is the test
-pub verifies_answer : (public message sig : List ℕ) (r : Bool) → Decides r (Verifies public message sig) → r ≡ verifies public message sig
-verifies_answer public message sig r h = same_from_decides r (verifies public message sig) h (verifies-Decides public message sig)
+pub verifies_answer : (public message sig : List ℕ) (r : Bool) → Decides r (Verifies public message sig) →
+    r ≡ verifies public message sig
+verifies_answer public message sig r h = same_from_decides r (verifies public message sig) h
+    (verifies-Decides public message sig)

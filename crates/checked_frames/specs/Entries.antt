@@ -1,14 +1,15 @@
--- The signatures of all bodies of an entry. Their texts are cut in order into groups, the last one shorter, and each group
--- is signed with the next leaf of the key (this project's own).
+-- The signatures of all bodies of an entry. Their texts are cut in order into groups, the last one shorter, and each
+-- group is signed with the next leaf of the key (this project's own).
 use Rattle.std.specs.Prelude.{ℕ, ◌+◌, ◌-◌, ◌*◌, ◌/◌, Bool, if◌then◌else◌, List, length, take, drop}
 use Rattle.std.specs.List.{flat_map}
 use Rattle.quorum_sets.specs.Masters.{numbers_below}
 use Rattle.hash_signatures.specs.Signatures.{Key}
+use Rattle.history_rules.specs.declared.limits.TheConstants.{MOST_SHARING}
 use Rattle.checked_frames.specs.Signing.{group_signatures}
 
 -- so many bodies make a whole group
 abbrev pub group_size : Bool → ℕ
-group_size shared = if shared then 32 else 1
+group_size shared = if shared then MOST_SHARING else 1
 
 -- how many groups so many bodies make
 abbrev pub groups_for : ℕ → ℕ → ℕ

@@ -1,7 +1,8 @@
 -- The tree of hashes over a group of bodies (this project's own, after Merkle). Each leaf is the hash of a body's text.
 -- Level by level neighbours are joined, and an odd last one goes up as it is, until one is left: the root. Leaves and
 -- joined hashes begin with different bytes, so none is taken for the other.
-use Rattle.std.specs.Prelude.{ℕ, zero, suc, ◌==◌, ◌+◌, ◌-◌, ◌/◌, ◌%◌, if◌then◌else◌, List, [], ◌∷◌, ◌++◌, length, take, drop, Option, Some, None, nat_lt, nat_le}
+use Rattle.std.specs.Prelude.{ℕ, zero, suc, ◌==◌, ◌+◌, ◌-◌, ◌/◌, ◌%◌, if◌then◌else◌, List, [], ◌∷◌, ◌++◌, length}
+use Rattle.std.specs.Prelude.{take, drop, Option, Some, None, nat_lt, nat_le}
 use Rattle.std.specs.List.{slice_index_or}
 use Rattle.wire_parts.specs.Fields.{u8_bytes}
 use Rattle.sha2.specs.Sha256.{sha256}
@@ -23,7 +24,7 @@ abbrev pub raised : ℕ → List (List ℕ) → List (List ℕ)
 raised zero nodes = nodes
 raised (suc n) nodes = raised n (level_above nodes)
 
--- five levels join up to 32 leaves
+-- five levels join as many leaves as may share a signature
 unfoldable pub most_levels : ℕ
 most_levels = 5
 
@@ -48,7 +49,8 @@ path_of leaves place = path_up most_levels leaves place
 
 -- the parent of a node and its sibling
 abbrev pub parent_hash : ℕ → List ℕ → List ℕ → List ℕ
-parent_hash place here sibling_hash = if place % 2 == 1 then joined_hash sibling_hash here else joined_hash here sibling_hash
+parent_hash place here sibling_hash =
+    if place % 2 == 1 then joined_hash sibling_hash here else joined_hash here sibling_hash
 
 -- where a path leads from a node at a place among so many: each level that has a sibling takes the next 32 bytes; none
 -- where the path ends too soon or too late

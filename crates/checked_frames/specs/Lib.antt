@@ -3,5 +3,5 @@ pub mod Groups
 pub mod Levels
 pub mod Signing
 pub mod Entries
-pub mod Kept
+pub mod Heads
 pub mod Standing

@@ -1,6 +1,8 @@
 -- HSS verification as a test (RFC 8554, sections 5.4 and 6.3): the fields are read at their lengths, and what was
--- read has to spell the bytes. `hash_signatures` says the same as a relation; that the two agree is a law of this crate.
-use Rattle.std.specs.Prelude.{ℕ, zero, suc, ◌+◌, ◌-◌, ◌*◌, ◌^◌, Bool, false, ◌&&◌, if◌then◌else◌, List, [], ◌∷◌, ◌++◌, length, take, drop, Option, Some, None, option_and_then, nat_eq, nat_le, nat_lt}
+-- read has to spell the bytes. `hash_signatures` says the same as a relation; that the two agree is a law of this
+-- crate.
+use Rattle.std.specs.Prelude.{ℕ, zero, suc, ◌+◌, ◌-◌, ◌*◌, ◌^◌, Bool, false, ◌&&◌, if◌then◌else◌, List, [], ◌∷◌, ◌++◌}
+use Rattle.std.specs.Prelude.{length, take, drop, Option, Some, None, option_and_then, nat_eq, nat_le, nat_lt}
 use Rattle.std.specs.List.{list_any}
 use Rattle.std.specs.Option.{option_map_or}
 use Rattle.std.specs.Str.{bytes_eq}
@@ -34,7 +36,12 @@ is_key key bytes =
 
 -- the key with the fields that stand in these bytes
 abbrev pub key_read : List ℕ → Ots → PublicKey
-key_read bytes ots = record { height = height_of (big_number 4 bytes); ots = ots; id = take 16 (drop 8 bytes); root = drop 24 bytes }
+key_read bytes ots = record {
+  height = height_of (big_number 4 bytes);
+  ots = ots;
+  id = take 16 (drop 8 bytes);
+  root = drop 24 bytes;
+}
 
 -- the LMS public key that these bytes are, if they are one
 unfoldable pub key_in : List ℕ → Option PublicKey
@@ -50,7 +57,8 @@ fields_lead key message sig q ots_sig path =
     bytes_eq sig (signature_bytes key.height q ots_sig path)
     && nat_lt q (2 ^ key.height) && nat_eq (length path) (32 * key.height)
     && bytes_eq (take 4 ots_sig) (u32_bytes (type_code key.ots)) && nat_eq (length ots_sig) (signature_len key.ots)
-    && bytes_eq (climbed key.id path r (leaf_hash key.id r (candidate key.ots key.id q message ots_sig)) key.height) key.root
+    && bytes_eq (climbed key.id path r (leaf_hash key.id r (candidate key.ots key.id q message ots_sig)) key.height)
+    key.root
 
 -- the same of the fields that stand in the signature
 unfoldable pub signed_under : PublicKey → List ℕ → List ℕ → Bool

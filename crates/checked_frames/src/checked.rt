@@ -6,10 +6,9 @@ ghost use Rattle.checked_frames.specs.Standing.{part_fault, fault_from, first_fa
 
 use crate::key_ring::KeyRing;
 use crate::refusal::CheckRefusal;
-use crate::signing::signs;
-use frame_parts::{parts_of, put_inside};
+use crate::ring_memory::RingMemory;
 use message_forms::text_of;
-use message_types::{Body, Frame, Signed};
+use message_types::{Body, Frame, Signed, parts_of, put_inside};
 use plain_lists::{Copied, Want};
 use std::alloc::Global;
 use std::marker::Model;
@@ -71,7 +70,13 @@ impl Copied for Checked {
 
 // The three tests of the part of this number.
 #[tactic(auto, unfolding(crate::specs::Standing::part_fault))]
-fn check_part(alloc: Global, ring: &KeyRing, part: u32, frame: &Frame) -> Result<(), CheckRefusal>
+fn check_part(
+    alloc: Global,
+    ring: &KeyRing,
+    memory: &mut RingMemory,
+    part: u32,
+    frame: &Frame,
+) -> Result<(), CheckRefusal>
     requires { IsTrue (body_fits frame.now.body) }
     ensures none { IsOk result → part_fault ring.now part frame.now ≡ None }
     ensures fault { IfErr result (λ refusal. IsFault refusal (part_fault ring.now part frame.now)) }
@@ -81,7 +86,7 @@ fn check_part(alloc: Global, ring: &KeyRing, part: u32, frame: &Frame) -> Result
         return Err(CheckRefusal::SignerUnknown { signer });
     }
     let text = text_of(alloc, &frame.body)?;
-    if !signs(ring.public(signer), &text, frame.sig.as_slice()) {
+    if !memory.signs(signer, ring.public(signer), &text, frame.sig.as_slice()) {
         return Err(CheckRefusal::Unsigned { part });
     }
     if !ring.is_in_place(frame) {
@@ -91,7 +96,12 @@ fn check_part(alloc: Global, ring: &KeyRing, part: u32, frame: &Frame) -> Result
 }
 
 // The tests of these parts in order, the first of which is part 1.
-fn check_inner(alloc: Global, ring: &KeyRing, frames: &[Frame]) -> Result<(), CheckRefusal>
+fn check_inner(
+    alloc: Global,
+    ring: &KeyRing,
+    memory: &mut RingMemory,
+    frames: &[Frame],
+) -> Result<(), CheckRefusal>
     requires spelled { IsTrue (list_all (λ f. body_fits f.body) frames.now) }
     requires few { length frames.now < 2 ^ 16 }
     ensures none { IsOk result → fault_from ring.now 1 frames.now ≡ None }
@@ -99,7 +109,7 @@ fn check_inner(alloc: Global, ring: &KeyRing, frames: &[Frame]) -> Result<(), Ch
 {
     let mut part = 1;
     for frame in frames {
-        check_part(alloc, ring, part, frame)?;
+        check_part(alloc, ring, memory, part, frame)?;
         part += 1;
     }
     Ok(())
@@ -114,10 +124,27 @@ pub fn check(alloc: Global, ring: &KeyRing, frame: Frame) -> Result<Checked, Che
     // Each refusal is the first fault, unless memory runs out.
     ensures fault { IfErr result (λ refusal. IsFault refusal (first_fault ring.now frame)) }
 {
-    check_part(alloc, ring, 0, &frame)?;
+    let mut memory = RingMemory::none(alloc);
+    check_with(alloc, ring, &mut memory, frame)
+}
+
+/// As `check`, whatever is known, and remembers the signed keys that verified.
+pub fn check_with(
+    alloc: Global,
+    ring: &KeyRing,
+    memory: &mut RingMemory,
+    frame: Frame,
+) -> Result<Checked, CheckRefusal>
+    requires { IsTrue (has_spelling frame) }
+    ensures frame { IfOk result (λ checked. checked ≡ frame) }
+    ensures stands { IsOk result → IsTrue (stands ring.now frame) }
+    // Each refusal is the first fault, unless memory runs out.
+    ensures fault { IfErr result (λ refusal. IsFault refusal (first_fault ring.now frame)) }
+{
+    check_part(alloc, ring, memory, 0, &frame)?;
     let mut inner = Vec::new(alloc);
     put_inside(&mut inner, &frame.body)?;
-    check_inner(alloc, ring, &inner)?;
+    check_inner(alloc, ring, memory, &inner)?;
     Ok(Checked::from_standing(alloc, frame)?)
 }
 

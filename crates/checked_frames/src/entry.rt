@@ -1,4 +1,4 @@
-ghost use Rattle.std.specs.Prelude.{◌≡◌, ◌↔◌, ◌+◌, ◌*◌, ◌/◌, ◌<◌, ◌≤◌, drop, length, map, take, IsTrue, IfOk, OnOk, OnErr, IsErrOf};
+ghost use Rattle.std.specs.Prelude.{◌≡◌, ◌↔◌, ◌+◌, ◌-◌, ◌*◌, ◌/◌, ◌<◌, ◌≤◌, drop, length, map, take, IsTrue, IfOk, OnOk, OnErr, IsErrOf};
 ghost use Rattle.std.specs.List.{list_all};
 ghost use Rattle.message_types.specs.Texts.{body_text};
 ghost use Rattle.message_types.specs.Spelling.{body_fits};
@@ -8,24 +8,28 @@ ghost use Rattle.checked_frames.specs.Entries.{group_size, groups_for, entry_sig
 
 use crate::signing::sign_group;
 use hash_signatures::{KeyState, SignAnswer};
+use history_rules::MOST_SHARING;
 use message_types::Body;
 use plain_lists::{Bytes, Want};
 use std::alloc::Global;
+
+// A whole group, where bodies share a leaf.
+const WHOLE_GROUP: usize = MOST_SHARING as usize;
 
 // So many bodies make a whole group.
 fn group_size(shared: bool) -> usize
     ensures { result ≡ group_size shared }
 {
-    if shared { 32 } else { 1 }
+    if shared { WHOLE_GROUP } else { 1 }
 }
 
 fn shared_groups(count: usize) -> usize
-    ensures { result ≡ (count + 31) / 32 }
+    ensures { result ≡ (count + (WHOLE_GROUP - 1)) / WHOLE_GROUP }
 {
-    if count % 32 == 0 {
-        count / 32
+    if count % WHOLE_GROUP == 0 {
+        count / WHOLE_GROUP
     } else {
-        count / 32 + 1
+        count / WHOLE_GROUP + 1
     }
 }
 
@@ -54,7 +58,7 @@ fn group_of(bodies: &[Body], shared: bool, number: usize) -> &[Body]
 // The signatures of a group, where a leaf is left for it.
 fn sign_left(alloc: Global, key: &mut KeyState, bodies: &[Body]) -> Result<Vec<Bytes>, Want>
     requires some { 1 ≤ length bodies.now }
-    requires few { length bodies.now ≤ 32 }
+    requires few { length bodies.now ≤ MOST_SHARING }
     requires spelled { IsTrue (list_all body_fits bodies.now) }
     requires left { key.old.used < all_leaves key.old.key }
     ensures signatures { IfOk result (λ fields. fields.items ≡ group_signatures key.old.key key.old.used (map body_text bodies.now)) }
@@ -100,8 +104,8 @@ fn sign_groups(
     Ok(fields)
 }
 
-/// The signatures of all bodies of an entry, in their order: the bodies are cut into groups, of 32 where leaves are shared,
-/// else of one, the last one shorter, and each group is signed with the next leaf. Where too few leaves are left nothing is
+/// The signatures of all bodies of an entry, in their order: the bodies are cut into groups, of `MOST_SHARING` where leaves are
+/// shared, else of one, the last one shorter, and each group is signed with the next leaf. Where too few leaves are left nothing is
 /// signed. After want of memory nothing was given away; leaves may be used then, though no more than the groups are.
 pub fn sign_entry(
     alloc: Global,

@@ -66,6 +66,13 @@ impl KeyRing {
         &self.publics[actor as usize]
     }
 
+    /// How many actors there are.
+    pub(crate) fn actors(&self) -> usize
+        ensures { result ≡ length self.now.publics }
+    {
+        self.publics.len()
+    }
+
     /// Whether there is an actor of this number.
     pub(crate) fn has(&self, actor: u32) -> bool
         ensures { result ≡ nat_lt actor (actors self.now.group) }

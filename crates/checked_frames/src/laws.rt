@@ -13,17 +13,19 @@ ghost use Rattle.checked_frames.specs.Signing.{signs, signed_message, field_at, 
 ghost use Rattle.checked_frames.specs.Entries.{group_size, group_at, entry_signatures};
 ghost use Rattle.checked_frames.specs.Standing.{Ring, actors, public_of, stands, first_fault};
 
+use history_rules::MOST_SHARING;
+
 /// The test of HSS signatures that the definitions here name is true exactly where the relation of RFC 8554, section
 /// 6.3, holds.
 pub fn test_of_signatures()
     ensures { (public message sig : List ℕ) → IsTrue (verifies public message sig) ↔ Verifies public message sig }
 {}
 
-/// Whatever signs the message of 1 to 32 texts, the field made of it for each of them signs that text: each path leads
-/// to the root.
+/// Whatever signs the message of 1 to `MOST_SHARING` texts, the field made of it for each of them signs that text: each path
+/// leads to the root.
 pub fn groups_sign()
     ensures { (public : List ℕ) (texts : List (List ℕ)) (signed : List ℕ) (place : ℕ)
-        → length texts ≤ 32 → place < length texts → Verifies public (signed_message texts) signed
+        → length texts ≤ MOST_SHARING → place < length texts → Verifies public (signed_message texts) signed
         → IsTrue (signs public (slice_index_or texts place []) (field_at texts signed place)) }
 {}
 

@@ -7,29 +7,13 @@ ghost use Rattle.message_types.specs.declared.body.Body.{Body};
 ghost use Rattle.protocol_rules.specs.Group.{group_of, most_number, most_view, mark_step};
 ghost use Rattle.protocol_rules.specs.Places.{is_number, is_view, is_row, are_rows, certificate_in_place, report_in_place, give_in_place, word_in_place, in_place, in_32_bits, in_64_bits, in_signed_64_bits, op_in_place};
 
-use message_digests::{rows_digest, update_digest};
 use message_types::{
     Body, Certificate, Commit, Frame, Give, GiveOrdered, Mark, NewView, Op, PoAck, PoSummary,
-    PrePrepare, Prepare, Report, Rows, Signed, Update,
+    PrePrepare, Prepare, Report, Rows, Signed, Update, rows_digest, update_digest,
 };
 use plain_lists::Vector;
+use protocol_rules::{MARK_STEP, MOST_BOUND, MOST_NUMBER, MOST_TICKS, MOST_VIEW, WINDOW};
 use quorum_sets::Sizes;
-
-// The greatest pre-order and global number.
-const MOST_NUMBER: u64 = 4096;
-
-const MOST_VIEW: u64 = 255;
-
-// How far above the stable number a number is offered.
-const WINDOW: u64 = 16;
-
-// Marks are said for each number that is a multiple of this.
-const MARK_STEP: u64 = 8;
-
-// The ticks of a round trip or a turnaround, and of a bound, are at most these.
-const MOST_TICKS: u64 = 4_294_967_296;
-
-const MOST_BOUND: u64 = 8_589_934_596;
 
 #[tactic(auto, unfolding(protocol_rules::specs::Group::most_number))]
 fn is_number(x: u64) -> bool
@@ -125,7 +109,7 @@ fn is_shown(sizes: &Sizes, certificate: &Certificate) -> bool
 
 #[tactic(auto, unfolding(protocol_rules::specs::Group::most_number, protocol_rules::specs::Group::window))]
 fn certificate_in_place(sizes: &Sizes, base: u64, v: u64, certificate: &Certificate) -> bool
-    requires { base ≤ 4096 }
+    requires { base ≤ MOST_NUMBER }
     ensures { result ≡ certificate_in_place (group_of sizes.now 0) base v certificate.now }
 {
     base < certificate.s
@@ -137,7 +121,7 @@ fn certificate_in_place(sizes: &Sizes, base: u64, v: u64, certificate: &Certific
 }
 
 fn certificates_in_place(sizes: &Sizes, base: u64, v: u64, certificates: &[Certificate]) -> bool
-    requires { base ≤ 4096 }
+    requires { base ≤ MOST_NUMBER }
     ensures { result ≡ list_all (certificate_in_place (group_of sizes.now 0) base v) certificates.now }
 {
     certificates.iter().all(|certificate| certificate_in_place(sizes, base, v, certificate))
@@ -146,7 +130,7 @@ fn certificates_in_place(sizes: &Sizes, base: u64, v: u64, certificates: &[Certi
 // Whether the base is a number that marks are said for, and is shown by the marks of a quorum, or is 0 and shown by none.
 #[tactic(auto, unfolding(protocol_rules::specs::Group::most_number, protocol_rules::specs::Group::mark_step))]
 fn base_in_place(sizes: &Sizes, report: &Report) -> bool
-    ensures small { IsTrue result → report.now.base ≤ 4096 }
+    ensures small { IsTrue result → report.now.base ≤ MOST_NUMBER }
     ensures place { result ≡ (nat_eq (report.now.base % mark_step) 0 && nat_le report.now.base most_number
         && nat_eq (length report.now.marks) (if nat_eq report.now.base 0 then 0 else sizes.now.q)
         && list_all (λ m. nat_eq m.body.s report.now.base) report.now.marks) }

@@ -11,11 +11,12 @@ ghost use Rattle.checked_frames.specs.Verifying.{verifies};
 ghost use Rattle.checked_frames.specs.Groups.{leaf_hash, root_of, path_of};
 ghost use Rattle.checked_frames.specs.Levels.{levels_up};
 ghost use Rattle.checked_frames.specs.Signing.{hashes_in, group_verifies, signs_in_group, signs, signed_message, group_signatures, EachSigns, field_fits};
-ghost use Rattle.checked_frames.specs.Kept.{head_through};
+ghost use Rattle.checked_frames.specs.Heads.{head_through};
 
 use crate::groups::{leaf_hash, led_to, put_levels, put_path};
 use byteorder::{BigEndian, ByteOrder};
-use hash_signatures::{KeyState, SignAnswer, verify};
+use hash_signatures::{Anew, KeyCheck, KeyState, SignAnswer, verify_by};
+use history_rules::MOST_SHARING;
 use message_forms::{batch_text, text_of};
 use message_types::Body;
 use plain_lists::{Bytes, Items, Want};
@@ -25,23 +26,35 @@ use wire_parts::{put_bytes, put_u16, put_u32};
 // What the second version of a signature begins with.
 const GROUP_MARK: u32 = 256;
 
-// Five levels join up to 32 leaves.
+// Five levels join as many leaves as may share a signature.
 const MOST_LEVELS: u32 = 5;
 
 /// Whether the bytes sign the text under a public key: as an HSS signature of the text, or as the field of a body in a
 /// group. It takes no memory.
-#[tactic(auto, unfolding(crate::specs::Signing::signs))]
 pub fn signs(public: &[u8; 60], text: &[u8], sig: &[u8]) -> bool
     ensures { result ≡ signs public.now text.now sig.now }
 {
-    hss_verifies(public, text, sig) || signs_in_group(public, text, sig)
+    signs_by(&mut Anew, public, text, sig)
 }
 
-// `verify` as the test that the definitions name.
-fn hss_verifies(public: &[u8; 60], text: &[u8], sig: &[u8]) -> bool
+// As `signs`, with the signed keys verified by `check`.
+#[tactic(auto, unfolding(crate::specs::Signing::signs))]
+pub(crate) fn signs_by<C: KeyCheck>(
+    check: &mut C,
+    public: &[u8; 60],
+    text: &[u8],
+    sig: &[u8],
+) -> bool
+    ensures { result ≡ signs public.now text.now sig.now }
+{
+    hss_verifies(check, public, text, sig) || signs_in_group(check, public, text, sig)
+}
+
+// `verify_by` as the test that the definitions name.
+fn hss_verifies<C: KeyCheck>(check: &mut C, public: &[u8; 60], text: &[u8], sig: &[u8]) -> bool
     ensures { result ≡ verifies public.now text.now sig.now }
 {
-    verify(public, text, sig)
+    verify_by(check, public, text, sig)
 }
 
 // The number of 16 bits that stands there.
@@ -55,7 +68,7 @@ fn number_at(sig: &[u8], at: usize) -> u16
 
 // Whether the bytes have the form of the second version and sign the text.
 #[tactic(auto, unfolding(crate::specs::Signing::signs_in_group))]
-fn signs_in_group(public: &[u8; 60], text: &[u8], sig: &[u8]) -> bool
+fn signs_in_group<C: KeyCheck>(check: &mut C, public: &[u8; 60], text: &[u8], sig: &[u8]) -> bool
     ensures { result ≡ signs_in_group public.now text.now sig.now }
 {
     if sig.len() < 10 || BigEndian::read_u32(sig) != GROUP_MARK {
@@ -64,18 +77,18 @@ fn signs_in_group(public: &[u8; 60], text: &[u8], sig: &[u8]) -> bool
     let place = number_at(sig, 4);
     let count = number_at(sig, 6);
     let hashes = number_at(sig, 8);
-    if count < 2 || count > 32 || place >= count {
+    if count < 2 || count > MOST_SHARING || place >= count {
         return false;
     }
     if sig.len() < 10 + 32 * hashes as usize {
         return false;
     }
-    group_verifies(public, text, sig)
+    group_verifies(check, public, text, sig)
 }
 
 // Whether the HSS signature at the end signs the message of the group whose root the path leads to.
 #[tactic(auto, unfolding(crate::specs::Groups::most_levels))]
-fn group_verifies(public: &[u8; 60], text: &[u8], sig: &[u8]) -> bool
+fn group_verifies<C: KeyCheck>(check: &mut C, public: &[u8; 60], text: &[u8], sig: &[u8]) -> bool
     requires head { 10 ≤ length sig.now }
     requires path { 10 + 32 * hashes_in sig.now ≤ length sig.now }
     ensures { result ≡ group_verifies public.now text.now sig.now }
@@ -93,7 +106,7 @@ fn group_verifies(public: &[u8; 60], text: &[u8], sig: &[u8]) -> bool
         path,
     ) {
         None => false,
-        Some(root) => hss_verifies(public, &batch_text(count, &root), signed),
+        Some(root) => hss_verifies(check, public, &batch_text(count, &root), signed),
     }
 }
 
@@ -170,7 +183,7 @@ fn sign_several(
     bodies: &[Body],
 ) -> Result<Vec<Bytes>, SignAnswer>
     requires some { 2 ≤ length bodies.now }
-    requires few { length bodies.now ≤ 32 }
+    requires few { length bodies.now ≤ MOST_SHARING }
     requires spelled { IsTrue (list_all body_fits bodies.now) }
     ensures fields { IfOk result (λ fields. fields.items ≡ group_signatures key.old.key key.old.used (map body_text bodies.now)) }
     ensures verified { OnOk result (Verifies (key_public key.old.key) (signed_message (map body_text bodies.now))
@@ -218,7 +231,7 @@ fn sign_one(alloc: Global, key: &mut KeyState, bodies: &[Body]) -> Result<Vec<By
 // The fields of bodies, from the key's next signature.
 fn sign_some(alloc: Global, key: &mut KeyState, bodies: &[Body]) -> Result<Vec<Bytes>, SignAnswer>
     requires some { 1 ≤ length bodies.now }
-    requires few { length bodies.now ≤ 32 }
+    requires few { length bodies.now ≤ MOST_SHARING }
     requires spelled { IsTrue (list_all body_fits bodies.now) }
     ensures fields { IfOk result (λ fields. fields.items ≡ group_signatures key.old.key key.old.used (map body_text bodies.now)) }
     ensures verified { OnOk result (Verifies (key_public key.old.key) (signed_message (map body_text bodies.now))
@@ -234,7 +247,7 @@ fn sign_some(alloc: Global, key: &mut KeyState, bodies: &[Body]) -> Result<Vec<B
     sign_several(alloc, key, bodies)
 }
 
-/// The signatures of 1 to 32 bodies, in their order, with the next leaf of the key: one leaf for all of them. After an
+/// The signatures of 1 to `MOST_SHARING` bodies, in their order, with the next leaf of the key: one leaf for all of them. After an
 /// error nothing was given away and the same leaf is next.
 pub fn sign_group(
     alloc: Global,
@@ -242,7 +255,7 @@ pub fn sign_group(
     bodies: &[Body],
 ) -> Result<Vec<Bytes>, SignAnswer>
     requires some { 1 ≤ length bodies.now }
-    requires few { length bodies.now ≤ 32 }
+    requires few { length bodies.now ≤ MOST_SHARING }
     requires spelled { IsTrue (list_all body_fits bodies.now) }
     ensures signatures { IfOk result (λ fields. fields.items
         ≡ group_signatures key.old.key key.old.used (map body_text bodies.now)) }

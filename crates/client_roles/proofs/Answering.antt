@@ -37,7 +37,8 @@ no_frame : votes_in [] ≡ []
 unfolding votes_in
 no_frame = refl
 
-quiet : (s : Desk) (event : Event) → ((stamp place : ℕ) (frame : Signed Body) → event ≡ kept.Took stamp place frame → ⊥) → s ≡ desk_at s (event_of event) []
+quiet : (s : Desk) (event : Event) → ((stamp place : ℕ) (frame : Signed Body) → event ≡ kept.Took stamp place frame →
+    ⊥) → s ≡ desk_at s (event_of event) []
 quiet s (kept.Took stamp place frame) none = absurd (none stamp place frame refl)
 quiet s kept.Tick none = same_desk s 0 (votes_in []) refl no_frame
 quiet s (kept.Command op) none = same_desk s 0 (votes_in []) refl no_frame
@@ -47,18 +48,23 @@ quiet s (kept.Cry bytes) none = same_desk s 0 (votes_in []) refl no_frame
 quiet s kept.Skip none = same_desk s 0 (votes_in []) refl no_frame
 quiet s kept.Restart none = same_desk s 0 (votes_in []) refl no_frame
 
-pub unmoved : (s : Desk) (event : Event) (said : List Body) → ((stamp place : ℕ) (frame : Signed Body) → event ≡ kept.Took stamp place frame → ⊥) → said ≡ []
+pub unmoved : (s : Desk) (event : Event) (said : List Body) →
+    ((stamp place : ℕ) (frame : Signed Body) → event ≡ kept.Took stamp place frame → ⊥) → said ≡ []
     → IsScreenAfter s s (event_of event) said
-unmoved s event said none silent = is_screen_after s s (event_of event) said (quiet s event none ∙ ap (desk_at s (event_of event)) (sym silent))
+unmoved s event said none silent =
+    is_screen_after s s (event_of event) said (quiet s event none ∙ ap (desk_at s (event_of event)) (sym silent))
 
 -- a command that there is no room for
-pub idle : (s : Desk) (event : Event) (op : Op) (said : List Body) → event ≡ kept.Command op → said ≡ [] → IsScreenAfter s s (event_of event) said
+pub idle : (s : Desk) (event : Event) (op : Op) (said : List Body) → event ≡ kept.Command op → said ≡ [] →
+    IsScreenAfter s s (event_of event) said
 idle s event op said is silent =
     is_screen_after s s (event_of event) said
-    (same_desk s 0 (votes_in []) refl no_frame ∙ ap (λ (e : Event). desk_at s (event_of e) []) (sym is) ∙ ap (desk_at s (event_of event)) (sym silent))
+    (same_desk s 0 (votes_in []) refl no_frame ∙ ap (λ (e : Event). desk_at s (event_of e) []) (sym is)
+    ∙ ap (desk_at s (event_of event)) (sym silent))
 
 -- commands alone have words
-pub wordless : (s : Desk) (event : Event) (room : ℕ) → ((op : Op) → event ≡ kept.Command op → ⊥) → [] ≡ take room (screen_says s (event_of event))
+pub wordless : (s : Desk) (event : Event) (room : ℕ) → ((op : Op) → event ≡ kept.Command op → ⊥) →
+    [] ≡ take room (screen_says s (event_of event))
 wordless s (kept.Took stamp place frame) room none = nothing_cut room
 wordless s kept.Tick room none = nothing_cut room
 wordless s (kept.Command op) room none = absurd (none op refl)
@@ -68,21 +74,34 @@ wordless s (kept.Cry bytes) room none = nothing_cut room
 wordless s kept.Skip room none = nothing_cut room
 wordless s kept.Restart room none = nothing_cut room
 
-pub took : (old new : Desk) (event : Event) (said : List Body) (stamp place : ℕ) (frame shown : Signed Body) → event ≡ kept.Took stamp place frame → shown ≡ frame → said ≡ []
-    → new ≡ record old { votes = old.votes ++ counted is_notice old.client (votes_in (shown ∷ [])) } → IsScreenAfter old new (event_of event) said
+pub took : (old new : Desk) (event : Event) (said : List Body) (stamp place : ℕ) (frame shown : Signed Body) →
+    event ≡ kept.Took stamp place frame → shown ≡ frame → said ≡ []
+    → new ≡ record old { votes = old.votes ++ counted is_notice old.client (votes_in (shown ∷ [])) } →
+    IsScreenAfter old new (event_of event) said
 took old new event said stamp place frame shown is same silent at =
     is_screen_after old new (event_of event) said
-    (at ∙ ap (λ (f : Signed Body). record old { votes = old.votes ++ counted is_notice old.client (votes_in (f ∷ [])) }) same
-    ∙ screen_took old stamp place frame ∙ ap (λ (e : Event). desk_at old (event_of e) []) (sym is) ∙ ap (desk_at old (event_of event)) (sym silent))
+    (at ∙ ap (λ (f : Signed Body). record old {
+      votes =
+          old.votes ++ counted is_notice old.client (votes_in (f ∷ []));
+    }) same
+    ∙ screen_took old stamp place frame ∙ ap (λ (e : Event). desk_at old (event_of e) []) (sym is)
+    ∙ ap (desk_at old (event_of event)) (sym silent))
 
-pub commanded : {V E : Type 0} (r : Result V E) (words : V → List Body) (old new : Desk) (event : Event) (op : Op) → event ≡ kept.Command op
+pub commanded : {V E : Type 0} (r : Result V E) (words : V → List Body) (old new : Desk) (event : Event) (op : Op) →
+    event ≡ kept.Command op
     → IfOk r (λ v. words v ≡ body.Update record { client = old.client; t = old.commands + 1; op = op } ∷ [])
-    → OnOk r (new ≡ record old { commands = old.commands + 1 }) → IfOk r (λ v. IsScreenAfter old new (event_of event) (words v))
+    → OnOk r (new ≡ record old { commands = old.commands + 1 }) →
+    IfOk r (λ v. IsScreenAfter old new (event_of event) (words v))
 commanded (Err e) words old new event op is said at = tt
 commanded (Ok v) words old new event op is said at =
     let u : Body = body.Update record { client = old.client; t = old.commands + 1; op = op } in
     let kept_votes : record old { commands = old.commands + 1 } ≡ desk_at old (rules.Command op) (u ∷ []) =
-    sym (ap (λ (vs : List Vote). record old { commands = old.commands + 1; votes = old.votes ++ counted is_notice old.client vs }) no_frame
+    sym (ap (λ (vs : List Vote). record old {
+      commands = old.commands + 1;
+      votes =
+          old.votes ++ counted is_notice old.client vs;
+    }) no_frame
     ∙ ap (λ (vs : List Vote). record old { commands = old.commands + 1; votes = vs }) (append-nil old.votes)) in
     is_screen_after old new (event_of event) (words v)
-    (at ∙ kept_votes ∙ ap (λ (e : Event). desk_at old (event_of e) (u ∷ [])) (sym is) ∙ ap (desk_at old (event_of event)) (sym said))
+    (at ∙ kept_votes ∙ ap (λ (e : Event). desk_at old (event_of e) (u ∷ [])) (sym is)
+    ∙ ap (desk_at old (event_of event)) (sym said))

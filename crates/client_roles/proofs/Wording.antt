@@ -1,5 +1,7 @@
--- What clients say has a spelling and is in its place: the numbers of readings are those of points, and their values have 64 bits.
-use Rattle.std.proofs.Common.{◌≡◌, ◌≤◌, ◌<◌, ◌+◌, ◌^◌, ℕ, zero, suc, Bool, true, false, ◌&&◌, not, nat_eq, nat_lt, List, [], ◌∷◌, length, take, map, refl, sym, ap, ◌∙◌, subst, arith, eq-eqb}
+-- What clients say has a spelling and is in its place: the numbers of readings are those of points, and their values
+-- have 64 bits.
+use Rattle.std.proofs.Common.{◌≡◌, ◌≤◌, ◌<◌, ◌+◌, ◌^◌, ℕ, suc, Bool, true, false, ◌&&◌, not, nat_eq, nat_lt, List, []}
+use Rattle.std.proofs.Common.{◌∷◌, length, map, refl, sym, ap, ◌∙◌, subst, arith, eq-eqb}
 use Rattle.std.specs.Prelude.{Option, Some, None, slice_get, if◌then◌else◌, ℤ}
 use Rattle.std.specs.Option.{option_and_then}
 use Rattle.std.specs.List.{list_all, flat_map, range_with_len}
@@ -7,7 +9,6 @@ use Rattle.std.proofs.lemmas.Bool.{and_from, and_parts, lt-ltb, ltb-true, ltb-fa
 use Rattle.std.proofs.lemmas.Option.{slice_get_within}
 use Rattle.message_types.specs.declared.updates.Op.{Op}
 use Rattle.message_types.specs.declared.updates.Op.TheVariants as op
-use Rattle.message_types.specs.declared.updates.Update.{Update}
 use Rattle.message_types.specs.declared.body.Body.{Body}
 use Rattle.message_types.specs.declared.body.Body.TheVariants as body
 use Rattle.message_types.specs.Spelling.{body_fits}
@@ -18,11 +19,12 @@ use Rattle.protocol_rules.specs.Places.{in_place, op_in_place}
 use Rattle.field_device.specs.Places.{Places}
 use Rattle.field_device.specs.Table.{reply_pdu}
 use Rattle.field_proxy.specs.Exchanges.{read_pdu, raw_in}
-use Rattle.field_proxy.specs.Readings.{is_i64, in_64_bits, given, was_said, reading_of, reading_at, readings, last_in, numbered}
+use Rattle.field_proxy.specs.Readings.{is_i64, in_64_bits, given, was_said, reading_of, reading_at, readings, last_in}
+use Rattle.field_proxy.specs.Readings.{numbered}
 use Rattle.field_proxy.specs.Front.{Front}
 use Rattle.operator_screen.specs.Board.{Desk}
 use Rattle.agreement.proofs.Lists.{some_same, none_some, in_flat_map_from}
-use Rattle.own_words.proofs.Limits.{all_from, all_each}
+use Rattle.words_in_place.proofs.Limits.{all_from, all_each}
 use Rattle.history_rules.specs.Events.{Event, Took, Tick, Command, Field, Poll, Cry, Skip, Restart, Entry}
 use Rattle.history_rules.specs.Setup.{room}
 use Rattle.history_rules.specs.Legal.{says_in}
@@ -34,14 +36,8 @@ use Rattle.client_roles.specs.Roles.{carries_well}
 use Rattle.client_roles.specs.Laws.{client_actor, MaySay, ClientWordsFit, ClientWordsAreInPlace}
 use Rattle.client_roles.proofs.Saying.{proxies_say_by_room, screens_say_by_room}
 use Rattle.client_roles.proofs.Counting.{readings_few, front_within, commands_stay_few}
-
-all_take : {X : Type 0} (good : X → Bool) (n : ℕ) (xs : List X) → list_all good xs ≡ true → list_all good (take n xs) ≡ true
-all_take good zero [] all = refl
-all_take good zero (x ∷ xs) all = refl
-all_take good (suc n) [] all = refl
-all_take good (suc n) (x ∷ xs) all =
-    let both = and_parts (good x) (list_all good xs) all in
-    and_from (good x) (list_all good (take n xs)) both.0 (all_take good n xs both.1)
+use Rattle.plain_lists.proofs.Lists.{all_take}
+use Rattle.world_rules.proofs.Clients.{proxy_fits, screen_fits}
 
 -- the word in the client's name is in its place
 abbrev is_placed : Group → ℕ → Body → Bool
@@ -59,17 +55,15 @@ update_placed g client t o is small placed =
     let own = and_from _ _ there (eq-eqb (g.n + client) (g.n + client) refl) in
     and_from _ _ (and_from _ _ own (lt-ltb t (2 ^ 64) small)) placed
 
-numbered_placed : (g : Group) (client t : ℕ) (ops : List Op) → IsClient g client → t + length ops ≤ 2 ^ 64 → list_all op_in_place ops ≡ true
+numbered_placed : (g : Group) (client t : ℕ) (ops : List Op) → IsClient g client → t + length ops ≤ 2 ^ 64 →
+    list_all op_in_place ops ≡ true
     → list_all (is_placed g client) (map body.Update (numbered client t ops)) ≡ true
 unfolding numbered
 numbered_placed g client t [] is few placed = refl
 numbered_placed g client t (o ∷ ops) is few placed =
     let both = and_parts (op_in_place o) (list_all op_in_place ops) placed in
-    and_from _ _ (update_placed g client t o is (omega arith) both.0) (numbered_placed g client (suc t) ops is (omega arith) both.1)
-
-updates_fit : (us : List Update) → list_all body_fits (map body.Update us) ≡ true
-updates_fit [] = refl
-updates_fit (u ∷ us) = updates_fit us
+    and_from _ _ (update_placed g client t o is (omega arith) both.0)
+    (numbered_placed g client (suc t) ops is (omega arith) both.1)
 
 value_fits : (z v : ℤ) (b : Bool) → is_i64 z ≡ b → (if b then Some z else None) ≡ Some v → is_i64 v ≡ true
 value_fits z v true is same = ap is_i64 (sym (some_same same)) ∙ is
@@ -82,7 +76,8 @@ given_fits d p v is = by (raw_in (reply_pdu d (read_pdu p.area p.place))) is whe
   by None same = absurd (none_some same)
   by (Some x) same = value_fits (scaled p x) v (is_i64 (scaled p x)) refl same
 
-reading_placed : (client number : ℕ) (p : Point) (value last : Option ℤ) → number < 2 ^ 32 → ((v : ℤ) → value ≡ Some v → is_i64 v ≡ true)
+reading_placed : (client number : ℕ) (p : Point) (value last : Option ℤ) → number < 2 ^ 32 →
+    ((v : ℤ) → value ≡ Some v → is_i64 v ≡ true)
     → list_all op_in_place (reading_of client number p value last) ≡ true
 reading_placed client number p None last small fits = refl
 reading_placed client number p (Some v) last small fits = by (nat_eq p.proxy client && not (was_said last v)) where
@@ -96,20 +91,24 @@ unfolding readings
 readings_placed d client points last few =
     all_from op_in_place (flat_map (reading_at d client points last) (range_with_len 0 (length points))) (λ o h.
     let at = in_flat_map_from (reading_at d client points last) (range_with_len 0 (length points)) h in
-    all_each op_in_place (reading_at d client points last at.0) (at_number at.0 (slice_get points at.0) refl) o at.2) where
-      at_number : (number : ℕ) (found : Option Point) → slice_get points number ≡ found
-          → list_all {X = Op} op_in_place (elim found [ None ↦ [] | Some p ↦ reading_of client number p (given d p) (last number) ]) ≡ true
-      at_number number None is = refl
-      at_number number (Some p) is =
-          let low = slice_get_within points number p is in
-          reading_placed client number p (given d p) (last number) (omega arith) (given_fits d p)
+    all_each op_in_place (reading_at d client points last at.0) (at_number at.0 (slice_get points at.0) refl) o at.2)
+  where
+    at_number : (number : ℕ) (found : Option Point) → slice_get points number ≡ found
+        → list_all {X = Op} op_in_place
+        (elim found [ None ↦ [] | Some p ↦ reading_of client number p (given d p) (last number) ]) ≡ true
+    at_number number None is = refl
+    at_number number (Some p) is =
+        let low = slice_get_within points number p is in
+        reading_placed client number p (given d p) (last number) (omega arith) (given_fits d p)
 
-proxy_placed : (g : Group) (s : Front) (event : Event) → IsClient g s.client → length s.points ≤ 1024 → s.updates + 1025 ≤ 2 ^ 64
+proxy_placed : (g : Group) (s : Front) (event : Event) → IsClient g s.client → length s.points ≤ 1024 →
+    s.updates + 1025 ≤ 2 ^ 64
     → list_all (is_placed g s.client) (proxy_says s event) ≡ true
 proxy_placed g s Poll is points few =
     let due = readings s.places s.client s.points (last_in s.lasts) in
     let count = readings_few s.places s.client s.points (last_in s.lasts) in
-    numbered_placed g s.client (s.updates + 1) due is (omega arith) (readings_placed s.places s.client s.points (last_in s.lasts) points)
+    numbered_placed g s.client (s.updates + 1) due is (omega arith)
+    (readings_placed s.places s.client s.points (last_in s.lasts) points)
 proxy_placed g s (Took stamp place frame) is points few = refl
 proxy_placed g s Tick is points few = refl
 proxy_placed g s (Command o) is points few = refl
@@ -118,9 +117,11 @@ proxy_placed g s (Cry bytes) is points few = refl
 proxy_placed g s Skip is points few = refl
 proxy_placed g s Restart is points few = refl
 
-screen_placed : (g : Group) (s : Desk) (event : Event) → IsClient g s.client → s.commands + 1 < 2 ^ 64 → carries_well event ≡ true
+screen_placed : (g : Group) (s : Desk) (event : Event) → IsClient g s.client → s.commands + 1 < 2 ^ 64 →
+    carries_well event ≡ true
     → list_all (is_placed g s.client) (screen_says s event) ≡ true
-screen_placed g s (Command o) is few carried = and_from _ _ (update_placed g s.client (s.commands + 1) o is few carried) refl
+screen_placed g s (Command o) is few carried =
+    and_from _ _ (update_placed g s.client (s.commands + 1) o is few carried) refl
 screen_placed g s Poll is few carried = refl
 screen_placed g s (Took stamp place frame) is few carried = refl
 screen_placed g s Tick is few carried = refl
@@ -128,26 +129,6 @@ screen_placed g s (Field area place value) is few carried = refl
 screen_placed g s (Cry bytes) is few carried = refl
 screen_placed g s Skip is few carried = refl
 screen_placed g s Restart is few carried = refl
-
-proxy_fits : (s : Front) (event : Event) → list_all body_fits (proxy_says s event) ≡ true
-proxy_fits s Poll = updates_fit (numbered s.client (s.updates + 1) (readings s.places s.client s.points (last_in s.lasts)))
-proxy_fits s (Took stamp place frame) = refl
-proxy_fits s Tick = refl
-proxy_fits s (Command o) = refl
-proxy_fits s (Field area place value) = refl
-proxy_fits s (Cry bytes) = refl
-proxy_fits s Skip = refl
-proxy_fits s Restart = refl
-
-screen_fits : (s : Desk) (event : Event) → list_all body_fits (screen_says s event) ≡ true
-screen_fits s (Command o) = refl
-screen_fits s Poll = refl
-screen_fits s (Took stamp place frame) = refl
-screen_fits s Tick = refl
-screen_fits s (Field area place value) = refl
-screen_fits s (Cry bytes) = refl
-screen_fits s Skip = refl
-screen_fits s Restart = refl
 
 desk_client : (n f client : ℕ) (own : List Entry) → (desk_of n f client own).client ≡ client
 unfolding desk_of
@@ -173,9 +154,11 @@ module _ (c : Contents) (client : ℕ) (own : List Entry) (event : Event) (may :
       let within = front_within (masters_in c) c.settings.f client c.plant own may.scenario.plant.points in
       let few = within.updates in
       let short = may.short in
-      let points : length front.points ≤ 1024 = subst (λ (ps : List Point). length ps ≤ 1024) (sym within.points) may.scenario.plant.points in
+      let points : length front.points ≤ 1024 = subst (λ (ps : List Point). length ps ≤ 1024) (sym within.points)
+      may.scenario.plant.points in
       ap (λ (k : ℕ). list_all (is_placed (group_in c) k) (proxy_says front event)) (sym within.client)
-      ∙ proxy_placed (group_in c) front event (subst (IsClient (group_in c)) (sym within.client) is_client) points (omega arith)
+      ∙ proxy_placed (group_in c) front event (subst (IsClient (group_in c)) (sym within.client) is_client)
+      points (omega arith)
 
   desk_placed : proxies_in c ≤ client → list_all (is_placed (group_in c) client) (screen_says desk event) ≡ true
   unfolding desk
@@ -184,26 +167,32 @@ module _ (c : Contents) (client : ℕ) (own : List Entry) (event : Event) (may :
       let short = may.short in
       let own_number = desk_client (masters_in c) c.settings.f client own in
       ap (λ (k : ℕ). list_all (is_placed (group_in c) k) (screen_says desk event)) (sym own_number)
-      ∙ screen_placed (group_in c) desk event (subst (IsClient (group_in c)) (sym own_number) is_client) (omega arith) may.carried
+      ∙ screen_placed (group_in c) desk event (subst (IsClient (group_in c)) (sym own_number) is_client)
+      (omega arith) may.carried
 
   -- what is so of all that it is to say is so of what it says
-  all_said : (good : Body → Bool) → list_all good (proxy_says front event) ≡ true → (proxies_in c ≤ client → list_all good (screen_says desk event) ≡ true)
+  all_said : (good : Body → Bool) → list_all good (proxy_says front event) ≡ true →
+      (proxies_in c ≤ client → list_all good (screen_says desk event) ≡ true)
       → list_all good (says_in (setup_of c) (client_actor c client) own event) ≡ true
   unfolding front desk
   all_said good proxy screen = by (nat_lt client (proxies_in c)) refl where
-    by : (b : Bool) → nat_lt client (proxies_in c) ≡ b → list_all good (says_in (setup_of c) (client_actor c client) own event) ≡ true
+    by : (b : Bool) → nat_lt client (proxies_in c) ≡ b →
+        list_all good (says_in (setup_of c) (client_actor c client) own event) ≡ true
     by true is =
         ap (list_all good) (proxies_say_by_room c client own event (ltb-true client (proxies_in c) is))
-        ∙ all_take good (room (setup_of c) own) (proxy_says (front_of (masters_in c) c.settings.f c.plant client own) event) proxy
+        ∙ all_take good (room (setup_of c) own)
+        (proxy_says (front_of (masters_in c) c.settings.f c.plant client own) event) proxy
     by false is =
         let behind = ltb-false client (proxies_in c) is in
         ap (list_all good) (screens_say_by_room c client own event behind)
-        ∙ all_take good (room (setup_of c) own) (screen_says (desk_of (masters_in c) c.settings.f client own) event) (screen behind)
+        ∙ all_take good (room (setup_of c) own) (screen_says (desk_of (masters_in c) c.settings.f client own) event)
+        (screen behind)
 
   words_fit : list_all body_fits (says_in (setup_of c) (client_actor c client) own event) ≡ true
   words_fit = all_said body_fits (proxy_fits front event) (λ screen. screen_fits desk event)
 
-  words_placed : list_all (is_placed (group_in c) client) (says_in (setup_of c) (client_actor c client) own event) ≡ true
+  words_placed : list_all (is_placed (group_in c) client)
+      (says_in (setup_of c) (client_actor c client) own event) ≡ true
   words_placed = all_said (is_placed (group_in c) client) front_placed desk_placed
 
 pub client_words_fit : ClientWordsFit
@@ -211,5 +200,10 @@ client_words_fit c client own event may = words_fit c client own event may
 
 pub client_words_are_in_place : ClientWordsAreInPlace
 client_words_are_in_place c client own event may =
-    ap (λ (g : Group). list_all (λ (b : Body). in_place g record { signer = client_actor c client; body = b; sig = [] }) (says_in (setup_of c) (client_actor c client) own event)) (group_is c)
+    ap (λ (g : Group). list_all (λ (b : Body). in_place g record {
+      signer = client_actor c client;
+      body = b;
+      sig =
+          [];
+    }) (says_in (setup_of c) (client_actor c client) own event)) (group_is c)
     ∙ words_placed c client own event may

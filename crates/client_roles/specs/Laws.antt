@@ -1,5 +1,5 @@
--- What a scenario's clients say and keep, as statements over their own lists. A client's number counts the proxies first and
--- then the screens; as an actor it comes behind the masters.
+-- What a scenario's clients say and keep, as statements over their own lists. A client's number counts the proxies
+-- first and then the screens; as an actor it comes behind the masters.
 use Rattle.std.specs.Prelude.{◌≡◌, ℕ, ◌+◌, ◌*◌, ◌^◌, ◌<◌, ◌≤◌, true, List, [], length, take, Some, slice_get}
 use Rattle.std.specs.List.{list_all}
 use Rattle.message_types.specs.Spelling.{body_fits}
@@ -28,17 +28,20 @@ ProxiesBeginFresh =
     → front_of n f plant client [] ≡ fresh client n f plant.points device
 
 abbrev pub ScreensBeginFresh : Type 0
-ScreensBeginFresh = (n f client : ℕ) → desk_of n f client [] ≡ record { client = client; n = n; f = f; commands = 0; votes = [] }
+ScreensBeginFresh = (n f client : ℕ) →
+    desk_of n f client [] ≡ record { client = client; n = n; f = f; commands = 0; votes = [] }
 
 -- At no event a proxy counts more updates than the plant has points ..
 abbrev pub UpdatesStayFew : Type 0
 UpdatesStayFew =
-    (n f client : ℕ) (plant : Plant) (own : List Entry) → length plant.points ≤ 1024 → (front_of n f plant client own).updates ≤ 1024 * length own
+    (n f client : ℕ) (plant : Plant) (own : List Entry) → length plant.points ≤ 1024 →
+    (front_of n f plant client own).updates ≤ 1024 * length own
 
 -- .. and a screen at most one command.
 abbrev pub CommandsStayFew : Type 0
 CommandsStayFew =
-    (c : Contents) (n f client : ℕ) (own : List Entry) → proxies_in c ≤ client → IsBenchList (setup_of c) (client_actor c client) own
+    (c : Contents) (n f client : ℕ) (own : List Entry) → proxies_in c ≤ client →
+    IsBenchList (setup_of c) (client_actor c client) own
     → (desk_of n f client own).commands ≤ length own
 
 -- What a client says is cut to the room that its leaves leave, of what a proxy is to say ..
@@ -55,8 +58,8 @@ ScreensSayByRoom =
     → says_in (setup_of c) (client_actor c client) own event
     ≡ take (room (setup_of c) own) (screen_says (desk_of (masters_in c) c.settings.f client own) event)
 
--- A client of a scenario comes to an event after its own list: the list is short enough that its updates' numbers have 64
--- bits, and so have the numbers that the event hands it.
+-- A client of a scenario comes to an event after its own list: the list is short enough that its updates' numbers have
+-- 64 bits, and so have the numbers that the event hands it.
 pub record MaySay (c : Contents) (client : ℕ) (own : List Entry) (event : Event) : Type 0 where
   pub scenario : IsScenario c
   pub there : client < proxies_in c + c.settings.screens
@@ -73,10 +76,13 @@ ClientWordsFit =
 abbrev pub ClientWordsAreInPlace : Type 0
 ClientWordsAreInPlace =
     (c : Contents) (client : ℕ) (own : List Entry) (event : Event) → MaySay c client own event
-    → list_all (λ b. in_place (setup_of c).group record { signer = client_actor c client; body = b; sig = [] }) (says_in (setup_of c) (client_actor c client) own event) ≡ true
+    → list_all (λ b. in_place (setup_of c).group record { signer = client_actor c client; body = b; sig = [] })
+    (says_in (setup_of c) (client_actor c client) own event) ≡ true
 
 -- So the frames of what a client says stand: whoever takes frames that stand takes them.
 abbrev pub ClientFramesStand : Type 0
 ClientFramesStand =
-    (c : Contents) (client : ℕ) (own : List Entry) (e : Entry) → MaySay c client own e.event → AddsEntry (setup_of c) (client_actor c client) own e
-    → list_all (stands (setup_of c)) (signed_from (setup_of c) (client_actor c client) (leaves_used (setup_of c) own) e.said 0 e.said) ≡ true
+    (c : Contents) (client : ℕ) (own : List Entry) (e : Entry) → MaySay c client own e.event →
+    AddsEntry (setup_of c) (client_actor c client) own e
+    → list_all (stands (setup_of c))
+    (signed_from (setup_of c) (client_actor c client) (leaves_used (setup_of c) own) e.said 0 e.said) ≡ true

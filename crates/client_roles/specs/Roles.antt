@@ -1,5 +1,5 @@
--- How a client goes on at an event: where it was the client of a list of its own entries, it is the client of that list with
--- one entry more. (This project's own.)
+-- How a client goes on at an event: where it was the client of a list of its own entries, it is the client of that list
+-- with one entry more. (This project's own.)
 use Rattle.std.specs.Prelude.{◌≡◌, ℕ, ◌+◌, Bool, true, List, [], ◌∷◌, ◌++◌, length}
 use Rattle.message_types.specs.declared.body.Body.{Body}
 use Rattle.master_points.specs.declared.plant.Plant.{Plant}
@@ -16,7 +16,8 @@ use Rattle.world_rules.specs.Clients.{happenings_of, front_of, desk_of}
 -- entry's stamp and actor have no part in it.
 abbrev pub IsProxyAfter : Front → Front → Event → List Body → Type 0
 IsProxyAfter old new event said =
-    (n f client : ℕ) (plant : Plant) (own : List Entry) (e : Entry) → old ≡ front_of n f plant client own → e.event ≡ event → e.said ≡ said
+    (n f client : ℕ) (plant : Plant) (own : List Entry) (e : Entry) → old ≡ front_of n f plant client own →
+    e.event ≡ event → e.said ≡ said
     → new ≡ front_of n f plant client (own ++ e ∷ [])
 
 -- So did a screen.

@@ -1,22 +1,26 @@
 -- The steps of a command after one file more.
-use Rattle.std.proofs.Common.{◌≡◌, ◌≤◌, ℕ, List, [], ◌∷◌, ◌++◌, Option, Result, Ok, Err, sym, ◌∙◌, subst, ap, length, append_assoc, append-nil}
+use Rattle.std.proofs.Common.{◌≡◌, ◌≤◌, ℕ, List, [], ◌∷◌, ◌++◌, Option, Result, Ok, Err, sym, ◌∙◌, subst, ap, length}
+use Rattle.std.proofs.Common.{append_assoc, append-nil}
 use Rattle.std.specs.declared.vec.Vec.{Vec}
 use Rattle.std.specs.declared.alloc.Global.{Global}
 use Rattle.outside.specs.Faults.{HasRisen}
 use Rattle.command_ends.specs.Steps.{Step}
 use Rattle.command_ends.specs.Steps.Step.{Load, Gives, Refuses}
-use Rattle.command_ends.specs.Calls.{IsContent, IsTooLong, Loaded, Comes, TextCause, CountsStay, FaultsOfFiles, most_bytes}
+use Rattle.command_ends.specs.Calls.{IsContent, IsTooLong, Loaded, Comes, TextCause, CountsStay, FaultsOfFiles}
+use Rattle.command_ends.specs.Calls.{most_bytes}
 use Rattle.command_ends.specs.Loaded.{LoadCause}
 use Rattle.command_ends.specs.declared.refusal.Refusal.{Refusal}
 use Rattle.command_ends.specs.declared.refusal.Refusal.TheVariants as refusal
 
 -- the step that is due now
-pub comes-now : (next : List (List ℕ) → Step → Type 0) (held : List ℕ → Option (List ℕ)) (before : List (List ℕ)) (step : Step)
+pub comes-now : (next : List (List ℕ) → Step → Type 0) (held : List ℕ → Option (List ℕ))
+    (before : List (List ℕ)) (step : Step)
     → next before step → Comes next held before step
 comes-now next held before step is = ([], tt, subst (λ contents. next contents step) (sym (append-nil before)) is)
 
 -- what files hold is the same after a load
-loaded-same : (next : List (List ℕ) → Step → Type 0) (held later : List ℕ → Option (List ℕ)) → ((name : List ℕ) → later name ≡ held name)
+loaded-same : (next : List (List ℕ) → Step → Type 0) (held later : List ℕ → Option (List ℕ)) →
+    ((name : List ℕ) → later name ≡ held name)
     → (before more : List (List ℕ)) → Loaded next later before more → Loaded next held before more
 loaded-same next held later same before [] loaded = tt
 loaded-same next held later same before (content ∷ more) (name, due, told, short, rest) = (
@@ -28,8 +32,10 @@ loaded-same next held later same before (content ∷ more) (name, due, told, sho
 )
 
 -- a step that comes after one file more
-comes-after : (next : List (List ℕ) → Step → Type 0) (held later : List ℕ → Option (List ℕ)) (before : List (List ℕ)) (name content : List ℕ) (step : Step)
-    → next before (Load name) → IsContent (held name) content → length content ≤ most_bytes → ((other : List ℕ) → later other ≡ held other)
+comes-after : (next : List (List ℕ) → Step → Type 0) (held later : List ℕ → Option (List ℕ)) (before : List (List ℕ))
+    (name content : List ℕ) (step : Step)
+    → next before (Load name) → IsContent (held name) content → length content ≤ most_bytes →
+    ((other : List ℕ) → later other ≡ held other)
     → Comes next later (before ++ content ∷ []) step → Comes next held before step
 comes-after next held later before name content step due told short same (more, loaded, last) = (
   content ∷ more,
@@ -38,42 +44,58 @@ comes-after next held later before name content step due told short same (more, 
 )
 
 -- why there is a text or none, after one file more
-pub after-load : (next : List (List ℕ) → Step → Type 0) (held later : List ℕ → Option (List ℕ)) (first second last : List ℕ → ℕ)
+pub after-load : (next : List (List ℕ) → Step → Type 0) (held later : List ℕ → Option (List ℕ))
+    (first second last : List ℕ → ℕ)
     (before : List (List ℕ)) (name content : List ℕ) (result : Result (Vec ℕ Global) Refusal)
-    → next before (Load name) → IsContent (held name) content → length content ≤ most_bytes → ((other : List ℕ) → later other ≡ held other)
-    → CountsStay first second → TextCause next later second last (before ++ content ∷ []) result → TextCause next held first last before result
+    → next before (Load name) → IsContent (held name) content → length content ≤ most_bytes →
+    ((other : List ℕ) → later other ≡ held other)
+    → CountsStay first second → TextCause next later second last (before ++ content ∷ []) result →
+    TextCause next held first last before result
 after-load next held later first second last before name content (Ok text) due told short same stay cause =
     comes-after next held later before name content (Gives text.items) due told short same cause
-after-load next held later first second last before name content (Err (refusal.Fault failed)) due told short same stay cause = (
-  comes-after next held later before name content (Load failed) due told short same cause.0,
-  subst (λ count. HasRisen count (last failed)) (stay failed) cause.1,
-)
-after-load next held later first second last before name content (Err (refusal.TooLong long)) due told short same stay cause = (
-  comes-after next held later before name content (Load long) due told short same cause.0,
-  subst IsTooLong (same long) cause.1,
-)
-after-load next held later first second last before name content (Err refusal.Memory) due told short same stay cause = tt
-after-load next held later first second last before name content (Err refusal.Output) due told short same stay cause = absurd cause
+after-load next held later first second last before name content (Err (refusal.Fault failed))
+    due told short same stay cause = (
+      comes-after next held later before name content (Load failed) due told short same cause.0,
+      subst (λ count. HasRisen count (last failed)) (stay failed) cause.1,
+    )
+after-load next held later first second last before name content (Err (refusal.TooLong long))
+    due told short same stay cause = (
+      comes-after next held later before name content (Load long) due told short same cause.0,
+      subst IsTooLong (same long) cause.1,
+    )
+after-load next held later first second last before name content (Err refusal.Memory) due told short same stay cause =
+    tt
+after-load next held later first second last before name content (Err refusal.Output) due told short same stay cause =
+    absurd cause
 after-load next held later first second last before name content (Err refusal.Usage) due told short same stay cause =
     comes-after next held later before name content (Refuses refusal.Usage) due told short same cause
-after-load next held later first second last before name content (Err (refusal.Scenario fault)) due told short same stay cause =
+after-load next held later first second last before name content (Err (refusal.Scenario fault))
+    due told short same stay cause =
     comes-after next held later before name content (Refuses (refusal.Scenario fault)) due told short same cause
-after-load next held later first second last before name content (Err (refusal.Script fault number)) due told short same stay cause =
+after-load next held later first second last before name content (Err (refusal.Script fault number))
+    due told short same stay cause =
     comes-after next held later before name content (Refuses (refusal.Script fault number)) due told short same cause
-after-load next held later first second last before name content (Err (refusal.Words fault number)) due told short same stay cause =
+after-load next held later first second last before name content (Err (refusal.Words fault number))
+    due told short same stay cause =
     comes-after next held later before name content (Refuses (refusal.Words fault number)) due told short same cause
-after-load next held later first second last before name content (Err (refusal.History fault number)) due told short same stay cause =
+after-load next held later first second last before name content (Err (refusal.History fault number))
+    due told short same stay cause =
     comes-after next held later before name content (Refuses (refusal.History fault number)) due told short same cause
-after-load next held later first second last before name content (Err refusal.NotVerified) due told short same stay cause =
+after-load next held later first second last before name content (Err refusal.NotVerified)
+    due told short same stay cause =
     comes-after next held later before name content (Refuses refusal.NotVerified) due told short same cause
-after-load next held later first second last before name content (Err (refusal.NoAnswer lack)) due told short same stay cause =
+after-load next held later first second last before name content (Err (refusal.NoAnswer lack))
+    due told short same stay cause =
     comes-after next held later before name content (Refuses (refusal.NoAnswer lack)) due told short same cause
-after-load next held later first second last before name content (Err (refusal.Pieces at)) due told short same stay cause =
+after-load next held later first second last before name content (Err (refusal.Pieces at))
+    due told short same stay cause =
     comes-after next held later before name content (Refuses (refusal.Pieces at)) due told short same cause
 
 -- the file that is due can't be loaded
-pub load-failed : (next : List (List ℕ) → Step → Type 0) (held : List ℕ → Option (List ℕ)) (first last : List ℕ → ℕ) (before : List (List ℕ))
-    (name : List ℕ) (why : Refusal) → next before (Load name) → LoadCause (held name) (first name) (last name) name (Err why)
+pub load-failed : (next : List (List ℕ) → Step → Type 0) (held : List ℕ → Option (List ℕ)) (first last : List ℕ → ℕ)
+    (before : List (List ℕ))
+    (name : List ℕ) (why : Refusal) → next before (Load name) →
+    LoadCause (held name) (first name) (last name) name (Err why)
     → TextCause next held first last before (Err why)
 load-failed next held first last before name (refusal.Fault named) due cause = (
   comes-now next held before (Load named) (subst (λ n. next before (Load n)) (sym cause.0) due),
@@ -95,7 +117,8 @@ load-failed next held first last before name (refusal.Pieces at) due cause = abs
 load-failed next held first last before name refusal.Output due cause = absurd cause
 
 -- the counts of faults are the same from before, where none rose until then
-pub faults-after : {V : Type 0} (first second last : List ℕ → ℕ) (result : Result V Refusal) → CountsStay first second → FaultsOfFiles result second last
+pub faults-after : {V : Type 0} (first second last : List ℕ → ℕ) (result : Result V Refusal) →
+    CountsStay first second → FaultsOfFiles result second last
     → FaultsOfFiles result first last
 faults-after first second last (Ok value) stay faults = λ name. faults name ∙ stay name
 faults-after first second last (Err (refusal.Fault failed)) stay faults = tt

@@ -1,5 +1,6 @@
 -- What a call of the program comes to: how it ended, why, and what then stands at its output.
-use Rattle.std.specs.Prelude.{◌≡◌, ℕ, ◌≤◌, ◌<◌, List, [], ◌∷◌, ◌++◌, Option, None, Some, Result, Ok, Err, length, IfSome}
+use Rattle.std.specs.Prelude.{◌≡◌, ℕ, ◌≤◌, ◌<◌, List, [], ◌∷◌, ◌++◌, Option, None, Some, Result, Ok, Err, length}
+use Rattle.std.specs.Prelude.{IfSome}
 use Rattle.std.specs.declared.vec.Vec.{Vec}
 use Rattle.std.specs.declared.alloc.Global.{Global}
 use Rattle.outside.specs.Faults.{HasRisen}
@@ -34,9 +35,10 @@ IsContent (Some held) content = content ≡ held
 abbrev pub IsTooLong : Option (List ℕ) → Type 0
 IsTooLong held = IfSome held (λ content. most_bytes < length content)
 
--- After the contents loaded before, these more were loaded, one by one: each is the content of the file that was due then, and
--- isn't too long. What is due is told by the contents loaded before it.
-abbrev pub Loaded : (List (List ℕ) → Step → Type 0) → (List ℕ → Option (List ℕ)) → List (List ℕ) → List (List ℕ) → Type 0
+-- After the contents loaded before, these more were loaded, one by one: each is the content of the file that was due
+-- then, and isn't too long. What is due is told by the contents loaded before it.
+abbrev pub Loaded : (List (List ℕ) → Step → Type 0) → (List ℕ → Option (List ℕ)) →
+    List (List ℕ) → List (List ℕ) → Type 0
 Loaded next held before [] = Unit {0}
 Loaded next held before (content ∷ more) =
     (name : List ℕ) × next before (Load name) × IsContent (held name) content × (length content ≤ most_bytes)
@@ -62,12 +64,15 @@ TextCause next held faults_before faults_after before (Err why) = Comes next hel
 abbrev pub PutsNothing : Call → Type 0
 PutsNothing call = call.put_after ≡ call.put_before
 
--- Why a call ended so, where `next` tells what comes next for the words and the contents loaded. Want of memory alone is free.
+-- Why a call ended so, where `next` tells what comes next for the words and the contents loaded. Want of memory alone
+-- is free.
 abbrev pub CauseOf : (List (List ℕ) → List (List ℕ) → Step → Type 0) → Call → Result (Unit {0}) Refusal → Type 0
 CauseOf next call (Ok _) =
-    (text : List ℕ) × Comes (next call.words) call.held [] (Gives text) × (call.put_after ≡ with_piece call.put_before text)
+    (text : List ℕ) × Comes (next call.words) call.held [] (Gives text)
+    × (call.put_after ≡ with_piece call.put_before text)
 CauseOf next call (Err (refusal.Fault name)) =
-    Comes (next call.words) call.held [] (Load name) × HasRisen (call.faults_before name) (call.faults_after name) × PutsNothing call
+    Comes (next call.words) call.held [] (Load name) × HasRisen (call.faults_before name) (call.faults_after name)
+    × PutsNothing call
 CauseOf next call (Err (refusal.TooLong name)) =
     Comes (next call.words) call.held [] (Load name) × IsTooLong (call.held name) × PutsNothing call
 CauseOf next call (Err refusal.Output) =
@@ -79,7 +84,8 @@ CauseOf next call (Err why) = Comes (next call.words) call.held [] (Refuses why)
 -- Nothing was put, or a beginning of the text that the call defines.
 pub data NothingOrBegun (next : List (List ℕ) → List (List ℕ) → Step → Type 0) (call : Call) : Type 0 where
   nothing : PutsNothing call → NothingOrBegun next call
-  begun : (text : List ℕ) → Comes (next call.words) call.held [] (Gives text) → PutsBeginning call.put_before text call.put_after
+  begun : (text : List ℕ) → Comes (next call.words) call.held [] (Gives text) →
+      PutsBeginning call.put_before text call.put_after
       → NothingOrBegun next call
 
 -- what was put where memory was wanted

@@ -10,7 +10,8 @@ use Rattle.command_ends.specs.Ended.{ErrorSink}
 
 -- What comes next is one step.
 abbrev pub IsCertain : (List (List ℕ) → List (List ℕ) → Step → Type 0) → Type 0
-IsCertain next = (words contents : List (List ℕ)) (one other : Step) → next words contents one → next words contents other → one ≡ other
+IsCertain next = (words contents : List (List ℕ)) (one other : Step) → next words contents one →
+    next words contents other → one ≡ other
 
 -- Each file that is due tells what it holds, isn't too long, and was loaded without a fault: these are their contents.
 abbrev pub Lies : (List (List ℕ) → Step → Type 0) → Call → List (List ℕ) → List (List ℕ) → Type 0
@@ -20,13 +21,15 @@ Lies next call before (content ∷ more) =
     × (HasRisen (call.faults_before name) (call.faults_after name) → ⊥) × Lies next call (before ++ content ∷ []) more
 
 -- The files that the words name are there, nothing failed in the call, and this is what comes of them.
-pub record IsUntroubled (next : List (List ℕ) → List (List ℕ) → Step → Type 0) (call : Call) (last : Step) : Type 0 where
+pub record IsUntroubled (next : List (List ℕ) → List (List ℕ) → Step → Type 0) (call : Call)
+    (last : Step) : Type 0 where
   pub contents : List (List ℕ)
   pub files : Lies (next call.words) call [] contents
   pub comes : next call.words contents last
   pub out : HasRisen call.out_faults_before call.out_faults_after → ⊥
 
--- the whole text was put and nothing told to the error output; or nothing was put, and the status is that of the refusal
+-- the whole text was put and nothing told to the error output; or nothing was put, and the status is that of the
+-- refusal
 abbrev pub IsDue : Call → ErrorSink → ℕ → Step → Type 0
 IsDue call err status (Load name) = Unit {0}
 IsDue call err status (Gives text) =

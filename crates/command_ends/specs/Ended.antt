@@ -8,8 +8,8 @@ use Rattle.command_ends.specs.Steps.{Step}
 use Rattle.command_ends.specs.Calls.{Call, CauseOf, PutsInMemory, FaultsOfFiles, FaultsOfOut}
 use Rattle.command_ends.specs.declared.refusal.Refusal.{Refusal}
 use Rattle.command_ends.specs.declared.refusal.Refusal.TheVariants as refusal
-use Rattle.command_ends.specs.declared.no_words.NoWords.{NoWords}
-use Rattle.command_ends.specs.declared.no_words.NoWords.TheVariants as no_words
+use Rattle.command_ends.specs.declared.no_words.WordsRefusal.{WordsRefusal}
+use Rattle.command_ends.specs.declared.no_words.WordsRefusal.TheVariants as no_words
 
 -- the error output before and after
 pub record ErrorSink : Type 0 where
@@ -18,11 +18,13 @@ pub record ErrorSink : Type 0 where
   pub put_before : Option (List ℕ)
   pub put_after : Option (List ℕ)
 
--- A refusal's whole line was put and no fault came, or a beginning of it where the error output failed, or the status tells of want of
--- memory.
+-- A refusal's whole line was put and no fault came, or a beginning of it where the error output failed, or the status
+-- tells of want of memory.
 pub data Told (refused : Refusal) (err : ErrorSink) (status : ℕ) : Type 0 where
-  whole : status ≡ status_of refused → err.faults_after ≡ err.faults_before → err.put_after ≡ with_piece err.put_before (line_text refused) → Told refused err status
-  begun : status ≡ status_of refused → HasRisen err.faults_before err.faults_after → PutsBeginning err.put_before (line_text refused) err.put_after → Told refused err status
+  whole : status ≡ status_of refused → err.faults_after ≡ err.faults_before →
+      err.put_after ≡ with_piece err.put_before (line_text refused) → Told refused err status
+  begun : status ≡ status_of refused → HasRisen err.faults_before err.faults_after →
+      PutsBeginning err.put_before (line_text refused) err.put_after → Told refused err status
   memory : status ≡ 7 → PutsBeginning err.put_before (codes "spire: memory\n") err.put_after → Told refused err status
 
 abbrev pub Finishes : Result (Unit {0}) Refusal → ErrorSink → ℕ → Type 0
@@ -30,7 +32,8 @@ Finishes (Ok _) err status = (status ≡ 0) × (err.put_after ≡ err.put_before
 Finishes (Err refused) err status = Told refused err status
 
 -- The call ended in one way, for its cause, with its status and line, and no other fault came.
-pub record Ends (next : List (List ℕ) → List (List ℕ) → Step → Type 0) (call : Call) (err : ErrorSink) (status : ℕ) : Type 0 where
+pub record Ends (next : List (List ℕ) → List (List ℕ) → Step → Type 0) (call : Call) (err : ErrorSink)
+    (status : ℕ) : Type 0 where
   pub result : Result (Unit {0}) Refusal
   pub cause : CauseOf next call result
   pub memory : PutsInMemory next call result
@@ -39,6 +42,6 @@ pub record Ends (next : List (List ℕ) → List (List ℕ) → Step → Type 0)
   pub finish : Finishes result err status
 
 -- What a program without words is refused for: words that are no text are no command.
-abbrev pub refusal_without : NoWords → Refusal
+abbrev pub refusal_without : WordsRefusal → Refusal
 refusal_without no_words.NotText = refusal.Usage
 refusal_without no_words.Want = refusal.Memory

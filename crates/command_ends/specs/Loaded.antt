@@ -20,6 +20,7 @@ LoadCause held before after name (Err _) = ⊥
 -- what a text that is put leaves, and why
 abbrev pub PutCause : ℕ → ℕ → Option (List ℕ) → Option (List ℕ) → List ℕ → Result (Unit {0}) Refusal → Type 0
 PutCause faults_before faults_after before after text (Ok _) = after ≡ with_piece before text
-PutCause faults_before faults_after before after text (Err refusal.Output) = HasRisen faults_before faults_after × PutsBeginning before text after
+PutCause faults_before faults_after before after text (Err refusal.Output) = HasRisen faults_before faults_after
+    × PutsBeginning before text after
 PutCause faults_before faults_after before after text (Err refusal.Memory) = PutsBeginning before text after
 PutCause faults_before faults_after before after text (Err _) = ⊥

@@ -8,7 +8,7 @@ use thiserror::Error;
 
 /// Why the program has no words to call `spire` with.
 #[derive(Clone, Copy, Debug, PartialEq, Eq, Error)]
-pub enum NoWords {
+pub enum WordsRefusal {
     /// The system gives a word that is no text.
     #[error("not text")]
     NotText,
@@ -18,11 +18,11 @@ pub enum NoWords {
 
 /// Ends a program that has no words as `spire` would: with status 2 as for words that aren't a command, with 7 for want of
 /// memory, the line of either put to `err`.
-pub fn spire_without_words<E: Sink>(alloc: Global, why: NoWords, err: &mut E) -> u8
+pub fn spire_without_words<E: Sink>(alloc: Global, why: WordsRefusal, err: &mut E) -> u8
     ensures { Told (refusal_without why) record { faults_before = E.faults err.old; faults_after = E.faults err.new; put_before = E.told err.old; put_after = E.told err.new } result }
 {
     match why {
-        NoWords::NotText => report(alloc, &Refusal::Usage, err),
-        NoWords::Want => report(alloc, &Refusal::Memory, err),
+        WordsRefusal::NotText => report(alloc, &Refusal::Usage, err),
+        WordsRefusal::Want => report(alloc, &Refusal::Memory, err),
     }
 }

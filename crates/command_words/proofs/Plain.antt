@@ -1,6 +1,5 @@
--- A command as a user writes it is taken, and asks for itself: for each subcommand the walk is led word by word to
--- its end,
--- where each value stands in its row.
+-- A command as a user writes it is taken, and asks for itself: for each subcommand the walk is led word by word to its
+-- end, where each value stands in its row.
 use Rattle.std.proofs.Common.{◌≡◌, ◌∙◌, ℕ, true, refl, ap, List, [], ◌∷◌, Option, Some, codes, arith}
 use Rattle.std.specs.Prelude.{decimal, option_and_then}
 use Rattle.clap.specs.Walk.{Text, Walk, finished, idle, nothing_held, walk_from}

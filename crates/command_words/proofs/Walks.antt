@@ -1,6 +1,5 @@
 -- What the walk of `clap` over the words of a subcommand makes of words that are no flags: a relation says that words
--- lead
--- the walk without fault from one state to another, and is built word by word.
+-- lead the walk without fault from one state to another, and is built word by word.
 use Rattle.std.proofs.Common.{◌≡◌, ◌∙◌, ◌==◌, ℕ, Bool, true, false, refl, ap, ap₂, List, [], ◌∷◌, Some, None, arith}
 use Rattle.std.specs.List.{fold, slice_index_or}
 use Rattle.std.specs.Str.{bytes_eq}

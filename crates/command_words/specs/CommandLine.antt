@@ -1,6 +1,5 @@
 -- The command line as `clap` is to have it: ten subcommands, each with required words, numbers of a range among them.
--- It is
--- this project's own. How `clap` reads words for it is the kit's definition (`fault_of`, `subcommand_of`).
+-- It is this project's own. How `clap` reads words for it is the kit's definition (`fault_of`, `subcommand_of`).
 use Rattle.std.specs.Prelude.{◌≡◌, ℕ, true, false, List, [], ◌∷◌, Some, codes}
 use Rattle.clap.specs.Words.{App, Rule, Shape, Text, app_of, new_rule}
 use Rattle.clap.specs.Simple.{new_shape}

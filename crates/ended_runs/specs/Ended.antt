@@ -1,5 +1,5 @@
--- What a run of threads comes to: one actor a number, each with a list that goes turn by turn, whose stamps were drawn each
--- once. (This project's own.)
+-- What a run of threads comes to: one actor a number, each with a list that goes turn by turn, whose stamps were drawn
+-- each once. (This project's own.)
 use Rattle.std.specs.Prelude.{◌≡◌, ℕ, ◌+◌, ◌<◌, ◌≤◌, false, List, [], ◌∷◌, ◌++◌, Some, slice_get}
 use Rattle.std.specs.List.{slice_index_or}
 use Rattle.play_words.specs.declared.input.Input.{Input}
@@ -25,8 +25,8 @@ pub record IsActor (c : Contents) (inputs : List (List Input)) (turns actor : �
   pub most : turns_made b.list ≤ turns
   pub whole : is_halted (setup_of c) actor b.list ≡ false → turns_made b.list ≡ turns
 
--- What a run of threads comes to: a bench of each actor, in the order of their numbers, each made turn by turn, and the stamps
--- that were drawn are those of the entries, each once.
+-- What a run of threads comes to: a bench of each actor, in the order of their numbers, each made turn by turn, and the
+-- stamps that were drawn are those of the entries, each once.
 pub record IsRun (c : Contents) (inputs : List (List Input)) (turns : ℕ) (benches : List BenchState) : Type 0 where
   pub of_all : AreOfAll c benches
   pub each : (actor : ℕ) (b : BenchState) → slice_get benches actor ≡ Some b → IsActor c inputs turns actor b
@@ -41,11 +41,13 @@ pub record IsHistoryOf (c : Contents) (inputs : List (List Input)) (turns : ℕ)
 
 -- in such a run each stamp is that of just one entry
 abbrev pub RunsStampOnce : Type 0
-RunsStampOnce = (c : Contents) (inputs : List (List Input)) (turns : ℕ) (benches : List BenchState) → IsRun c inputs turns benches → HasEachStampOnce (lists_of benches)
+RunsStampOnce = (c : Contents) (inputs : List (List Input)) (turns : ℕ) (benches : List BenchState) →
+    IsRun c inputs turns benches → HasEachStampOnce (lists_of benches)
 
 -- its history is legal
 abbrev pub HistoriesAreLegal : Type 0
-HistoriesAreLegal = (c : Contents) (inputs : List (List Input)) (turns : ℕ) (history : List Entry) → IsHistoryOf c inputs turns history → IsLegal (setup_of c) history
+HistoriesAreLegal = (c : Contents) (inputs : List (List Input)) (turns : ℕ) (history : List Entry) →
+    IsHistoryOf c inputs turns history → IsLegal (setup_of c) history
 
 -- the station's actor made all its turns, unless the station was given up or the actor's keeper failed
 abbrev pub HasEnded : ℕ → Stationed → Type 0

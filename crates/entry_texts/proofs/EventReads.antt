@@ -1,5 +1,6 @@
 -- What is read of a frame, of an event's fields behind the number of its kind, and of an entry.
-use Rattle.std.proofs.Common.{◌≡◌, ◌<◌, ◌^◌, ℕ, List, [], ◌∷◌, ◌++◌, length, refl, sym, ap, ◌∙◌, subst, arith, length-append}
+use Rattle.std.proofs.Common.{◌≡◌, ◌<◌, ◌^◌, ℕ, List, [], ◌∷◌, ◌++◌, length, refl, sym, ap, ◌∙◌, subst, arith}
+use Rattle.std.proofs.Common.{length-append}
 use Rattle.std.specs.Prelude.{IsTrue, IfOk, Option, None, Some, Result, Ok, Err}
 use Rattle.plain_lists.specs.declared.want.Want.{Want}
 use Rattle.wire_parts.specs.View.{View, Takes}
@@ -50,11 +51,14 @@ faulty (refusal.Misplaced part) first other h none = absurd (cc)
 pub fault_is_none : (ring : Ring) (text : List ℕ) (f : Signed Body) (r : CheckRefusal) → (r ≡ refusal.Want → ⊥)
     → IsFault r (first_fault ring f) → ReadsSpelled text (Some f) → ReadsFrame ring text None
 fault_is_none ring text f r other h found = λ g fits is.
-    let same : f ≡ g = (no_prefix f g [] [] found.1.0 fits.0 found.1.1 (stands_spelled ring g fits.1) (ap (λ t. t ++ []) (sym found.0 ∙ is))).0 in
+    let same : f ≡ g = (no_prefix f g [] [] found.1.0 fits.0 found.1.1 (stands_spelled ring g fits.1)
+    (ap (λ t. t ++ []) (sym found.0 ∙ is))).0 in
     faulty r (first_fault ring f) other h (ap (first_fault ring) same ∙ stands_faultless ring g fits.1)
 
-pub refusal_is_none : (ring : Ring) (text : List ℕ) (f : Signed Body) (r : CheckRefusal) (answer : Result (Option (Signed Body)) Want)
-    → IfOk answer (λ read. (read ≡ None) × (r ≡ refusal.Want → ⊥)) → IsFault r (first_fault ring f) → ReadsSpelled text (Some f)
+pub refusal_is_none : (ring : Ring) (text : List ℕ) (f : Signed Body) (r : CheckRefusal)
+    (answer : Result (Option (Signed Body)) Want)
+    → IfOk answer (λ read. (read ≡ None) × (r ≡ refusal.Want → ⊥)) → IsFault r (first_fault ring f) →
+    ReadsSpelled text (Some f)
     → IfOk answer (ReadsFrame ring text)
 refusal_is_none ring text f r (Ok read) h fault found =
     subst (λ x. ReadsFrame ring text x) (sym h.0) (fault_is_none ring text f r h.1 fault found)
@@ -67,7 +71,8 @@ no_taken ring rest none (Took s p f) fits e =
     none s p (frame_text f) fits.0.0 fits.0.1.0 (frame_short f fits.0.1.1.0 fits.0.1.1.1) (same_rest e)
 no_taken ring rest none x fits e = let other = same_first e in omega arith
 
-pub no_frame : (ring : Ring) (rest : List ℕ) (s p : ℕ) (text : List ℕ) → rest ≡ taken_text s p text → Is64 s → Is32 p → IsShort text
+pub no_frame : (ring : Ring) (rest : List ℕ) (s p : ℕ) (text : List ℕ) → rest ≡ taken_text s p text →
+    Is64 s → Is32 p → IsShort text
     → ReadsFrame ring text None → ReadsEvent ring (1 ∷ rest) None
 no_frame ring rest s p text is fs fp ft none (Took s' p' f) fits e =
     let parts = taken-inj s p s' p' text (frame_text f) [] [] fs fits.0.0 fp fits.0.1.0 ft
@@ -75,7 +80,8 @@ no_frame ring rest s p text is fs fp ft none (Took s' p' f) fits e =
     none f (fits.0.1.1.0, fits.1) parts.2
 no_frame ring rest s p text is fs fp ft none x fits e = let other = same_first e in omega arith
 
-pub took_is : (ring : Ring) (rest : List ℕ) (s p : ℕ) (text : List ℕ) (f : Signed Body) → rest ≡ taken_text s p text → Is64 s → Is32 p
+pub took_is : (ring : Ring) (rest : List ℕ) (s p : ℕ) (text : List ℕ) (f : Signed Body) →
+    rest ≡ taken_text s p text → Is64 s → Is32 p
     → ReadsFrame ring text (Some f) → ReadsEvent ring (1 ∷ rest) (Some (kept.Took s p f))
 took_is ring rest s p text f is fs fp found = (
   ap (λ r. 1 ∷ r) (is ∙ ap (taken_text s p) found.0),
@@ -86,7 +92,8 @@ took_is ring rest s p text f is fs fp found = (
 
 pub with_kind : (ring : Ring) (v w : View) (k n : ℕ) (r : Option KeptEvent) → Takes v w (u8_bytes k) → k ≡ n
     → ReadsEvent ring (n ∷ w.rest) r → ReadsEvent ring v.rest r
-with_kind ring v w k n r takes is found = subst (λ b. ReadsEvent ring b r) (sym (takes.bytes ∙ ap (λ m. m ∷ w.rest) is)) found
+with_kind ring v w k n r takes is found =
+    subst (λ b. ReadsEvent ring b r) (sym (takes.bytes ∙ ap (λ m. m ∷ w.rest) is)) found
 
 -- an entry
 
@@ -94,17 +101,20 @@ pub no_entry_stamp : (ring : Ring) (rest : List ℕ) → length rest < 8 → Rea
 no_entry_stamp ring rest less = λ stamp event fits stand e.
     omega (arith, ap length e, length-append (u64_bytes stamp) (event_text event), length-u64_bytes stamp)
 
-pub no_entry_event : (ring : Ring) (v w : View) (n : ℕ) → n < 2 ^ 64 → Takes v w (u64_bytes n) → ReadsEvent ring w.rest None
+pub no_entry_event : (ring : Ring) (v w : View) (n : ℕ) → n < 2 ^ 64 → Takes v w (u64_bytes n) →
+    ReadsEvent ring w.rest None
     → ReadsEntry ring v.rest None
 no_entry_event ring v w n fit takes none = λ stamp event fits stand e.
     none event (fits.1, stand) (u64_bytes-inj n stamp w.rest (event_text event) fit fits.0 (sym takes.bytes ∙ e)).1
 
 -- what a reader answers, in the words of its contract
 
-pub answer_only : (ring : Ring) (bytes : List ℕ) (r : Result (Option (ℕ × KeptEvent)) Want) → IfOk r (ReadsEntry ring bytes)
+pub answer_only : (ring : Ring) (bytes : List ℕ) (r : Result (Option (ℕ × KeptEvent)) Want) →
+    IfOk r (ReadsEntry ring bytes)
     → (stamp : ℕ) (event : Event) → FitsEntry stamp event → TakenStands ring event → bytes ≡ entry_text stamp event
     → IfOk r (IsEntry stamp event)
 answer_only ring bytes (Ok (Some x)) h stamp event fits stand is =
-    let same = entry-inj x.0 stamp (event_of x.1) event [] [] h.1.0 fits (ap (λ t. t ++ []) (sym h.0 ∙ is)) in (same.0, same.1)
+    let same = entry-inj x.0 stamp (event_of x.1) event [] [] h.1.0 fits (ap (λ t. t ++ []) (sym h.0 ∙ is)) in
+    (same.0, same.1)
 answer_only ring bytes (Ok None) h stamp event fits stand is = h stamp event fits stand is
 answer_only ring bytes (Err e) h stamp event fits stand is = tt

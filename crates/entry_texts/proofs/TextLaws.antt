@@ -1,5 +1,6 @@
 -- No text of an entry begins another one's. One law for each piece of the format.
-use Rattle.std.proofs.Common.{◌≡◌, ◌<◌, ◌^◌, ℕ, List, [], ◌∷◌, ◌++◌, length, take, drop, refl, sym, ap, ◌∙◌, arith, append_assoc}
+use Rattle.std.proofs.Common.{◌≡◌, ◌<◌, ◌^◌, ℕ, List, [], ◌∷◌, ◌++◌, length, take, drop, refl, sym, ap, ◌∙◌, arith}
+use Rattle.std.proofs.Common.{append_assoc}
 use Rattle.std.specs.Prelude.{IsTrue}
 use Rattle.std.proofs.lemmas.List.{take_at, drop_at}
 use Rattle.wire_parts.specs.Fields.{u16_bytes, u32_bytes, u64_bytes}
@@ -35,21 +36,25 @@ same_front n a b xs ys la lb e = (
   sym (drop_at a xs n la) ∙ ap (drop n) e ∙ drop_at b ys n lb,
 )
 
-pub counted-inj : (a b xs ys : List ℕ) → IsShort a → IsShort b → counted_text a ++ xs ≡ counted_text b ++ ys → (a ≡ b) × (xs ≡ ys)
+pub counted-inj : (a b xs ys : List ℕ) → IsShort a → IsShort b → counted_text a ++ xs ≡ counted_text b ++ ys →
+    (a ≡ b) × (xs ≡ ys)
 counted-inj a b xs ys fa fb e =
     let e : u32_bytes (length a) ++ (a ++ xs) ≡ u32_bytes (length b) ++ (b ++ ys) =
     sym (append_assoc (u32_bytes (length a)) a xs) ∙ e ∙ append_assoc (u32_bytes (length b)) b ys in
     let count = u32_bytes-inj (length a) (length b) (a ++ xs) (b ++ ys) fa fb e in
     same_front (length b) a b xs ys count.0 refl count.1
 
-taken_apart : (s p : ℕ) (t xs : List ℕ) → taken_text s p t ++ xs ≡ u64_bytes s ++ (u32_bytes p ++ (counted_text t ++ xs))
+taken_apart : (s p : ℕ) (t xs : List ℕ) → taken_text s p t ++ xs ≡ u64_bytes s
+    ++ (u32_bytes p ++ (counted_text t ++ xs))
 taken_apart s p t xs =
-    append_assoc (u64_bytes s) (u32_bytes p ++ counted_text t) xs ∙ ap (λ r. u64_bytes s ++ r) (append_assoc (u32_bytes p) (counted_text t) xs)
+    append_assoc (u64_bytes s) (u32_bytes p ++ counted_text t) xs
+    ∙ ap (λ r. u64_bytes s ++ r) (append_assoc (u32_bytes p) (counted_text t) xs)
 
 pub taken-inj : (s p s' p' : ℕ) (t t' xs ys : List ℕ) → Is64 s → Is64 s' → Is32 p → Is32 p' → IsShort t → IsShort t'
     → taken_text s p t ++ xs ≡ taken_text s' p' t' ++ ys → (s ≡ s') × (p ≡ p') × (t ≡ t') × (xs ≡ ys)
 taken-inj s p s' p' t t' xs ys fs fs' fp fp' ft ft' e =
-    let stamp = u64_bytes-inj s s' (u32_bytes p ++ (counted_text t ++ xs)) (u32_bytes p' ++ (counted_text t' ++ ys)) fs fs'
+    let stamp = u64_bytes-inj s s' (u32_bytes p ++ (counted_text t ++ xs))
+    (u32_bytes p' ++ (counted_text t' ++ ys)) fs fs'
     (sym (taken_apart s p t xs) ∙ e ∙ taken_apart s' p' t' ys) in
     let place = u32_bytes-inj p p' (counted_text t ++ xs) (counted_text t' ++ ys) fp fp' stamp.1 in
     let text = counted-inj t t' xs ys ft ft' place.1 in
@@ -62,13 +67,15 @@ area-inj area.Holding area.Holding e = refl
 area-inj area.Input area.Input e = refl
 area-inj a b e = absurd (omega arith)
 
-change_apart : (a : Area) (p v : ℕ) (xs : List ℕ) → change_text a p v ++ xs ≡ area_number a ∷ (u16_bytes p ++ (u16_bytes v ++ xs))
+change_apart : (a : Area) (p v : ℕ) (xs : List ℕ) → change_text a p v ++ xs ≡ area_number a
+    ∷ (u16_bytes p ++ (u16_bytes v ++ xs))
 change_apart a p v xs = ap (λ r. area_number a ∷ r) (append_assoc (u16_bytes p) (u16_bytes v) xs)
 
 pub change-inj : (a b : Area) (p v p' v' : ℕ) (xs ys : List ℕ) → p < 2 ^ 16 → p' < 2 ^ 16 → v < 2 ^ 16 → v' < 2 ^ 16
     → change_text a p v ++ xs ≡ change_text b p' v' ++ ys → (a ≡ b) × (p ≡ p') × (v ≡ v') × (xs ≡ ys)
 change-inj a b p v p' v' xs ys fp fp' fv fv' e =
-    let e : area_number a ∷ (u16_bytes p ++ (u16_bytes v ++ xs)) ≡ area_number b ∷ (u16_bytes p' ++ (u16_bytes v' ++ ys)) =
+    let e : area_number a ∷ (u16_bytes p ++ (u16_bytes v ++ xs)) ≡ area_number b
+    ∷ (u16_bytes p' ++ (u16_bytes v' ++ ys)) =
     sym (change_apart a p v xs) ∙ e ∙ change_apart b p' v' ys in
     let place = u16_bytes-inj p p' (u16_bytes v ++ xs) (u16_bytes v' ++ ys) fp fp' (same_rest e) in
     let value = u16_bytes-inj v v' xs ys fv fv' place.1 in
@@ -76,7 +83,8 @@ change-inj a b p v p' v' xs ys fp fp' fv fv' e =
 
 pub op-inj : (a b : Op) (xs ys : List ℕ) → FitsOp a → FitsOp b → op_text a ++ xs ≡ op_text b ++ ys → (a ≡ b) × (xs ≡ ys)
 op-inj a b xs ys fa fb e =
-    let both = ok_inj (sym (Spells-op.back a 0 xs refl fa) ∙ ap (λ r. op_at (at 0 r)) e ∙ Spells-op.back b 0 ys refl fb) in
+    let both = ok_inj (sym (Spells-op.back a 0 xs refl fa) ∙ ap (λ r. op_at (at 0 r)) e
+    ∙ Spells-op.back b 0 ys refl fb) in
     (ap (λ z. z.0) both, ap (λ z. z.1.rest) both)
 
 -- a frame's text can be counted in 32 bits
@@ -87,7 +95,8 @@ pub frame-inj : (f g : Signed Body) → FitsFields f → FitsFields g → IsTrue
     → frame_text f ≡ frame_text g → f ≡ g
 frame-inj f g wf wg sf sg e = (no_prefix f g [] [] wf wg sf sg (ap (λ t. t ++ []) e)).0
 
-pub event-inj : (a b : Event) (xs ys : List ℕ) → FitsEvent a → FitsEvent b → event_text a ++ xs ≡ event_text b ++ ys → (a ≡ b) × (xs ≡ ys)
+pub event-inj : (a b : Event) (xs ys : List ℕ) → FitsEvent a → FitsEvent b → event_text a ++ xs ≡ event_text b ++ ys →
+    (a ≡ b) × (xs ≡ ys)
 event-inj (Took s p f) (Took s' p' g) xs ys fa fb e =
     let parts = taken-inj s p s' p' (frame_text f) (frame_text g) xs ys fa.0 fb.0 fa.1.0 fb.1.0
     (frame_short f fa.1.1.0 fa.1.1.1) (frame_short g fb.1.1.0 fb.1.1.1) (same_rest e) in

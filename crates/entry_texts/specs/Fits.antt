@@ -9,8 +9,8 @@ use Rattle.history_rules.specs.Events.{Event, Took, Tick, Command, Field, Poll, 
 abbrev pub IsShort : List ℕ → Type 0
 IsShort bytes = length bytes < 2 ^ 32
 
--- Each number is within the field that it is written in, a frame has a spelling, and the bytes of a cry can be counted in
--- 32 bits. Of these only the last can fail for a value of the program's types.
+-- Each number is within the field that it is written in, a frame has a spelling, and the bytes of a cry can be counted
+-- in 32 bits. Of these only the last can fail for a value of the program's types.
 abbrev pub FitsEvent : Event → Type 0
 FitsEvent (Took stamp place frame) = Is64 stamp × (Is32 place × (FitsFields frame × IsTrue (has_spelling frame)))
 FitsEvent Tick = Unit {0}

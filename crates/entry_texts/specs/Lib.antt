@@ -1,4 +1,4 @@
 pub mod Texts
 pub mod Fits
-pub mod Kept
+pub mod KeptEntries
 pub mod Reads

@@ -14,7 +14,7 @@ use Rattle.checked_frames.specs.Standing.{Ring, stands}
 use Rattle.history_rules.specs.Events.{Event}
 use Rattle.world_entries.specs.declared.entry.Event.{Event as KeptEvent}
 use Rattle.world_entries.specs.Entries.{event_of}
-use Rattle.entry_texts.specs.declared.fields.Taken.{Taken}
+use Rattle.entry_texts.specs.declared.fields.TakenFrame.{TakenFrame}
 use Rattle.entry_texts.specs.declared.fields.Change.{Change}
 use Rattle.entry_texts.specs.Texts.{area_number, counted_text, taken_text, change_text, event_text, entry_text}
 use Rattle.entry_texts.specs.Fits.{IsShort, FitsEvent, FitsEntry, TakenStands}
@@ -48,10 +48,11 @@ ReadsCounted bytes None = NoneSpells counted_text IsShort bytes
 ReadsCounted bytes (Some piece) = (bytes ≡ counted_text piece.now) × IsShort piece.now
 
 -- the text of a frame, with stamp and place
-abbrev pub ReadsTaken : List ℕ → Option Taken → Type 0
+abbrev pub ReadsTaken : List ℕ → Option TakenFrame → Type 0
 ReadsTaken bytes None =
     (stamp place : ℕ) (text : List ℕ) → Is64 stamp → Is32 place → IsShort text → bytes ≡ taken_text stamp place text → ⊥
-ReadsTaken bytes (Some t) = (bytes ≡ taken_text t.stamp t.place t.text.now) × (Is64 t.stamp × (Is32 t.place × IsShort t.text.now))
+ReadsTaken bytes (Some t) = (bytes ≡ taken_text t.stamp t.place t.text.now)
+    × (Is64 t.stamp × (Is32 t.place × IsShort t.text.now))
 
 abbrev pub ReadsChange : List ℕ → Option Change → Type 0
 ReadsChange bytes None =
@@ -71,7 +72,8 @@ ReadsFrame ring bytes (Some f) = (bytes ≡ frame_text f) × (FitsFields f × Is
 -- an event; a frame that it takes stands
 abbrev pub ReadsEvent : Ring → List ℕ → Option KeptEvent → Type 0
 ReadsEvent ring bytes None = NoneSpells event_text (λ e. FitsEvent e × TakenStands ring e) bytes
-ReadsEvent ring bytes (Some e) = (bytes ≡ event_text (event_of e)) × (FitsEvent (event_of e) × TakenStands ring (event_of e))
+ReadsEvent ring bytes (Some e) = (bytes ≡ event_text (event_of e))
+    × (FitsEvent (event_of e) × TakenStands ring (event_of e))
 
 -- an event without fields
 abbrev pub IsBare : List ℕ → KeptEvent → Option KeptEvent → Type 0

@@ -1,6 +1,6 @@
--- How an entry is kept as bytes (this project's own): its stamp, the number of its event's kind, and the event's fields,
--- each number big-endian. Its actor isn't in them, since each actor keeps a list of its own, and neither is what it said,
--- which the rules give for its list.
+-- How an entry is kept as bytes (this project's own): its stamp, the number of its event's kind, and the event's
+-- fields, each number big-endian. Its actor isn't in them, since each actor keeps a list of its own, and neither is
+-- what it said, which the rules give for its list.
 use Rattle.std.specs.Prelude.{ℕ, List, ◌++◌, length}
 use Rattle.wire_parts.specs.Fields.{u8_bytes, u16_bytes, u32_bytes, u64_bytes}
 use Rattle.point_table.specs.declared.point.Area.{Area}

@@ -6,7 +6,7 @@ use wire_parts::Reader;
 
 /// The text of a frame, with the stamp and the place that it was said at.
 #[derive(Drop)]
-pub struct Taken<'a> {
+pub struct TakenFrame<'a> {
     pub stamp: u64,
     pub place: u32,
     pub text: &'a [u8],
@@ -36,7 +36,7 @@ pub fn read_counted<'a>(reader: &mut Reader<'a>) -> Option<&'a [u8]>
     Some(piece)
 }
 
-pub fn read_taken<'a>(reader: &mut Reader<'a>) -> Option<Taken<'a>>
+pub fn read_taken<'a>(reader: &mut Reader<'a>) -> Option<TakenFrame<'a>>
     ensures { ReadsTaken reader.old.rest result }
 {
     let Ok(stamp) = reader.u64() else {
@@ -48,7 +48,7 @@ pub fn read_taken<'a>(reader: &mut Reader<'a>) -> Option<Taken<'a>>
     let Some(text) = read_counted(reader) else {
         return None;
     };
-    Some(Taken { stamp, place, text })
+    Some(TakenFrame { stamp, place, text })
 }
 
 fn read_area(number: u8) -> Option<Area>

@@ -4,7 +4,7 @@ ghost use Rattle.history_rules.specs.Events.{Event as HistoryEvent};
 ghost use Rattle.world_entries.specs.Entries.{event_of};
 ghost use Rattle.entry_texts.specs.Texts.{entry_text};
 ghost use Rattle.entry_texts.specs.Fits.{FitsEntry, TakenStands};
-ghost use Rattle.entry_texts.specs.Kept.{IsKeptEvent, IsKept, SpellsEvent};
+ghost use Rattle.entry_texts.specs.KeptEntries.{IsKeptEvent, IsKept, SpellsEvent};
 ghost use Rattle.entry_texts.specs.Reads.{ReadsSpelled, ReadsFrame, ReadsEvent, ReadsEntry, IsBare, IsEntry};
 
 use crate::fields::{read_change, read_counted, read_op, read_taken};

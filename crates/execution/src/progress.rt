@@ -5,17 +5,18 @@ ghost use Rattle.execution.specs.Progress.{HasCounts, HasDone, IsStopped, HasCli
 
 use indexmap::IndexMap;
 use message_types::Update;
+use quorum_sets::{CLIENT_PLACES, MOST_CLIENTS};
 
 /// The certified update of each master and number.
-pub type Certificates = IndexMap<(u32, u64), Update>;
+pub type CertifiedUpdates = IndexMap<(u32, u64), Update>;
 
 /// Executes the requests from `start` on up to the first that isn't certified, and gives its place.
 pub fn advance(
     requests: &[(u32, u64)],
-    certificates: &Certificates,
+    certificates: &CertifiedUpdates,
     start: usize,
     executed: &mut Vec<Update>,
-    counts: &mut [u64; 12],
+    counts: &mut [u64; CLIENT_PLACES],
 ) -> usize
     requires start { start ≤ length requests.now }
     requires has_room { vec_len executed.old + (length requests.now - start) ≤ vec_capacity executed.old }
@@ -38,9 +39,9 @@ pub fn advance(
 }
 
 /// Keeps an update where its number is the next of its client.
-fn execute(executed: &mut Vec<Update>, counts: &mut [u64; 12], update: &Update)
+fn execute(executed: &mut Vec<Update>, counts: &mut [u64; CLIENT_PLACES], update: &Update)
     requires has_room { vec_len executed.old < vec_capacity executed.old }
-    requires client { update.now.client < 12 }
+    requires client { update.now.client < MOST_CLIENTS }
     ensures room { vec_capacity executed.old ≤ vec_capacity executed.new }
     ensures one { vec_len executed.new ≤ vec_len executed.old + 1 }
     ensures kept { HasCounts executed.old.items counts.old → executed.new.items ≡ kept_after executed.old.items (update.now ∷ []) }

@@ -4,6 +4,7 @@ ghost use Rattle.execution.specs.Ran.{request_of};
 ghost use Rattle.execution.specs.Progress.{requests_from};
 
 use plain_lists::Want;
+use quorum_sets::MOST_MASTERS;
 use std::alloc::Global;
 use summary_matrix::Reach;
 
@@ -14,7 +15,7 @@ pub fn newly_eligible(
     reached: &Reach,
     now: &Reach,
 ) -> Result<Vec<(u32, u64)>, Want>
-    requires { masters ≤ 14 }
+    requires { masters ≤ MOST_MASTERS }
     ensures { IfOk result (λ fresh. map request_of fresh.items ≡ requests_from masters reached.now.numbers now.now.numbers) }
 {
     let mut fresh = Vec::new(alloc);

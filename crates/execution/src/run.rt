@@ -1,18 +1,17 @@
-ghost use Rattle.std.specs.Prelude.{◌≡◌, ◌++◌, ◌∷◌, ◌+◌, ◌≤◌, ◌<◌, ℕ, List, [], Option, None, IsTrue, OnOk, OnErr};
-ghost use Rattle.message_types.specs.declared.updates.Update.{Update as Change};
-ghost use Rattle.protocol_rules.specs.Group.{Group, group_of, most_number};
+ghost use Rattle.std.specs.Prelude.{◌≡◌, ◌+◌, ◌≤◌, ◌<◌, [], None, IsTrue, OnOk, OnErr};
+ghost use Rattle.protocol_rules.specs.Group.{group_of, most_number};
 ghost use Rattle.protocol_rules.specs.Places.{are_rows};
-ghost use Rattle.protocol_rules.specs.Execution.{Request, executed_of, waiting_of};
+ghost use Rattle.protocol_rules.specs.Execution.{executed_of, waiting_of};
 ghost use Rattle.protocol_rules.specs.Matrix as rules;
 ghost use Rattle.summary_matrix.specs.Held.{TellsEach};
-ghost use Rattle.execution.specs.Ran.{IsRunOf, requested, with_certificate};
+ghost use Rattle.execution.specs.Ran.{IsRunOf, LearnsRows, LearnsCertified, Where, requested};
 
-use crate::progress::{Certificates, advance};
+use crate::progress::{CertifiedUpdates, advance};
 use crate::requests::newly_eligible;
 use indexmap::IndexMap;
 use message_types::{Rows, Update};
 use plain_lists::Want;
-use quorum_sets::Sizes;
+use quorum_sets::{CLIENT_PLACES, MASTER_PLACES, MOST_CLIENTS, Sizes};
 use std::alloc::Global;
 use std::marker::Model;
 use summary_matrix::{Reach, eligible};
@@ -28,10 +27,10 @@ pub struct Run {
     requests: Vec<(u32, u64)>,
     /// The place of the first of them that isn't certified.
     at: usize,
-    certificates: Certificates,
+    certificates: CertifiedUpdates,
     executed: Vec<Update>,
     /// How many updates of each client are executed.
-    counts: [u64; 12],
+    counts: [u64; CLIENT_PLACES],
 }
 
 // Taken apart here once, so that no crate above proves it again.
@@ -67,7 +66,7 @@ impl Model for Run {
 impl Run {
     /// A run that took nothing yet.
     pub fn new(alloc: Global, sizes: Sizes, clients: u32) -> Run
-        requires { clients ≤ 12 }
+        requires { clients ≤ MOST_CLIENTS }
         ensures { IsRunOf (group_of sizes clients) result (λ r. None) [] }
     {
         Run {
@@ -75,12 +74,14 @@ impl Run {
             sizes,
             clients,
             numbers: 0,
-            reach: Reach { numbers: [0; 14] },
+            reach: Reach {
+                numbers: [0; MASTER_PLACES],
+            },
             requests: Vec::new(alloc),
             at: 0,
             certificates: IndexMap::new(alloc),
             executed: Vec::new(alloc),
-            counts: [0; 12],
+            counts: [0; CLIENT_PLACES],
         }
     }
 
@@ -90,8 +91,7 @@ impl Run {
         requires number { self.old.numbers < most_number }
         ensures group { self.new.group ≡ self.old.group }
         ensures number { OnOk result (self.new.numbers ≡ self.old.numbers + 1) }
-        ensures ok { OnOk result ((g : Group) (certified : Request → Option Change) (runs : List (List (List ℕ)))
-            → IsRunOf g self.old certified runs → IsRunOf g self.new certified (runs ++ rows.now ∷ [])) }
+        ensures ok { OnOk result (LearnsRows self.old self.new rows.now) }
         ensures err { OnErr result (self.new ≡ self.old) }
     {
         let now = eligible(&self.sizes, rows);
@@ -116,8 +116,7 @@ impl Run {
         requires { update.now.client < self.old.group.clients }
         ensures group { self.new.group ≡ self.old.group }
         ensures numbers { self.new.numbers ≡ self.old.numbers }
-        ensures ok { OnOk result ((g : Group) (certified : Request → Option Change) (runs : List (List (List ℕ)))
-            → IsRunOf g self.old certified runs → IsRunOf g self.new (with_certificate certified j k update.now) runs) }
+        ensures ok { OnOk result (LearnsCertified self.old self.new j k update.now) }
         ensures err { OnErr result (self.new ≡ self.old) }
     {
         if self.certificates.contains_key(&(j, k)) {
@@ -136,8 +135,7 @@ impl Run {
 
     /// The executed updates.
     pub fn list(&self) -> &[Update]
-        ensures { (g : Group) (certified : Request → Option Change) (runs : List (List (List ℕ)))
-            → IsRunOf g self.now certified runs → result.now ≡ executed_of g certified runs }
+        ensures { Where self.now (λ g certified runs. result.now ≡ executed_of g certified runs) }
     {
         self.executed.as_slice()
     }
@@ -151,8 +149,7 @@ impl Run {
 
     /// How far the rows taken make the requests of each master eligible.
     pub fn reach(&self) -> Reach
-        ensures { (g : Group) (certified : Request → Option Change) (runs : List (List (List ℕ)))
-            → IsRunOf g self.now certified runs → TellsEach result.numbers (rules.reach g runs) }
+        ensures { Where self.now (λ g certified runs. TellsEach result.numbers (rules.reach g runs)) }
     {
         self.reach
     }
@@ -160,8 +157,7 @@ impl Run {
     /// The request whose certificate the order waits for, as its master and its number. None exactly where all
     /// eligible requests are certified.
     pub fn waiting_for(&self) -> Option<(u32, u64)>
-        ensures { (g : Group) (certified : Request → Option Change) (runs : List (List (List ℕ)))
-            → IsRunOf g self.now certified runs → requested result ≡ waiting_of g certified runs }
+        ensures { Where self.now (λ g certified runs. requested result ≡ waiting_of g certified runs) }
     {
         if self.at < self.requests.len() {
             Some(self.requests[self.at])

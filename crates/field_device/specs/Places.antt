@@ -1,5 +1,6 @@
 -- What a field device holds, in the four areas of Modbus V1.1b3, section 4.3. Places count from 0.
-use Rattle.std.specs.Prelude.{ℕ, Bool, true, false, not, nat_eq, nat_lt, if◌then◌else◌, List, length, replicate, Option, slice_get, slice_set}
+use Rattle.std.specs.Prelude.{ℕ, Bool, true, false, not, nat_eq, nat_lt, if◌then◌else◌, List, length, replicate}
+use Rattle.std.specs.Prelude.{Option, slice_get, slice_set}
 use Rattle.std.specs.Option.{option_map}
 use Rattle.point_table.specs.declared.point.Area.{Area}
 use Rattle.point_table.specs.declared.point.Area.TheVariants as area

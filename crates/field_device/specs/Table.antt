@@ -1,6 +1,7 @@
--- What a device answers, and what it holds then (Modbus V1.1b3, sections 6.1 to 6.6, 6.11, 6.12 and 7). The order in which
--- exceptions are tried is this project's own: a value that can't be, then a place that isn't there.
-use Rattle.std.specs.Prelude.{ℕ, ◌+◌, ◌*◌, Bool, true, false, ◌&&◌, ◌||◌, not, nat_eq, nat_lt, nat_le, if◌then◌else◌, List, length, take, drop, Option, Some, None, slice_set}
+-- What a device answers, and what it holds then (Modbus V1.1b3, sections 6.1 to 6.6, 6.11, 6.12 and 7). The order in
+-- which exceptions are tried is this project's own: a value that can't be, then a place that isn't there.
+use Rattle.std.specs.Prelude.{ℕ, ◌+◌, ◌*◌, Bool, true, false, ◌&&◌, ◌||◌, not, nat_eq, nat_lt, nat_le, if◌then◌else◌}
+use Rattle.std.specs.Prelude.{List, length, take, drop, Option, Some, None, slice_set}
 use Rattle.modbus_forms.specs.declared.request.Request.{Request}
 use Rattle.modbus_forms.specs.declared.request.RequestPdu.{RequestPdu}
 use Rattle.modbus_forms.specs.declared.request.RequestPdu.TheVariants as request
@@ -34,7 +35,8 @@ refused is_value is_place = if not is_value then Some 3 else if not is_place the
 -- the exception that a request meets, if any: 1 is for a function that the device hasn't
 unfoldable pub exception_for : Places → RequestPdu → Option ℕ
 exception_for d (request.ReadBits f p n) = refused (is_between 1 2000 n) (nat_le (p + n) (length (bits_of d f)))
-exception_for d (request.ReadRegisters f p n) = refused (is_between 1 125 n) (nat_le (p + n) (length (registers_of d f)))
+exception_for d (request.ReadRegisters f p n) =
+    refused (is_between 1 125 n) (nat_le (p + n) (length (registers_of d f)))
 exception_for d (request.WriteCoil p value) = refused (is_coil_value value) (nat_lt p (length d.coils))
 exception_for d (request.WriteRegister p value) = refused true (nat_lt p (length d.holding))
 exception_for d (request.WriteCoils p n bytes) =

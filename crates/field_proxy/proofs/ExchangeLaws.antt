@@ -1,5 +1,6 @@
 -- What a device answers to the requests of a proxy.
-use Rattle.std.proofs.Common.{◌≡◌, ◌<◌, ◌≤◌, ◌+◌, ◌*◌, ◌%◌, ◌^◌, ℕ, suc, zero, Bool, true, false, List, [], ◌∷◌, ◌++◌, length, take, drop, refl, sym, ap, ◌∙◌, arith, inl, inr}
+use Rattle.std.proofs.Common.{◌≡◌, ◌<◌, ◌≤◌, ◌+◌, ◌*◌, ◌%◌, ◌^◌, ℕ, suc, zero, Bool, true, false, List, [], ◌∷◌, ◌++◌}
+use Rattle.std.proofs.Common.{length, take, drop, refl, sym, ap, ◌∙◌, arith, inl, inr}
 use Rattle.std.specs.Prelude.{Option, Some, None, slice_get, nat_eq, nat_le, nat_lt, if◌then◌else◌}
 use Rattle.std.specs.Option.{option_map, option_and_then}
 use Rattle.std.specs.Prelude.{Result, Ok, Err, OnOk, OnErr, ◌⊎◌}
@@ -21,7 +22,8 @@ use Rattle.modbus_forms.specs.Requests.{request_pdu_fits}
 use Rattle.modbus_forms.specs.Widths.{FitsRequestPdu}
 use Rattle.field_device.specs.Places.{Places, value_at, bit_number}
 use Rattle.field_device.specs.Packing.{packed, register_bytes}
-use Rattle.field_device.specs.Table.{exception_for, refused, exception, function_of, plain_reply, written, reply_pdu, after, bits_of, registers_of, coil_on}
+use Rattle.field_device.specs.Table.{exception_for, refused, exception, function_of, plain_reply, written, reply_pdu}
+use Rattle.field_device.specs.Table.{after, bits_of, registers_of, coil_on}
 use Rattle.field_device.proofs.TableLaws.{exception_reply, exception_after, plain_is, written_is}
 use Rattle.field_proxy.specs.Exchanges.{read_pdu, raw_in, exception_in}
 use Rattle.field_proxy.specs.Writes.{write_pdu}
@@ -43,7 +45,8 @@ registers_stay d f p n = refl
 pub after_read : (d : Places) (a : Area) (p : ℕ) → after d (read_pdu a p) ≡ d
 after_read d area.Coil p = read_after d _ (exception_for d (request.ReadBits 1 p 1)) refl (bits_stay d 1 p 1)
 after_read d area.Discrete p = read_after d _ (exception_for d (request.ReadBits 2 p 1)) refl (bits_stay d 2 p 1)
-after_read d area.Holding p = read_after d _ (exception_for d (request.ReadRegisters 3 p 1)) refl (registers_stay d 3 p 1)
+after_read d area.Holding p = read_after d _ (exception_for d (request.ReadRegisters 3 p 1))
+    refl (registers_stay d 3 p 1)
 after_read d area.Input p = read_after d _ (exception_for d (request.ReadRegisters 4 p 1)) refl (registers_stay d 4 p 1)
 
 -- the exception of a write stands in the reply
@@ -61,11 +64,15 @@ register_plain : (d : Places) (p v : ℕ) → exception_in (plain_reply d (reque
 unfolding plain_reply
 register_plain d p v = refl
 
-pub exception_write : (d : Places) (a : Area) (p raw : ℕ) → exception_in (reply_pdu d (write_pdu a p raw)) ≡ exception_for d (write_pdu a p raw)
+pub exception_write : (d : Places) (a : Area) (p raw : ℕ) →
+    exception_in (reply_pdu d (write_pdu a p raw)) ≡ exception_for d (write_pdu a p raw)
 exception_write d area.Coil p raw = told_by d _ (exception_for d (write_pdu area.Coil p raw)) refl (coil_plain d p _)
-exception_write d area.Discrete p raw = told_by d _ (exception_for d (request.WriteRegister p raw)) refl (register_plain d p raw)
-exception_write d area.Holding p raw = told_by d _ (exception_for d (request.WriteRegister p raw)) refl (register_plain d p raw)
-exception_write d area.Input p raw = told_by d _ (exception_for d (request.WriteRegister p raw)) refl (register_plain d p raw)
+exception_write d area.Discrete p raw = told_by d _ (exception_for d (request.WriteRegister p raw))
+    refl (register_plain d p raw)
+exception_write d area.Holding p raw = told_by d _ (exception_for d (request.WriteRegister p raw))
+    refl (register_plain d p raw)
+exception_write d area.Input p raw = told_by d _ (exception_for d (request.WriteRegister p raw))
+    refl (register_plain d p raw)
 
 -- the requests of a proxy have a spelling
 
@@ -98,12 +105,14 @@ write_wide area.Holding p raw fits fits' = (fits, fits')
 write_wide area.Input p raw fits fits' = (fits, fits')
 
 -- the device after a request that only reads, whether the reply came or not
-pub stays : {X : Type 0} (r : Result X Want) (old new aft : Places) → aft ≡ old → OnOk r (new ≡ aft) → OnErr r ((new ≡ old) ⊎ (new ≡ aft)) → new ≡ old
+pub stays : {X : Type 0} (r : Result X Want) (old new aft : Places) → aft ≡ old → OnOk r (new ≡ aft) →
+    OnErr r ((new ≡ old) ⊎ (new ≡ aft)) → new ≡ old
 stays (Ok x) old new aft same ok err = ok ∙ same
 stays (Err e) old new aft same ok err = elim err [ inl is ↦ is | inr is ↦ is ∙ same ]
 
 -- what a device gives for a point, from the raw value in its reply
-pub given_some : (d : Places) (p : Point) (raw : ℕ) → raw_in (reply_pdu d (read_pdu p.area p.place)) ≡ Some raw → given d p ≡ in_64_bits (scaled p raw)
+pub given_some : (d : Places) (p : Point) (raw : ℕ) → raw_in (reply_pdu d (read_pdu p.area p.place)) ≡ Some raw →
+    given d p ≡ in_64_bits (scaled p raw)
 unfolding given
 given_some d p raw is = ap (option_and_then (λ raw. in_64_bits (scaled p raw))) is
 

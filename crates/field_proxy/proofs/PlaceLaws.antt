@@ -1,5 +1,6 @@
 -- Places written and put back.
-use Rattle.std.proofs.Common.{◌≡◌, ◌<◌, ◌≤◌, ℕ, suc, zero, Bool, true, false, List, [], ◌∷◌, ◌++◌, length, refl, sym, ap, ◌∙◌, arith, inl, inr}
+use Rattle.std.proofs.Common.{◌≡◌, ◌<◌, ◌≤◌, ℕ, suc, zero, Bool, true, false, List, [], ◌∷◌, ◌++◌, length, refl, sym}
+use Rattle.std.proofs.Common.{ap, ◌∙◌, arith, inl, inr}
 use Rattle.std.specs.Prelude.{◌⊎◌, Option, Some, None, slice_get, slice_set, nat_eq, if◌then◌else◌}
 use Rattle.std.specs.Option.{option_map}
 use Rattle.std.proofs.lemmas.List.{set-get_or, set_past}
@@ -37,13 +38,15 @@ changed_out d area.Input p value out = ap (λ l. record d { input = l }) (set_pa
 -- what a bit or a register held, put back over it
 
 coil_back : (d now : Places) (p : ℕ) (found : Option Bool) → slice_get d.coils p ≡ found
-    → ((b : Bool) → slice_get d.coils p ≡ Some b → changed now area.Coil p (bit_number b) ≡ d) → (slice_get d.coils p ≡ None → now ≡ d)
+    → ((b : Bool) → slice_get d.coils p ≡ Some b → changed now area.Coil p (bit_number b) ≡ d) →
+    (slice_get d.coils p ≡ None → now ≡ d)
     → put_back (record { area = area.Coil; place = p; value = option_map bit_number found }) now ≡ d
 coil_back d now p (Some b) is some none = some b is
 coil_back d now p None is some none = none is
 
 holding_back : (d now : Places) (p : ℕ) (found : Option ℕ) → slice_get d.holding p ≡ found
-    → ((x : ℕ) → slice_get d.holding p ≡ Some x → changed now area.Holding p x ≡ d) → (slice_get d.holding p ≡ None → now ≡ d)
+    → ((x : ℕ) → slice_get d.holding p ≡ Some x → changed now area.Holding p x ≡ d) →
+    (slice_get d.holding p ≡ None → now ≡ d)
     → put_back (record { area = area.Holding; place = p; value = found }) now ≡ d
 holding_back d now p (Some x) is some none = some x is
 holding_back d now p None is some none = none is
@@ -51,16 +54,19 @@ holding_back d now p None is some none = none is
 none_out : {X : Type 0} (l : List X) (i : ℕ) → slice_get l i ≡ None → length l ≤ i
 none_out l i is = elim (slice_get_cases l i).1 [ inl found ↦ let some = found.2 in absurd (cc) | inr out ↦ out.0 ]
 
-coil_none : (d : Places) (p : ℕ) (x : Bool) → slice_get d.coils p ≡ None → record d { coils = slice_set d.coils p x } ≡ d
+coil_none : (d : Places) (p : ℕ) (x : Bool) → slice_get d.coils p ≡ None →
+    record d { coils = slice_set d.coils p x } ≡ d
 coil_none d p x is = ap (λ l. record d { coils = l }) (set_past d.coils p x (none_out d.coils p is))
 
-holding_none : (d : Places) (p : ℕ) (x : ℕ) → slice_get d.holding p ≡ None → record d { holding = slice_set d.holding p x } ≡ d
+holding_none : (d : Places) (p : ℕ) (x : ℕ) → slice_get d.holding p ≡ None →
+    record d { holding = slice_set d.holding p x } ≡ d
 holding_none d p x is = ap (λ l. record d { holding = l }) (set_past d.holding p x (none_out d.holding p is))
 
 coil_same : (d : Places) (p : ℕ) (x b : Bool) → slice_get d.coils p ≡ Some b
     → changed (record d { coils = slice_set d.coils p x }) area.Coil p (bit_number b) ≡ d
 coil_same d p x b is =
-    ap (λ l. record d { coils = l }) (ap (slice_set (slice_set d.coils p x) p) (is_set-bit_number b) ∙ set_twice d.coils p x b ∙ set_back d.coils p b is)
+    ap (λ l. record d { coils = l }) (ap (slice_set (slice_set d.coils p x) p) (is_set-bit_number b)
+    ∙ set_twice d.coils p x b ∙ set_back d.coils p b is)
 
 holding_same : (d : Places) (p x y : ℕ) → slice_get d.holding p ≡ Some y
     → changed (record d { holding = slice_set d.holding p x }) area.Holding p y ≡ d
@@ -73,11 +79,13 @@ held d a p = record { area = a; place = p; value = value_at d a p }
 coil_held : (d : Places) (p : ℕ) → put_back (held d area.Coil p) d ≡ d
 coil_held d p =
     coil_back d d p (slice_get d.coils p) refl
-    (λ b is. ap (λ l. record d { coils = l }) (ap (slice_set d.coils p) (is_set-bit_number b) ∙ set_back d.coils p b is)) (λ is. refl)
+    (λ b is. ap (λ l. record d { coils = l }) (ap (slice_set d.coils p) (is_set-bit_number b)
+    ∙ set_back d.coils p b is)) (λ is. refl)
 
 holding_held : (d : Places) (p : ℕ) → put_back (held d area.Holding p) d ≡ d
 holding_held d p =
-    holding_back d d p (slice_get d.holding p) refl (λ x is. ap (λ l. record d { holding = l }) (set_back d.holding p x is)) (λ is. refl)
+    holding_back d d p (slice_get d.holding p) refl
+    (λ x is. ap (λ l. record d { holding = l }) (set_back d.holding p x is)) (λ is. refl)
 
 coil_written : (d : Places) (p v : ℕ) → put_back (held d area.Coil p) (written d (request.WriteCoil p v)) ≡ d
 unfolding written
@@ -88,9 +96,11 @@ coil_written d p v =
 holding_written : (d : Places) (p v : ℕ) → put_back (held d area.Holding p) (written d (request.WriteRegister p v)) ≡ d
 unfolding written
 holding_written d p v =
-    holding_back d (record d { holding = slice_set d.holding p v }) p (slice_get d.holding p) refl (holding_same d p v) (holding_none d p v)
+    holding_back d (record d { holding = slice_set d.holding p v }) p (slice_get d.holding p) refl
+    (holding_same d p v) (holding_none d p v)
 
-after_back : (d : Places) (h : Held) (r : RequestPdu) (e : Option ℕ) → exception_for d r ≡ e → put_back h d ≡ d → put_back h (written d r) ≡ d
+after_back : (d : Places) (h : Held) (r : RequestPdu) (e : Option ℕ) → exception_for d r ≡ e → put_back h d ≡ d →
+    put_back h (written d r) ≡ d
     → put_back h (after d r) ≡ d
 after_back d h r (Some code) is same back = ap (put_back h) (exception_after d r code is) ∙ same
 after_back d h r None is same back = ap (put_back h) (written_is d r is) ∙ back
@@ -105,13 +115,17 @@ put_back_same d area.Input p = holding_held d p
 abbrev coil_value : ℕ → ℕ
 coil_value raw = if nat_eq raw 0 then 0 else coil_on
 
-register_written : (d : Places) (p raw : ℕ) → put_back (held d area.Holding p) (after d (request.WriteRegister p raw)) ≡ d
+register_written : (d : Places) (p raw : ℕ) →
+    put_back (held d area.Holding p) (after d (request.WriteRegister p raw)) ≡ d
 register_written d p raw =
-    after_back d (held d area.Holding p) (request.WriteRegister p raw) (exception_for d (request.WriteRegister p raw)) refl (holding_held d p) (holding_written d p raw)
+    after_back d (held d area.Holding p) (request.WriteRegister p raw) (exception_for d (request.WriteRegister p raw))
+    refl (holding_held d p) (holding_written d p raw)
 
-pub put_back_written : (d : Places) (a : Area) (p raw : ℕ) → put_back (held d (written_area a) p) (after d (write_pdu a p raw)) ≡ d
+pub put_back_written : (d : Places) (a : Area) (p raw : ℕ) →
+    put_back (held d (written_area a) p) (after d (write_pdu a p raw)) ≡ d
 put_back_written d area.Coil p raw =
-    after_back d (held d area.Coil p) (write_pdu area.Coil p raw) (exception_for d (write_pdu area.Coil p raw)) refl (coil_held d p) (coil_written d p (coil_value raw))
+    after_back d (held d area.Coil p) (write_pdu area.Coil p raw) (exception_for d (write_pdu area.Coil p raw)) refl
+    (coil_held d p) (coil_written d p (coil_value raw))
 put_back_written d area.Discrete p raw = register_written d p raw
 put_back_written d area.Holding p raw = register_written d p raw
 put_back_written d area.Input p raw = register_written d p raw
@@ -127,7 +141,8 @@ held_at d p a = held d a p
 
 -- a log with the place that a request may have written
 pub undone_write : (items log : List Held) (d now : Places) (a written_to : Area) (p raw : ℕ) (value : Option ℕ)
-    → items ≡ log ++ record { area = written_to; place = p; value = value } ∷ [] → written_to ≡ written_area a → value ≡ value_at d written_to p
+    → items ≡ log ++ record { area = written_to; place = p; value = value } ∷ [] → written_to ≡ written_area a →
+    value ≡ value_at d written_to p
     → (now ≡ d) ⊎ (now ≡ after d (write_pdu a p raw)) → undone items now ≡ undone log d
 undone_write items log d now a written_to p raw value is to was may =
     let h : Held = record { area = written_to; place = p; value = value } in

@@ -1,6 +1,8 @@
--- The requests of a proxy, one for a point, what it takes from the replies, and the bytes that pass on the line to its device
--- (MODBUS Messaging on TCP/IP Implementation Guide V1.0b; which transactions and which unit is this project's own).
-use Rattle.std.specs.Prelude.{ℕ, ◌+◌, ◌%◌, nat_lt, if◌then◌else◌, List, [], ◌∷◌, ◌++◌, length, Option, Some, None, slice_get}
+-- The requests of a proxy, one for a point, what it takes from the replies, and the bytes that pass on the line to its
+-- device (MODBUS Messaging on TCP/IP Implementation Guide V1.0b; which transactions and which unit is this project's
+-- own).
+use Rattle.std.specs.Prelude.{ℕ, ◌+◌, ◌%◌, nat_lt, if◌then◌else◌, List, [], ◌∷◌, ◌++◌, length, Option, Some, None}
+use Rattle.std.specs.Prelude.{slice_get}
 use Rattle.std.specs.Option.{option_map}
 use Rattle.wire_parts.specs.Fields.{u16_at}
 use Rattle.point_table.specs.declared.point.Area.{Area}
@@ -41,7 +43,11 @@ request_with transaction pdu = record { transaction = transaction; unit = 1; pdu
 
 -- the bytes of a request under a transaction, and those of the device's reply to it
 abbrev pub exchange_of : ℕ → Places → RequestPdu → Exchange
-exchange_of transaction d pdu = record { request = request_text (request_with transaction pdu); reply = reply_text (reply_to d (request_with transaction pdu)) }
+exchange_of transaction d pdu = record {
+  request = request_text (request_with transaction pdu);
+  reply =
+      reply_text (reply_to d (request_with transaction pdu));
+}
 
 -- transactions go from 1 upwards, and on from 0 after 65,535
 abbrev pub next_transaction : ℕ → ℕ
@@ -49,15 +55,19 @@ next_transaction last = (last + 1) % 65536
 
 -- the line after one request more
 unfoldable pub line_with : Line → Places → RequestPdu → Line
-line_with line d pdu = record { last = next_transaction line.last; passed = line.passed ++ exchange_of (next_transaction line.last) d pdu ∷ [] }
+line_with line d pdu = record {
+  last = next_transaction line.last;
+  passed =
+      line.passed ++ exchange_of (next_transaction line.last) d pdu ∷ [];
+}
 
 -- the line after requests in turn, each of which meets the device as the ones before left it
 abbrev pub line_after : Line → Places → List RequestPdu → Line
 line_after line d [] = line
 line_after line d (pdu ∷ rest) = line_after (line_with line d pdu) (after d pdu) rest
 
--- the line once a proxy has asked all of these: what passed for them is kept in place of what passed before. Where it asks
--- nothing, the line stays
+-- the line once a proxy has asked all of these: what passed for them is kept in place of what passed before. Where it
+-- asks nothing, the line stays
 abbrev pub asked : Line → Places → List RequestPdu → Line
 asked line d [] = line
 asked line d (pdu ∷ rest) = line_after (record { last = line.last; passed = [] }) d (pdu ∷ rest)

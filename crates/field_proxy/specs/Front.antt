@@ -15,9 +15,9 @@ use Rattle.field_proxy.specs.Exchanges.{asked}
 use Rattle.field_proxy.specs.Readings.{poll_requests, readings, last_in, told, numbered}
 use Rattle.field_proxy.specs.Writes.{can_write, order_requests, after_orders, kept_orders}
 
--- its number among the clients, the masters' number, how many of them may be intruded, all points of the plant, what the
--- device holds, the line to it, the value last said of each point, how many updates were said, the votes taken that count,
--- the writes made
+-- its number among the clients, the masters' number, how many of them may be intruded, all points of the plant, what
+-- the device holds, the line to it, the value last said of each point, how many updates were said, the votes taken that
+-- count, the writes made
 pub record Front : Type 0 where
   pub client : ℕ
   pub n : ℕ

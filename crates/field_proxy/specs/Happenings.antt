@@ -1,5 +1,6 @@
 -- What happens to a proxy. Its state and its words are functions of its own list of happenings.
-use Rattle.std.specs.Prelude.{◌≡◌, ◌<◌, ℕ, nat_eq, if◌then◌else◌, List, [], ◌∷◌, ◌++◌, length, map, Option, Some, None, ℤ}
+use Rattle.std.specs.Prelude.{◌≡◌, ◌<◌, ℕ, nat_eq, if◌then◌else◌, List, [], ◌∷◌, ◌++◌, length, map, Option, Some}
+use Rattle.std.specs.Prelude.{None, ℤ}
 use Rattle.message_types.specs.declared.updates.Op.{Op}
 use Rattle.message_types.specs.declared.updates.Op.TheVariants as op
 use Rattle.message_types.specs.declared.updates.Update.{Update}
@@ -51,7 +52,8 @@ votes_of (Vouched vote ∷ rest) = vote ∷ votes_of rest
 -- the writes of a proxy are the orders done on the votes that it took, whatever else happened
 abbrev pub WritesAreDone : Type 0
 WritesAreDone = (client n f : ℕ) (points : List Point) (sizes : DeviceSizes) (happenings : List Happening)
-    → map order_of (front_after (fresh client n f points sizes) happenings).writes ≡ orders_done (can_write points client) client n f (votes_of happenings)
+    → map order_of (front_after (fresh client n f points sizes) happenings).writes ≡ orders_done
+    (can_write points client) client n f (votes_of happenings)
 
 -- all that it said
 abbrev pub all_said : Front → List Happening → List Update
@@ -69,6 +71,7 @@ last_said before (u ∷ rest) number = last_said (said_of u.op number before) re
 
 -- the values that a proxy compares its readings with are those that it last said
 abbrev pub LastsAreSaid : Type 0
-LastsAreSaid = (client n f : ℕ) (points : List Point) (sizes : DeviceSizes) (happenings : List Happening) (number : ℕ) → number < length points
+LastsAreSaid = (client n f : ℕ) (points : List Point) (sizes : DeviceSizes) (happenings : List Happening)
+    (number : ℕ) → number < length points
     → last_in (front_after (fresh client n f points sizes) happenings).lasts number
     ≡ last_said None (all_said (fresh client n f points sizes) happenings) number

@@ -1,5 +1,6 @@
 -- What a proxy reads of its points, and which readings it has to say. (This project's own.)
-use Rattle.std.specs.Prelude.{ℕ, suc, ◌+◌, Bool, true, false, ◌&&◌, not, nat_eq, if◌then◌else◌, List, [], ◌∷◌, ◌++◌, length, filter, map, Option, Some, None, slice_get, slice_set, ℤ}
+use Rattle.std.specs.Prelude.{ℕ, suc, ◌+◌, Bool, true, false, ◌&&◌, not, nat_eq, if◌then◌else◌, List, [], ◌∷◌, ◌++◌}
+use Rattle.std.specs.Prelude.{length, filter, map, Option, Some, None, slice_get, slice_set, ℤ}
 use Rattle.std.specs.Option.{option_and_then}
 use Rattle.std.specs.Ordering.{int_eq}
 use Rattle.std.specs.Prelude.{int_le, pos, negsuc, ◌-◌, ◌^◌}
@@ -25,8 +26,8 @@ is_i64 z = int_le (negsuc (2 ^ 63 - 1)) z && int_le z (pos (2 ^ 63 - 1))
 abbrev pub in_64_bits : ℤ → Option ℤ
 in_64_bits z = if is_i64 z then Some z else None
 
--- the value that a device gives for a point: what its reply to the point's request stands for. There is none where the device
--- has no such place, or where 64 bits can't hold the value
+-- the value that a device gives for a point: what its reply to the point's request stands for. There is none where the
+-- device has no such place, or where 64 bits can't hold the value
 unfoldable pub given : Places → Point → Option ℤ
 given d p = option_and_then (λ raw. in_64_bits (scaled p raw)) (raw_in (reply_pdu d (read_pdu p.area p.place)))
 
@@ -35,11 +36,12 @@ abbrev pub was_said : Option ℤ → ℤ → Bool
 was_said None v = false
 was_said (Some last) v = int_eq last v
 
--- the reading of a point that is to be said, if any: of one of the client's own points, whose value is another than the one
--- last said for it
+-- the reading of a point that is to be said, if any: of one of the client's own points, whose value is another than the
+-- one last said for it
 abbrev pub reading_of : ℕ → ℕ → Point → Option ℤ → Option ℤ → List Op
 reading_of client number p None last = []
-reading_of client number p (Some v) last = if nat_eq p.proxy client && not (was_said last v) then op.Reading number v ∷ [] else []
+reading_of client number p (Some v) last = if nat_eq p.proxy client
+    && not (was_said last v) then op.Reading number v ∷ [] else []
 
 -- of the point with a number
 abbrev pub reading_at : Places → ℕ → List Point → (ℕ → Option ℤ) → ℕ → List Op

@@ -1,6 +1,7 @@
--- What a proxy writes. Order number x is written once the numbers before it are and more than f masters have vouched for one
--- and the same order as number x (`vouched_orders`); here is which orders count, and what writing them does.
-use Rattle.std.specs.Prelude.{ℕ, suc, Bool, true, false, ◌&&◌, nat_eq, if◌then◌else◌, List, [], ◌∷◌, ◌++◌, Option, Some, None, slice_get}
+-- What a proxy writes. Order number x is written once the numbers before it are and more than f masters have vouched
+-- for one and the same order as number x (`vouched_orders`); here is which orders count, and what writing them does.
+use Rattle.std.specs.Prelude.{ℕ, suc, Bool, true, false, ◌&&◌, nat_eq, if◌then◌else◌, List, [], ◌∷◌, ◌++◌, Option}
+use Rattle.std.specs.Prelude.{Some, None, slice_get}
 use Rattle.message_types.specs.declared.vouchers.Order.{Order}
 use Rattle.message_types.specs.declared.vouchers.Order.TheVariants as order
 use Rattle.point_table.specs.declared.point.Area.{Area}
@@ -65,7 +66,8 @@ after_order points d (order.Write number raw) = after_write d (slice_get points 
 -- what is kept of one order, under its number, with the exception that the device answers it with
 abbrev pub kept : Places → ℕ → ℕ → ℕ → Option Point → List Write
 kept d x number raw None = []
-kept d x number raw (Some p) = record { number = x; point = number; raw = raw; exception = exception_for d (write_request p raw) } ∷ []
+kept d x number raw (Some p) =
+    record { number = x; point = number; raw = raw; exception = exception_for d (write_request p raw) } ∷ []
 
 abbrev pub kept_of : List Point → Places → ℕ → Order → List Write
 kept_of points d x (order.Notice n) = []

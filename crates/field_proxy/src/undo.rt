@@ -6,7 +6,7 @@ use point_table::Area;
 use std::alloc::Global;
 
 /// What a place held before it was written, if the device has the place.
-#[derive(Clone, Copy, Debug)]
+#[derive(Clone, Copy)]
 pub struct Held {
     pub area: Area,
     pub place: u16,

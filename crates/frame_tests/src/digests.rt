@@ -1,5 +1,4 @@
-use message_digests::{rows_digest, update_digest};
-use message_types::{Op, Rows, Update};
+use message_types::{Op, Rows, Update, rows_digest, update_digest};
 use plain_lists::{Items, Vector};
 use std::test::Fail;
 

@@ -1,4 +1,4 @@
-use hash_signatures::{KeyAnswer, KeyState, Ots, SignAnswer, verify};
+use hash_signatures::{KeyAnswer, KeyState, KnownKeys, Ots, SignAnswer, verify};
 use std::test::Fail;
 
 const SEED: [u8; 32] = [7; 32];
@@ -31,6 +31,25 @@ fn two_levels_sign_on_under_a_new_lower_tree(rt: HostRuntime) -> Result<(), Fail
         );
     }
     assert_eq!(rt; key.left(), 1024 - 33);
+    Ok(())
+}
+
+// A known signed key verifies again, and no other in its place; the 33rd signature has a new lower tree.
+#[test]
+fn known_keys_change_no_answer(rt: HostRuntime) -> Result<(), Fail> {
+    let mut key = KeyState::resume(rt.alloc(), &SEED, &ID, &[5, 5], Ots::W4, 31)?;
+    let public = key.public();
+    let mut known = KnownKeys::new(rt.alloc());
+    for _ in 0..2 {
+        let mut sig = key.sign(b"trip breaker 4")?;
+        assert!(rt; known.verify(&public, b"trip breaker 4", &sig));
+        assert!(rt; known.verify(&public, b"trip breaker 4", &sig));
+        assert!(rt; !known.verify(&public, b"trip breaker 5", &sig));
+        if let Some(byte) = sig.get_mut(100) {
+            *byte ^= 1;
+        }
+        assert!(rt; !known.verify(&public, b"trip breaker 4", &sig));
+    }
     Ok(())
 }
 

@@ -1,5 +1,5 @@
 use crate::bytes::{PLAIN, SUMMARY, framed, offered};
-use checked_frames::{CheckRefusal, KeyRing, check, parts};
+use checked_frames::{CheckRefusal, KeyRing, RingMemory, check_with, parts};
 use hash_signatures::{KeyState, Ots};
 use message_forms::read_frame;
 use message_types::Body;
@@ -8,7 +8,7 @@ use std::alloc::Global;
 use std::test::Fail;
 
 fn key_of(alloc: Global, actor: u8) -> Result<KeyState, Fail> {
-    let key = KeyState::make(alloc, &[actor; 32], &[actor; 16], &[5], Ots::W4)?;
+    let key = KeyState::make(alloc, &[actor; 32], &[actor; 16], &[5, 5], Ots::W4)?;
     Ok(key)
 }
 
@@ -57,10 +57,13 @@ fn changed_summary(alloc: Global) -> Result<Vec<u8>, Fail> {
     Ok(summary)
 }
 
-// Why the frame with these bytes is refused.
+// Why the frame with these bytes is refused, when it is checked once more.
 fn refusal_of(alloc: Global, ring: &KeyRing, bytes: &[u8]) -> Result<Option<CheckRefusal>, Fail> {
+    let mut memory = RingMemory::new(alloc, ring);
+    let first = read_frame(alloc, bytes)?;
+    let _refusal = check_with(alloc, ring, &mut memory, first).err();
     let frame = read_frame(alloc, bytes)?;
-    Ok(check(alloc, ring, frame).err())
+    Ok(check_with(alloc, ring, &mut memory, frame).err())
 }
 
 fn signers_of(alloc: Global, parts: &[(u32, Body)]) -> Result<Vec<u32>, Fail> {
@@ -74,7 +77,8 @@ fn signers_of(alloc: Global, parts: &[(u32, Body)]) -> Result<Vec<u32>, Fail> {
 // The signers of the parts of the frame with these bytes, where it stands.
 fn standing_signers(alloc: Global, ring: &KeyRing, bytes: &[u8]) -> Result<Vec<u32>, Fail> {
     let frame = read_frame(alloc, bytes)?;
-    let checked = check(alloc, ring, frame)?;
+    let mut memory = RingMemory::new(alloc, ring);
+    let checked = check_with(alloc, ring, &mut memory, frame)?;
     let list = parts(alloc, &checked)?;
     signers_of(alloc, &list)
 }

@@ -1,55 +1,58 @@
 -- What a function gives of the numbers below n.
-use Rattle.std.proofs.Common.{◌≡◌, ℕ, ◌+◌, ◌≤◌, Bool, true, false, cond, List, [], ◌∷◌, ◌++◌, Option, Some, None, is_some, length, refl, ◌∙◌, ap, arith, add-one, length-append}
-use mir.Val.{bool_byte}
+use Rattle.std.proofs.Common.{◌≡◌, ℕ, ◌+◌, ◌≤◌, true, false, cond, List, [], ◌∷◌, ◌++◌, Option, Some, None, is_some}
+use Rattle.std.proofs.Common.{length, refl, ◌∙◌, ap, arith, add-one, length-append}
 use Rattle.std.specs.List.{filter_map, cons_option}
 use Rattle.std.specs.Option.{option_map, option_to_list}
 use Rattle.std.proofs.lemmas.List.Elements.{filter_map-append}
 use Rattle.quorum_sets.specs.Masters.{numbers_below}
 use Rattle.quorum_sets.proofs.MastersLemmas.{numbers_below-suc}
 use Rattle.global_order.specs.Index.{given}
+pub use Rattle.quorum_sets.proofs.MastersLemmas.{at_most_one, bool_byte-cond}
 
 pub given-none : {X : Type 0} (f : ℕ → Option X) → given f 0 ≡ []
 unfolding numbers_below
 given-none f = refl
 
 pub given-more : {X : Type 0} (f : ℕ → Option X) (n : ℕ) → given f (n + 1) ≡ given f n ++ cons_option (f n) []
-given-more f n = ap (given f) (add-one n) ∙ ap (filter_map f) (numbers_below-suc n) ∙ filter_map-append f (numbers_below n) (n ∷ [])
+given-more f n = ap (given f) (add-one n) ∙ ap (filter_map f) (numbers_below-suc n)
+    ∙ filter_map-append f (numbers_below n) (n ∷ [])
 
 length-one : {X : Type 0} (o : Option X) → length (cons_option o []) ≡ cond (is_some o) 1 0
 length-one None = refl
 length-one (Some x) = refl
 
-pub given-count : {X : Type 0} (f : ℕ → Option X) (n : ℕ) → length (given f (n + 1)) ≡ length (given f n) + cond (is_some (f n)) 1 0
-given-count f n = ap length (given-more f n) ∙ length-append (given f n) (cons_option (f n) []) ∙ ap (λ k. length (given f n) + k) (length-one (f n))
+pub given-count : {X : Type 0} (f : ℕ → Option X) (n : ℕ) →
+    length (given f (n + 1)) ≡ length (given f n) + cond (is_some (f n)) 1 0
+given-count f n = ap length (given-more f n) ∙ length-append (given f n) (cons_option (f n) [])
+    ∙ ap (λ k. length (given f n) + k) (length-one (f n))
 
 -- as many as before, whatever is made of each
-pub length-map : {X Y : Type 0} (h : ℕ → X → Y) (f : ℕ → Option X) (ns : List ℕ) → length (filter_map (λ m. option_map (h m) (f m)) ns) ≡ length (filter_map f ns)
+pub length-map : {X Y : Type 0} (h : ℕ → X → Y) (f : ℕ → Option X) (ns : List ℕ) →
+    length (filter_map (λ m. option_map (h m) (f m)) ns) ≡ length (filter_map f ns)
 length-map h f [] = refl
 length-map {X} {Y} h f (n ∷ ns) = by (f n) (length-map h f ns)
   where
     by : (o : Option X) → length (filter_map (λ m. option_map (h m) (f m)) ns) ≡ length (filter_map f ns) →
-        length (cons_option (option_map (h n) o) (filter_map (λ m. option_map (h m) (f m)) ns)) ≡ length (cons_option o (filter_map f ns))
+        length (cons_option (option_map (h n) o) (filter_map (λ m. option_map (h m) (f m)) ns)) ≡ length
+        (cons_option o (filter_map f ns))
     by None more = more
-    by (Some x) more = let one : length (h n x ∷ filter_map (λ m. option_map (h m) (f m)) ns) ≡ length (x ∷ filter_map f ns) = omega arith in one
+    by (Some x) more = let one : length (h n x ∷ filter_map (λ m. option_map (h m) (f m)) ns) ≡ length
+        (x ∷ filter_map f ns) = omega arith in one
 
 -- where each keeps what it had there are at least as many
-pub length-grows : {X : Type 0} (f h : ℕ → Option X) (ns : List ℕ) → ((n : ℕ) → is_some (f n) ≡ true → is_some (h n) ≡ true) → length (filter_map f ns) ≤ length (filter_map h ns)
+pub length-grows : {X : Type 0} (f h : ℕ → Option X) (ns : List ℕ) →
+    ((n : ℕ) → is_some (f n) ≡ true → is_some (h n) ≡ true) → length (filter_map f ns) ≤ length (filter_map h ns)
 length-grows f h [] keeps = omega arith
 length-grows {X} f h (n ∷ ns) keeps = by (f n) (h n) (keeps n) (length-grows f h ns keeps)
   where
-    by : (o p : Option X) → (is_some o ≡ true → is_some p ≡ true) → length (filter_map f ns) ≤ length (filter_map h ns) → length (cons_option o (filter_map f ns)) ≤ length (cons_option p (filter_map h ns))
+    by : (o p : Option X) → (is_some o ≡ true → is_some p ≡ true) →
+        length (filter_map f ns) ≤ length (filter_map h ns) → length (cons_option o (filter_map f ns)) ≤ length
+        (cons_option p (filter_map h ns))
     by None None there more = more
     by None (Some y) there more = let one : length (filter_map f ns) ≤ length (y ∷ filter_map h ns) = omega arith in one
-    by (Some x) (Some y) there more = let one : length (x ∷ filter_map f ns) ≤ length (y ∷ filter_map h ns) = omega arith in one
+    by (Some x) (Some y) there more = let one : length (x ∷ filter_map f ns) ≤ length (y ∷ filter_map h ns) =
+        omega arith in one
     by (Some x) None there more = let no : false ≡ true = there refl in absurd (cc)
-
-pub at_most_one : (b : Bool) → cond b 1 0 ≤ 1
-at_most_one true = omega arith
-at_most_one false = omega arith
-
-pub bool_byte-cond : (b : Bool) → bool_byte b ≡ cond b 1 0
-bool_byte-cond true = refl
-bool_byte-cond false = refl
 
 pub option-list : {X : Type 0} (o : Option X) → option_to_list o ≡ cons_option o []
 option-list None = refl

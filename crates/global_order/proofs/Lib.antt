@@ -18,3 +18,4 @@ pub mod Touching
 pub mod Waits
 pub mod Beginning
 pub mod Certifying
+pub mod Learning

@@ -11,10 +11,15 @@ use Rattle.global_order.specs.Saying.{HasMarked}
 
 pub mark-none : (said bodies : List Body) (s : ℕ) → (s % 8 ≡ 0 → ⊥) → bodies ≡ bodies ++ mark_due said s
 unfolding mark_step
-mark-none said bodies s ne = sym (ap (λ b. bodies ++ cond (b && not (list_any (marks_said s) said)) (body.Mark record { s = s } ∷ []) []) (ne_eqb (s % 8) 0 ne) ∙ append-nil bodies)
+mark-none said bodies s ne =
+    sym (ap (λ b. bodies ++ cond (b && not (list_any (marks_said s) said)) (body.Mark record { s = s } ∷ []) [])
+    (ne_eqb (s % 8) 0 ne) ∙ append-nil bodies)
 
-pub mark-one : (said bodies : List Body) (marked s : ℕ) → s % 8 ≡ 0 → marked < s → HasMarked said marked → bodies ++ body.Mark record { s = s } ∷ [] ≡ bodies ++ mark_due said s
+pub mark-one : (said bodies : List Body) (marked s : ℕ) → s % 8 ≡ 0 → marked < s → HasMarked said marked →
+    bodies ++ body.Mark record { s = s } ∷ [] ≡ bodies ++ mark_due said s
 unfolding mark_step
 mark-one said bodies marked s multiple above has =
-    sym (ap (λ b. bodies ++ cond (b && not (list_any (marks_said s) said)) (body.Mark record { s = s } ∷ []) []) (eq-eqb (s % 8) 0 multiple)
-    ∙ ap (λ b. bodies ++ cond (not b) (body.Mark record { s = s } ∷ []) []) (has s (omega arith) multiple ∙ lt-leb s marked above))
+    sym (ap (λ b. bodies ++ cond (b && not (list_any (marks_said s) said)) (body.Mark record { s = s } ∷ []) [])
+    (eq-eqb (s % 8) 0 multiple)
+    ∙ ap (λ b. bodies ++ cond (not b) (body.Mark record { s = s } ∷ []) [])
+    (has s (omega arith) multiple ∙ lt-leb s marked above))

@@ -1,17 +1,19 @@
 -- How far the numbers are ordered without a gap.
-use Rattle.std.proofs.Common.{◌≡◌, ℕ, zero, suc, ◌+◌, ◌≤◌, ◌<◌, ◌⊎◌, inl, inr, true, false, List, [], ◌∷◌, Option, Some, None, is_some, length, refl, sym, ◌∙◌, ap, arith}
+use Rattle.std.proofs.Common.{◌≡◌, ℕ, suc, ◌+◌, ◌≤◌, ◌<◌, ◌⊎◌, inl, inr, true, false, List, Option, Some, None}
+use Rattle.std.proofs.Common.{is_some, refl, sym, ◌∙◌, ap, arith}
 use Rattle.std.specs.Prelude.{IsSome}
 use Rattle.std.specs.Option.{option_map}
 use Rattle.std.proofs.lemmas.Bool.{cases_lt}
 use Rattle.message_types.specs.Digests.{digest_of_rows}
 use Rattle.protocol_rules.specs.declared.facts.OrderFact.{OrderFact}
 use Rattle.protocol_rules.specs.Group.{Group, most_number}
-use Rattle.protocol_rules.specs.Words.{run_from}
 use Rattle.protocol_rules.specs.Order.{ordered, ordered_run, gapless}
 use Rattle.global_order.specs.Index.{Reaches, ReachesLess, ordered_in}
 use Rattle.global_order.proofs.Booleans.{none_there, option_map-none}
+use Rattle.protocol_rules.proofs.Numbers.{run-length}
 
-pub reaches-more : (f : ℕ → Option (List ℕ)) (reach : ℕ) → ReachesLess f reach → reach < 4096 → true ≡ is_some (f (reach + 1)) → ReachesLess f (reach + 1)
+pub reaches-more : (f : ℕ → Option (List ℕ)) (reach : ℕ) → ReachesLess f reach → reach < 4096 →
+    true ≡ is_some (f (reach + 1)) → ReachesLess f (reach + 1)
 unfolding most_number
 reaches-more f reach old room next = record {
   limit = omega arith;
@@ -22,36 +24,31 @@ reaches-more f reach old room next = record {
     at s low (inl below) high = old.without_gap s low (omega arith)
     at s low (inr above) high = let same : s ≡ reach + 1 = omega arith in rw same (sym next)
 
-pub reaches-stop : (f : ℕ → Option (List ℕ)) (reach : ℕ) → ReachesLess f reach → (4096 ≤ reach) ⊎ (false ≡ is_some (f (reach + 1))) → Reaches f reach
+pub reaches-stop : (f : ℕ → Option (List ℕ)) (reach : ℕ) → ReachesLess f reach →
+    (4096 ≤ reach) ⊎ (false ≡ is_some (f (reach + 1))) → Reaches f reach
 unfolding most_number
-reaches-stop f reach old (inl full) = record { limit = old.limit; without_gap = old.without_gap; stops = λ less. absurd (omega arith) }
-reaches-stop f reach old (inr none) = record { limit = old.limit; without_gap = old.without_gap; stops = λ less. let e : suc reach ≡ reach + 1 = omega arith in ap f e ∙ none_there (f (reach + 1)) none }
-
-run-length : {X : Type 0} (f : ℕ → Option X) (start most reach : ℕ) → reach ≤ most → ((k : ℕ) → start ≤ k → k < start + reach → IsSome (f k)) →
-    (reach < most → f (start + reach) ≡ None) → length (run_from f start most) ≡ reach
-unfolding run_from
-run-length f start zero reach fits some stops = omega arith
-run-length {X} f start (suc most) zero fits some stops = by (f start) (let e : start ≡ start + 0 = omega arith in ap f e ∙ stops (omega arith))
-  where
-    by : (o : Option X) → o ≡ None → length {A = X} (elim o [ None ↦ [] | Some x ↦ x ∷ run_from f (suc start) most ]) ≡ 0
-    by None e = refl
-    by (Some x) e = cc
-run-length {X} f start (suc most) (suc reach) fits some stops =
-    by (f start) (some start (omega arith) (omega arith))
-    (run-length f (suc start) most reach (omega arith) (λ k low high. some k (omega arith) (omega arith))
-    (λ less. let e : suc start + reach ≡ start + suc reach = omega arith in ap f e ∙ stops (omega arith)))
-  where
-    by : (o : Option X) → IsSome o → length {A = X} (run_from f (suc start) most) ≡ reach → length {A = X} (elim o [ None ↦ [] | Some x ↦ x ∷ run_from f (suc start) most ]) ≡ suc reach
-    by None there rest = cc
-    by (Some x) there rest = let more : length (x ∷ run_from f (suc start) most) ≡ suc reach = omega arith in more
+reaches-stop f reach old (inl full) = record {
+  limit = old.limit;
+  without_gap = old.without_gap;
+  stops =
+      λ less. absurd (omega arith);
+}
+reaches-stop f reach old (inr none) = record {
+  limit = old.limit;
+  without_gap = old.without_gap;
+  stops =
+      λ less. let e : suc reach ≡ reach + 1 = omega arith in ap f e ∙ none_there (f (reach + 1)) none;
+}
 
 -- the numbers that are ordered
-pub gapless-is : (g : Group) (facts : List OrderFact) (held : ℕ → Option (List ℕ)) (reach : ℕ) → ((s : ℕ) → held s ≡ ordered_in g facts s) → Reaches held reach → reach ≡ gapless g facts
+pub gapless-is : (g : Group) (facts : List OrderFact) (held : ℕ → Option (List ℕ)) (reach : ℕ) →
+    ((s : ℕ) → held s ≡ ordered_in g facts s) → Reaches held reach → reach ≡ gapless g facts
 unfolding ordered_run
 gapless-is g facts held reach same reached =
     sym (run-length (ordered g facts) 1 most_number reach reached.limit
     (λ k low high. some (ordered g facts k) (sym (ap is_some (same k)) ∙ reached.without_gap k low (omega arith)))
-    (λ less. let e : 1 + reach ≡ suc reach = omega arith in ap (ordered g facts) e ∙ option_map-none digest_of_rows (ordered g facts (suc reach)) (sym (same (suc reach)) ∙ reached.stops less)))
+    (λ less. let e : 1 + reach ≡ suc reach = omega arith in ap (ordered g facts) e ∙ option_map-none digest_of_rows
+    (ordered g facts (suc reach)) (sym (same (suc reach)) ∙ reached.stops less)))
   where
     some : (o : Option (List (List ℕ))) → IsSome (option_map digest_of_rows o) → IsSome o
     some None e = e
@@ -64,5 +61,7 @@ reaches-same f h reach same old = record {
   stops = λ less. sym (same (suc reach)) ∙ old.stops less;
 }
 
-pub reaches-still : (f h : ℕ → Option (List ℕ)) (reach : ℕ) → ((s : ℕ) → IsSome (f s) → IsSome (h s)) → Reaches f reach → ReachesLess h reach
-reaches-still f h reach more old = record { limit = old.limit; without_gap = λ s low high. more s (old.without_gap s low high) }
+pub reaches-still : (f h : ℕ → Option (List ℕ)) (reach : ℕ) → ((s : ℕ) → IsSome (f s) → IsSome (h s)) →
+    Reaches f reach → ReachesLess h reach
+reaches-still f h reach more old =
+    record { limit = old.limit; without_gap = λ s low high. more s (old.without_gap s low high) }

@@ -1,9 +1,11 @@
 -- What one fact more changes of the choices, the offers and the stable number.
-use Rattle.std.proofs.Common.{◌≡◌, ℕ, ◌≤◌, ◌⊎◌, inl, inr, max, Bool, true, false, cond, ◌&&◌, ◌||◌, not, List, [], ◌∷◌, ◌++◌, Option, Some, None, is_some, length, nat_eq, nat_le, refl, sym, ◌∙◌, ap, subst, arith, true≢false}
+use Rattle.std.proofs.Common.{◌≡◌, ℕ, ◌≤◌, ◌⊎◌, inl, inr, max, Bool, true, false, cond, ◌&&◌, ◌||◌, not, List, []}
+use Rattle.std.proofs.Common.{◌∷◌, ◌++◌, Option, Some, None, is_some, length, nat_eq, nat_le, refl, sym, ◌∙◌, ap}
+use Rattle.std.proofs.Common.{subst, arith, true≢false}
 use Rattle.std.specs.Bool.{OnTrue, OnFalse}
 use Rattle.std.specs.List.{filter_map, list_any, list_all, cons_option}
 use Rattle.std.specs.Str.{bytes_eq}
-use Rattle.std.proofs.Math.Bool.{or-false}
+use Rattle.std.proofs.Math.Bool.{or-false, and-false}
 use Rattle.std.proofs.lemmas.Bool.{leb-true, eq-eqb}
 use Rattle.std.proofs.lemmas.List.{append-nil}
 use Rattle.std.proofs.lemmas.List.Elements.{filter_map-append}
@@ -19,30 +21,35 @@ use Rattle.protocol_rules.specs.declared.facts.OrderFact.TheVariants as fact
 use Rattle.protocol_rules.specs.Words.{or_else, first_of_list, greatest_of}
 use Rattle.protocol_rules.specs.Group.{Group, most_number}
 use Rattle.protocol_rules.specs.Facts.{rows_in, rows_known}
-use Rattle.protocol_rules.specs.Order.{prepare_by, commit_by, mark_by, is_voted, commit_views, is_committed, prepared, ordered, stable, number_marked, plan_in, proposal_in}
+use Rattle.protocol_rules.specs.Order.{prepare_by, commit_by, mark_by, is_voted, commit_views, is_committed, prepared}
+use Rattle.protocol_rules.specs.Order.{ordered, stable, number_marked, plan_in, proposal_in}
 use Rattle.protocol_rules.proofs.Greatest.{or_zero, greatest-push, greatest-more, greatest-same}
 use Rattle.global_order.specs.Choosing.{is_known}
-use Rattle.global_order.specs.Taken.{HasSizes}
-use Rattle.global_order.specs.Index.{Map, Vote, TakesFirst, given, vote_at, mark_at, HasPrepares, HasCommits, HasMarks, Agrees, HasChoices, same_pair, prepares_in, prepared_in, ordered_in, with_rows, with_all, with_quorum, with_choice}
+use Rattle.global_order.specs.OrderState.{HasSizes}
+use Rattle.global_order.specs.Index.{Map, Vote, TakesFirst, given, vote_at, mark_at, HasPrepares, HasCommits}
+use Rattle.global_order.specs.Index.{HasMarks, Agrees, HasChoices, same_pair, prepares_in, prepared_in, ordered_in}
+use Rattle.global_order.specs.Index.{with_rows, with_all, with_quorum, with_choice}
 use Rattle.std.specs.Map.{lookup}
 use Rattle.message_types.specs.declared.views.Plan.{Plan}
 use Rattle.message_types.specs.Spelling.{rows_fit}
 use Rattle.global_order.specs.Offered.{HasOffers, OffersFit, fits, plan_fits}
 use Rattle.global_order.specs.declared.choices.Choices.{Choices}
-use Rattle.global_order.specs.declared.pending.Pending.{Pending}
+use Rattle.global_order.specs.declared.pending.PendingNumbers.{PendingNumbers}
 use Rattle.global_order.specs.declared.offers.Offers.{Offers}
-use Rattle.global_order.proofs.Booleans.{and-parts, bytes-same, nat_eq-same, same_pair-same, nat_eq-own, first_of_list-push, list_any-push, or_else-none, option_map-cond}
+use Rattle.global_order.proofs.Booleans.{and-parts, bytes-same, nat_eq-same, same_pair-same, nat_eq-own}
+use Rattle.global_order.proofs.Booleans.{first_of_list-push, list_any-push, or_else-none, option_map-cond}
 use Rattle.global_order.proofs.Meeting.{chosen-same, chosen-newly, chosen-rows, rows_known-push}
 use Rattle.global_order.proofs.Settling.{agrees-alike}
-use Rattle.global_order.proofs.Voting.{first-other, voted-other, voted-stays, prepares-apart, prepares-quorum, commits-apart, commits-quorum, marks-quorum}
-
-false-and : (b : Bool) → (b && false) ≡ false
-false-and true = refl
-false-and false = refl
+use Rattle.global_order.proofs.Voting.{first-other, voted-other, voted-stays, prepares-apart, prepares-quorum}
+use Rattle.global_order.proofs.Voting.{commits-apart, commits-quorum, marks-quorum}
 
 -- the view of a commit for a number and a digest
 abbrev pub view_of : ℕ → List ℕ → OrderFact → Option ℕ
-view_of s digest f = elim f [ fact.Commit c ↦ cond (nat_eq c.body.s s && bytes_eq c.body.digest digest) (Some c.body.v) None | _ ↦ None ]
+view_of s digest f = elim f [
+  | fact.Commit c ↦ cond (nat_eq c.body.s s && bytes_eq c.body.digest digest)
+      (Some c.body.v) None
+  | _ ↦ None
+]
 
 -- the fact is no vote that the choices go by
 pub record IsNoVote (x : OrderFact) : Type 0 where
@@ -50,50 +57,71 @@ pub record IsNoVote (x : OrderFact) : Type 0 where
   pub commit : (v s : ℕ) (d : List ℕ) (m : ℕ) → commit_by v s d m x ≡ None
   pub view : (s : ℕ) (d : List ℕ) → view_of s d x ≡ None
 
-pub views-push : (facts : List OrderFact) (x : OrderFact) (s : ℕ) (d : List ℕ) → commit_views (facts ++ x ∷ []) s d ≡ commit_views facts s d ++ cons_option (view_of s d x) []
+pub views-push : (facts : List OrderFact) (x : OrderFact) (s : ℕ) (d : List ℕ) →
+    commit_views (facts ++ x ∷ []) s d ≡ commit_views facts s d ++ cons_option (view_of s d x) []
 views-push facts x s d = filter_map-append (view_of s d) facts (x ∷ [])
 
-committed-other : (g : Group) (facts : List OrderFact) (x : OrderFact) (s : ℕ) (d : List ℕ) → ((v m : ℕ) → commit_by v s d m x ≡ None) → view_of s d x ≡ None → is_committed g (facts ++ x ∷ []) s d ≡ is_committed g facts s d
+committed-other : (g : Group) (facts : List OrderFact) (x : OrderFact) (s : ℕ) (d : List ℕ) →
+    ((v m : ℕ) → commit_by v s d m x ≡ None) → view_of s d x ≡ None →
+    is_committed g (facts ++ x ∷ []) s d ≡ is_committed g facts s d
 committed-other g facts x s d none view =
-    ap (list_any (λ v. is_voted g (commit_by v s d) (facts ++ x ∷ []))) (views-push facts x s d ∙ ap (λ o. commit_views facts s d ++ cons_option o []) view ∙ append-nil (commit_views facts s d))
+    ap (list_any (λ v. is_voted g (commit_by v s d) (facts ++ x ∷ [])))
+    (views-push facts x s d ∙ ap (λ o. commit_views facts s d ++ cons_option o []) view
+    ∙ append-nil (commit_views facts s d))
     ∙ (λ i. list_any (λ v. voted-other g (commit_by v s d) facts x (none v) i) (commit_views facts s d))
 
-prepared-as : (g : Group) (facts : List OrderFact) (x : OrderFact) (k : ℕ × ℕ) → rows_in x ≡ [] → ((d : List ℕ) → prepares_in g (facts ++ x ∷ []) k d ≡ prepares_in g facts k d) → prepared_in g (facts ++ x ∷ []) k ≡ prepared_in g facts k
+prepared-as : (g : Group) (facts : List OrderFact) (x : OrderFact) (k : ℕ × ℕ) → rows_in x ≡ [] →
+    ((d : List ℕ) → prepares_in g (facts ++ x ∷ []) k d ≡ prepares_in g facts k d) →
+    prepared_in g (facts ++ x ∷ []) k ≡ prepared_in g facts k
 unfolding prepared
 prepared-as g facts x k none same = chosen-same (λ beginning d. prepares_in g beginning k d) facts x none same
 
-ordered-as : (g : Group) (facts : List OrderFact) (x : OrderFact) (s : ℕ) → rows_in x ≡ [] → ((d : List ℕ) → is_committed g (facts ++ x ∷ []) s d ≡ is_committed g facts s d) → ordered_in g (facts ++ x ∷ []) s ≡ ordered_in g facts s
+ordered-as : (g : Group) (facts : List OrderFact) (x : OrderFact) (s : ℕ) → rows_in x ≡ [] →
+    ((d : List ℕ) → is_committed g (facts ++ x ∷ []) s d ≡ is_committed g facts s d) →
+    ordered_in g (facts ++ x ∷ []) s ≡ ordered_in g facts s
 unfolding ordered
 ordered-as g facts x s none same = chosen-same (λ beginning d. is_committed g beginning s d) facts x none same
 
-prepared-rows : (g : Group) (facts : List OrderFact) (x : OrderFact) (k : ℕ × ℕ) → ((d : List ℕ) → prepares_in g (facts ++ x ∷ []) k d ≡ prepares_in g facts k d) →
+prepared-rows : (g : Group) (facts : List OrderFact) (x : OrderFact) (k : ℕ × ℕ) →
+    ((d : List ℕ) → prepares_in g (facts ++ x ∷ []) k d ≡ prepares_in g facts k d) →
     prepared_in g (facts ++ x ∷ []) k ≡ with_all (prepares_in g facts) (prepared_in g facts) (rows_in x) k
 unfolding prepared
 prepared-rows g facts x k same = chosen-rows (λ beginning d. prepares_in g beginning k d) facts x same
 
-ordered-rows : (g : Group) (facts : List OrderFact) (x : OrderFact) (s : ℕ) → ((d : List ℕ) → is_committed g (facts ++ x ∷ []) s d ≡ is_committed g facts s d) →
+ordered-rows : (g : Group) (facts : List OrderFact) (x : OrderFact) (s : ℕ) →
+    ((d : List ℕ) → is_committed g (facts ++ x ∷ []) s d ≡ is_committed g facts s d) →
     ordered_in g (facts ++ x ∷ []) s ≡ with_all (is_committed g facts) (ordered_in g facts) (rows_in x) s
 unfolding ordered
 ordered-rows g facts x s same = chosen-rows (λ beginning d. is_committed g beginning s d) facts x same
 
-prepared-newly : (g : Group) (facts : List OrderFact) (x : OrderFact) (k : ℕ × ℕ) (d : List ℕ) → rows_in x ≡ [] → prepares_in g (facts ++ x ∷ []) k d ≡ true →
+prepared-newly : (g : Group) (facts : List OrderFact) (x : OrderFact) (k : ℕ × ℕ) (d : List ℕ) → rows_in x ≡ [] →
+    prepares_in g (facts ++ x ∷ []) k d ≡ true →
     ((e : List ℕ) → bytes_eq d e ≡ false → prepares_in g (facts ++ x ∷ []) k e ≡ prepares_in g facts k e) →
-    prepared_in g (facts ++ x ∷ []) k ≡ or_else (prepared_in g facts k) (cond (is_known (rows_known facts) d) (Some d) None)
+    prepared_in g (facts ++ x ∷ []) k ≡ or_else (prepared_in g facts k)
+    (cond (is_known (rows_known facts) d) (Some d) None)
 unfolding prepared
-prepared-newly g facts x k d none back others = chosen-newly (λ beginning d. prepares_in g beginning k d) facts x d none back others
+prepared-newly g facts x k d none back others =
+    chosen-newly (λ beginning d. prepares_in g beginning k d) facts x d none back others
 
-ordered-newly : (g : Group) (facts : List OrderFact) (x : OrderFact) (s : ℕ) (d : List ℕ) → rows_in x ≡ [] → is_committed g (facts ++ x ∷ []) s d ≡ true →
+ordered-newly : (g : Group) (facts : List OrderFact) (x : OrderFact) (s : ℕ) (d : List ℕ) → rows_in x ≡ [] →
+    is_committed g (facts ++ x ∷ []) s d ≡ true →
     ((e : List ℕ) → bytes_eq d e ≡ false → is_committed g (facts ++ x ∷ []) s e ≡ is_committed g facts s e) →
-    ordered_in g (facts ++ x ∷ []) s ≡ or_else (ordered_in g facts s) (cond (is_known (rows_known facts) d) (Some d) None)
+    ordered_in g (facts ++ x ∷ []) s ≡ or_else (ordered_in g facts s)
+    (cond (is_known (rows_known facts) d) (Some d) None)
 unfolding ordered
-ordered-newly g facts x s d none back others = chosen-newly (λ beginning d. is_committed g beginning s d) facts x d none back others
+ordered-newly g facts x s d none back others =
+    chosen-newly (λ beginning d. is_committed g beginning s d) facts x d none back others
 
 -- rows that become known by a fact which is no vote
 pub choices-rows : (g : Group) (facts : List OrderFact) (x : OrderFact) (c : Choices) → IsNoVote x →
-    Agrees (rows_known facts ++ rows_in x) (prepares_in g facts) (with_all (prepares_in g facts) (prepared_in g facts) (rows_in x)) (is_committed g facts) (with_all (is_committed g facts) (ordered_in g facts) (rows_in x)) c →
+    Agrees (rows_known facts ++ rows_in x) (prepares_in g facts)
+    (with_all (prepares_in g facts) (prepared_in g facts) (rows_in x)) (is_committed g facts)
+    (with_all (is_committed g facts) (ordered_in g facts) (rows_in x)) c →
     HasChoices g (facts ++ x ∷ []) c
 choices-rows g facts x c novote agrees =
-    agrees-alike _ _ _ _ _ _ _ _ _ _ c (sym (rows_known-push facts x)) (λ k d. sym (prepares k d)) (λ k. sym (prepared-rows g facts x k (prepares k))) (λ s d. sym (commits s d)) (λ s. sym (ordered-rows g facts x s (commits s))) agrees
+    agrees-alike _ _ _ _ _ _ _ _ _ _ c (sym (rows_known-push facts x)) (λ k d. sym (prepares k d))
+    (λ k. sym (prepared-rows g facts x k (prepares k))) (λ s d. sym (commits s d))
+    (λ s. sym (ordered-rows g facts x s (commits s))) agrees
   where
     prepares : (k : ℕ × ℕ) (d : List ℕ) → prepares_in g (facts ++ x ∷ []) k d ≡ prepares_in g facts k d
     prepares k d = voted-other g (prepare_by k.0 k.1 d) facts x (novote.prepare k.0 k.1 d)
@@ -102,33 +130,54 @@ choices-rows g facts x c novote agrees =
     commits s d = committed-other g facts x s d (λ v m. novote.commit v s d m) (novote.view s d)
 
 -- one list of rows alone
-pub choices-row : (g : Group) (facts : List OrderFact) (x : OrderFact) (r : List (List ℕ)) (c : Choices) → IsNoVote x → rows_in x ≡ r ∷ [] →
-    Agrees (rows_known facts ++ r ∷ []) (prepares_in g facts) (with_rows (prepares_in g facts) (prepared_in g facts) (digest_of_rows r)) (is_committed g facts) (with_rows (is_committed g facts) (ordered_in g facts) (digest_of_rows r)) c →
+pub choices-row : (g : Group) (facts : List OrderFact) (x : OrderFact) (r : List (List ℕ)) (c : Choices) →
+    IsNoVote x → rows_in x ≡ r ∷ [] →
+    Agrees (rows_known facts ++ r ∷ []) (prepares_in g facts)
+    (with_rows (prepares_in g facts) (prepared_in g facts) (digest_of_rows r)) (is_committed g facts)
+    (with_rows (is_committed g facts) (ordered_in g facts) (digest_of_rows r)) c →
     HasChoices g (facts ++ x ∷ []) c
 choices-row g facts x r c novote rows agrees =
-    choices-rows g facts x c novote (rw rows (agrees-alike _ _ _ _ _ _ _ _ _ _ c refl (λ k d. refl) (λ k. ap (or_else (prepared_in g facts k)) (sym (option_map-cond digest_of_rows (prepares_in g facts k (digest_of_rows r)) r))) (λ s d. refl)
-    (λ s. ap (or_else (ordered_in g facts s)) (sym (option_map-cond digest_of_rows (is_committed g facts s (digest_of_rows r)) r))) agrees))
+    choices-rows g facts x c novote
+    (rw rows (agrees-alike _ _ _ _ _ _ _ _ _ _ c refl (λ k d. refl)
+    (λ k. ap (or_else (prepared_in g facts k))
+    (sym (option_map-cond digest_of_rows (prepares_in g facts k (digest_of_rows r)) r))) (λ s d. refl)
+    (λ s. ap (or_else (ordered_in g facts s))
+    (sym (option_map-cond digest_of_rows (is_committed g facts s (digest_of_rows r)) r))) agrees))
 
 -- a fact that tells neither votes nor rows
-pub choices-none : (g : Group) (facts : List OrderFact) (x : OrderFact) (c : Choices) → IsNoVote x → rows_in x ≡ [] → HasChoices g facts c → HasChoices g (facts ++ x ∷ []) c
+pub choices-none : (g : Group) (facts : List OrderFact) (x : OrderFact) (c : Choices) → IsNoVote x → rows_in x ≡ [] →
+    HasChoices g facts c → HasChoices g (facts ++ x ∷ []) c
 choices-none g facts x c novote rows agrees =
-    choices-rows g facts x c novote (rw rows (agrees-alike _ _ _ _ _ _ _ _ _ _ c (sym (append-nil (rows_known facts))) (λ k d. refl) (λ k. sym (or_else-none (prepared_in g facts k))) (λ s d. refl) (λ s. sym (or_else-none (ordered_in g facts s))) agrees))
+    choices-rows g facts x c novote
+    (rw rows (agrees-alike _ _ _ _ _ _ _ _ _ _ c (sym (append-nil (rows_known facts))) (λ k d. refl)
+    (λ k. sym (or_else-none (prepared_in g facts k))) (λ s d. refl)
+    (λ s. sym (or_else-none (ordered_in g facts s))) agrees))
 
 -- whether a quorum is new, from what there was and is
-newly : (had has : Bool) → (had ≡ true → has ≡ true) → (is_new : Bool) → is_new ≡ (has && not had) → cond is_new ((has ≡ true) × (had ≡ false)) (has ≡ had)
+newly : (had has : Bool) → (had ≡ true → has ≡ true) → (is_new : Bool) → is_new ≡ (has && not had) →
+    cond is_new ((has ≡ true) × (had ≡ false)) (has ≡ had)
 newly true true keeps is_new e = subst (λ b. cond b ((true ≡ true) × (true ≡ false)) (true ≡ true)) (sym e) refl
 newly false false keeps is_new e = subst (λ b. cond b ((false ≡ true) × (false ≡ false)) (false ≡ false)) (sym e) refl
-newly false true keeps is_new e = subst (λ b. cond b ((true ≡ true) × (false ≡ false)) (true ≡ false)) (sym e) (refl, refl)
+newly false true keeps is_new e =
+    subst (λ b. cond b ((true ≡ true) × (false ≡ false)) (true ≡ false)) (sym e) (refl, refl)
 newly true false keeps is_new e = absurd (true≢false (sym (keeps refl)))
 
 -- a prepare
-pub choices-prepare : (g : Group) (n q : ℕ) (facts : List OrderFact) (x : Signed Prepare) (old new : Map Vote (List ℕ)) (before after : ℕ) (is_new : Bool) (c now : Choices) → HasSizes g n q → HasPrepares facts old → HasPrepares (facts ++ fact.Prepare x ∷ []) new →
-    before ≡ length (given (vote_at old x.body.v x.body.s x.body.digest) n) → after ≡ length (given (vote_at new x.body.v x.body.s x.body.digest) n) → is_new ≡ (nat_le q after && not (nat_le q before)) →
-    OnTrue is_new ((known : List (List (List ℕ))) (prepares : ℕ × ℕ → List ℕ → Bool) (first : ℕ × ℕ → Option (List ℕ)) (commits : ℕ → List ℕ → Bool) (order : ℕ → Option (List ℕ)) → Agrees known prepares first commits order c →
-    Agrees known (with_quorum same_pair (x.body.v, x.body.s) x.body.digest prepares) (with_choice same_pair (x.body.v, x.body.s) x.body.digest known first) commits order now) →
+pub choices-prepare : (g : Group) (n q : ℕ) (facts : List OrderFact) (x : Signed Prepare)
+    (old new : Map Vote (List ℕ)) (before after : ℕ) (is_new : Bool) (c now : Choices) → HasSizes g n q →
+    HasPrepares facts old → HasPrepares (facts ++ fact.Prepare x ∷ []) new →
+    before ≡ length (given (vote_at old x.body.v x.body.s x.body.digest) n) →
+    after ≡ length (given (vote_at new x.body.v x.body.s x.body.digest) n) →
+    is_new ≡ (nat_le q after && not (nat_le q before)) →
+    OnTrue is_new ((known : List (List (List ℕ))) (prepares : ℕ × ℕ → List ℕ → Bool) (first : ℕ × ℕ → Option (List ℕ))
+    (commits : ℕ → List ℕ → Bool) (order : ℕ → Option (List ℕ)) → Agrees known prepares first commits order c →
+    Agrees known (with_quorum same_pair (x.body.v, x.body.s) x.body.digest prepares)
+    (with_choice same_pair (x.body.v, x.body.s) x.body.digest known first) commits order now) →
     OnFalse is_new (now ≡ c) → HasChoices g facts c → HasChoices g (facts ++ fact.Prepare x ∷ []) now
-choices-prepare g n q facts x old new before after is_new c now sizes has_old has_new before_is after_is test on_new on_old agrees =
-    by is_new (newly had has (voted-stays g (prepare_by x.body.v x.body.s x.body.digest) facts (fact.Prepare x)) is_new (test ∙ (λ i. now_is i && not (was_is i)))) on_new on_old
+choices-prepare g n q facts x old new before after is_new c now sizes has_old has_new before_is after_is
+    test on_new on_old agrees =
+    by is_new (newly had has (voted-stays g (prepare_by x.body.v x.body.s x.body.digest) facts (fact.Prepare x))
+    is_new (test ∙ (λ i. now_is i && not (was_is i)))) on_new on_old
   where
     had : Bool
     had = is_voted g (prepare_by x.body.v x.body.s x.body.digest) facts
@@ -137,109 +186,167 @@ choices-prepare g n q facts x old new before after is_new c now sizes has_old ha
     has = is_voted g (prepare_by x.body.v x.body.s x.body.digest) (facts ++ fact.Prepare x ∷ [])
 
     was_is : nat_le q before ≡ is_voted g (prepare_by x.body.v x.body.s x.body.digest) facts
-    was_is = (λ i. nat_le (sym sizes.quorum i) (before_is i)) ∙ prepares-quorum g n facts old x.body.v x.body.s x.body.digest sizes.masters has_old
+    was_is = (λ i. nat_le (sym sizes.quorum i) (before_is i)) ∙ prepares-quorum g n facts old x.body.v x.body.s
+        x.body.digest sizes.masters has_old
 
     now_is : nat_le q after ≡ is_voted g (prepare_by x.body.v x.body.s x.body.digest) (facts ++ fact.Prepare x ∷ [])
-    now_is = (λ i. nat_le (sym sizes.quorum i) (after_is i)) ∙ prepares-quorum g n (facts ++ fact.Prepare x ∷ []) new x.body.v x.body.s x.body.digest sizes.masters has_new
+    now_is = (λ i. nat_le (sym sizes.quorum i) (after_is i)) ∙ prepares-quorum g n (facts ++ fact.Prepare x ∷ [])
+        new x.body.v x.body.s x.body.digest sizes.masters has_new
 
     commits : (s : ℕ) (d : List ℕ) → is_committed g (facts ++ fact.Prepare x ∷ []) s d ≡ is_committed g facts s d
     commits s d = committed-other g facts (fact.Prepare x) s d (λ v m. refl) refl
 
-    apart : (k : ℕ × ℕ) (d : List ℕ) → (same_pair (x.body.v, x.body.s) k && bytes_eq x.body.digest d) ≡ false → prepares_in g (facts ++ fact.Prepare x ∷ []) k d ≡ prepares_in g facts k d
+    apart : (k : ℕ × ℕ) (d : List ℕ) → (same_pair (x.body.v, x.body.s) k && bytes_eq x.body.digest d) ≡ false →
+        prepares_in g (facts ++ fact.Prepare x ∷ []) k d ≡ prepares_in g facts k d
     apart k d e = prepares-apart g facts x k.0 k.1 d e
 
     known : rows_known facts ≡ rows_known (facts ++ fact.Prepare x ∷ [])
     known = sym (rows_known-push facts (fact.Prepare x) ∙ append-nil (rows_known facts))
 
-    at : (P : ℕ × ℕ → List ℕ → Type 0) (k : ℕ × ℕ) (d : List ℕ) → (same_pair (x.body.v, x.body.s) k && bytes_eq x.body.digest d) ≡ true → P (x.body.v, x.body.s) x.body.digest → P k d
+    at : (P : ℕ × ℕ → List ℕ → Type 0) (k : ℕ × ℕ) (d : List ℕ) →
+        (same_pair (x.body.v, x.body.s) k && bytes_eq x.body.digest d) ≡ true →
+        P (x.body.v, x.body.s) x.body.digest → P k d
     at P k d e p =
-        let both : (same_pair (x.body.v, x.body.s) k ≡ true) × (bytes_eq x.body.digest d ≡ true) = and-parts (same_pair (x.body.v, x.body.s) k) (bytes_eq x.body.digest d) e in
-        subst (P k) (bytes-same x.body.digest d both.1) (subst (λ (y : ℕ × ℕ). P y x.body.digest) (same_pair-same (x.body.v, x.body.s) k both.0) p)
+        let both : (same_pair (x.body.v, x.body.s) k ≡ true) × (bytes_eq x.body.digest d ≡ true) =
+        and-parts (same_pair (x.body.v, x.body.s) k) (bytes_eq x.body.digest d) e in
+        subst (P k) (bytes-same x.body.digest d both.1)
+        (subst (λ (y : ℕ × ℕ). P y x.body.digest) (same_pair-same (x.body.v, x.body.s) k both.0) p)
 
-    by : (b : Bool) → cond b ((is_voted g (prepare_by x.body.v x.body.s x.body.digest) (facts ++ fact.Prepare x ∷ []) ≡ true) × (is_voted g (prepare_by x.body.v x.body.s x.body.digest) facts ≡ false))
-        (is_voted g (prepare_by x.body.v x.body.s x.body.digest) (facts ++ fact.Prepare x ∷ []) ≡ is_voted g (prepare_by x.body.v x.body.s x.body.digest) facts) →
-        OnTrue b ((known : List (List (List ℕ))) (prepares : ℕ × ℕ → List ℕ → Bool) (first : ℕ × ℕ → Option (List ℕ)) (commits : ℕ → List ℕ → Bool) (order : ℕ → Option (List ℕ)) → Agrees known prepares first commits order c →
-        Agrees known (with_quorum same_pair (x.body.v, x.body.s) x.body.digest prepares) (with_choice same_pair (x.body.v, x.body.s) x.body.digest known first) commits order now) →
+    by : (b : Bool) → cond b ((is_voted g (prepare_by x.body.v x.body.s x.body.digest) (facts ++ fact.Prepare x ∷ [])
+        ≡ true) × (is_voted g (prepare_by x.body.v x.body.s x.body.digest) facts ≡ false))
+        (is_voted g (prepare_by x.body.v x.body.s x.body.digest) (facts ++ fact.Prepare x ∷ []) ≡ is_voted g
+        (prepare_by x.body.v x.body.s x.body.digest) facts) →
+        OnTrue b ((known : List (List (List ℕ))) (prepares : ℕ × ℕ → List ℕ → Bool) (first : ℕ × ℕ → Option (List ℕ))
+        (commits : ℕ → List ℕ → Bool) (order : ℕ → Option (List ℕ)) → Agrees known prepares first commits order c →
+        Agrees known (with_quorum same_pair (x.body.v, x.body.s) x.body.digest prepares)
+        (with_choice same_pair (x.body.v, x.body.s) x.body.digest known first) commits order now) →
         OnFalse b (now ≡ c) → HasChoices g (facts ++ fact.Prepare x ∷ []) now
     by false same on_true on_false =
         subst (HasChoices g (facts ++ fact.Prepare x ∷ [])) (sym on_false)
-        (agrees-alike _ _ _ _ _ _ _ _ _ _ c known (λ k d. sym (prepares k d (same_pair (x.body.v, x.body.s) k && bytes_eq x.body.digest d) refl)) (λ k. sym (prepared-as g facts (fact.Prepare x) k refl (λ d. prepares k d (same_pair (x.body.v, x.body.s) k && bytes_eq x.body.digest d) refl))) (λ s d. sym (commits s d)) (λ s. sym (ordered-as g facts (fact.Prepare x) s refl (commits s))) agrees)
+        (agrees-alike _ _ _ _ _ _ _ _ _ _ c known
+        (λ k d. sym (prepares k d (same_pair (x.body.v, x.body.s) k && bytes_eq x.body.digest d) refl))
+        (λ k. sym (prepared-as g facts (fact.Prepare x) k refl
+        (λ d. prepares k d (same_pair (x.body.v, x.body.s) k && bytes_eq x.body.digest d) refl)))
+        (λ s d. sym (commits s d)) (λ s. sym (ordered-as g facts (fact.Prepare x) s refl (commits s))) agrees)
       where
-        prepares : (k : ℕ × ℕ) (d : List ℕ) (here : Bool) → (same_pair (x.body.v, x.body.s) k && bytes_eq x.body.digest d) ≡ here → prepares_in g (facts ++ fact.Prepare x ∷ []) k d ≡ prepares_in g facts k d
-        prepares k d true e = at (λ (y : ℕ × ℕ) (z : List ℕ). prepares_in g (facts ++ fact.Prepare x ∷ []) y z ≡ prepares_in g facts y z) k d e same
+        prepares : (k : ℕ × ℕ) (d : List ℕ) (here : Bool) →
+            (same_pair (x.body.v, x.body.s) k && bytes_eq x.body.digest d) ≡ here →
+            prepares_in g (facts ++ fact.Prepare x ∷ []) k d ≡ prepares_in g facts k d
+        prepares k d true e = at (λ (y : ℕ × ℕ) (z : List ℕ). prepares_in g (facts ++ fact.Prepare x ∷ [])
+            y z ≡ prepares_in g facts y z) k d e same
         prepares k d false e = apart k d e
     by true fresh on_true on_false =
-        agrees-alike _ _ _ _ _ _ _ _ _ _ now known (λ k d. prepares k d (same_pair (x.body.v, x.body.s) k && bytes_eq x.body.digest d) refl) (λ k. first k (same_pair (x.body.v, x.body.s) k) refl) (λ s d. sym (commits s d)) (λ s. sym (ordered-as g facts (fact.Prepare x) s refl (commits s)))
-        (on_true (rows_known facts) (prepares_in g facts) (prepared_in g facts) (is_committed g facts) (ordered_in g facts) agrees)
+        agrees-alike _ _ _ _ _ _ _ _ _ _ now known
+        (λ k d. prepares k d (same_pair (x.body.v, x.body.s) k && bytes_eq x.body.digest d) refl)
+        (λ k. first k (same_pair (x.body.v, x.body.s) k) refl) (λ s d. sym (commits s d))
+        (λ s. sym (ordered-as g facts (fact.Prepare x) s refl (commits s)))
+        (on_true (rows_known facts) (prepares_in g facts) (prepared_in g facts) (is_committed g facts)
+        (ordered_in g facts) agrees)
       where
         either : (b : Bool) → (b || true) ≡ true
         either true = refl
         either false = refl
 
-        prepares : (k : ℕ × ℕ) (d : List ℕ) (here : Bool) → (same_pair (x.body.v, x.body.s) k && bytes_eq x.body.digest d) ≡ here → (prepares_in g facts k d || here) ≡ prepares_in g (facts ++ fact.Prepare x ∷ []) k d
-        prepares k d true e = either (prepares_in g facts k d) ∙ sym (at (λ (y : ℕ × ℕ) (z : List ℕ). prepares_in g (facts ++ fact.Prepare x ∷ []) y z ≡ true) k d e fresh.0)
+        prepares : (k : ℕ × ℕ) (d : List ℕ) (here : Bool) →
+            (same_pair (x.body.v, x.body.s) k && bytes_eq x.body.digest d) ≡ here →
+            (prepares_in g facts k d || here) ≡ prepares_in g (facts ++ fact.Prepare x ∷ []) k d
+        prepares k d true e = either (prepares_in g facts k d)
+            ∙ sym (at (λ (y : ℕ × ℕ) (z : List ℕ). prepares_in g (facts ++ fact.Prepare x ∷ []) y z ≡ true)
+            k d e fresh.0)
         prepares k d false e = or-false (prepares_in g facts k d) ∙ sym (apart k d e)
 
-        first : (k : ℕ × ℕ) (here : Bool) → same_pair (x.body.v, x.body.s) k ≡ here → or_else (prepared_in g facts k) (cond (here && is_known (rows_known facts) x.body.digest) (Some x.body.digest) None) ≡ prepared_in g (facts ++ fact.Prepare x ∷ []) k
-        first k false e = or_else-none (prepared_in g facts k) ∙ sym (prepared-as g facts (fact.Prepare x) k refl (λ d. apart k d (ap (λ b. b && bytes_eq x.body.digest d) e)))
+        first : (k : ℕ × ℕ) (here : Bool) → same_pair (x.body.v, x.body.s) k ≡ here →
+            or_else (prepared_in g facts k)
+            (cond (here && is_known (rows_known facts) x.body.digest) (Some x.body.digest) None) ≡ prepared_in g
+            (facts ++ fact.Prepare x ∷ []) k
+        first k false e = or_else-none (prepared_in g facts k)
+            ∙ sym (prepared-as g facts (fact.Prepare x) k refl
+            (λ d. apart k d (ap (λ b. b && bytes_eq x.body.digest d) e)))
         first k true e = sym (prepared-newly g facts (fact.Prepare x) k x.body.digest refl
-            (subst (λ (y : ℕ × ℕ). prepares_in g (facts ++ fact.Prepare x ∷ []) y x.body.digest ≡ true) (same_pair-same (x.body.v, x.body.s) k e) fresh.0)
+            (subst (λ (y : ℕ × ℕ). prepares_in g (facts ++ fact.Prepare x ∷ []) y x.body.digest ≡ true)
+            (same_pair-same (x.body.v, x.body.s) k e) fresh.0)
             (λ d other. apart k d (ap (λ b. b && bytes_eq x.body.digest d) e ∙ other)))
 
 -- a quorum has a vote, and so the number and digest are committed
-some-given : {X : Type 0} (f : ℕ → Option X) (ns : List ℕ) → 1 ≤ length (filter_map f ns) → (m : ℕ) × (is_some (f m) ≡ true)
+some-given : {X : Type 0} (f : ℕ → Option X) (ns : List ℕ) → 1 ≤ length (filter_map f ns) →
+    (m : ℕ) × (is_some (f m) ≡ true)
 some-given f [] one = absurd (omega arith)
 some-given {X} f (m ∷ ns) one = by (f m) refl one (some-given f ns)
   where
-    by : (o : Option X) → f m ≡ o → 1 ≤ length (cons_option o (filter_map f ns)) → (1 ≤ length (filter_map f ns) → (i : ℕ) × (is_some (f i) ≡ true)) → (i : ℕ) × (is_some (f i) ≡ true)
+    by : (o : Option X) → f m ≡ o → 1 ≤ length (cons_option o (filter_map f ns)) →
+        (1 ≤ length (filter_map f ns) → (i : ℕ) × (is_some (f i) ≡ true)) → (i : ℕ) × (is_some (f i) ≡ true)
     by None e one more = more one
     by (Some y) e one more = (m, ap is_some e)
 
-view-there : (P : ℕ → Bool) (facts : List OrderFact) (v s : ℕ) (d : List ℕ) (m : ℕ) → P v ≡ true → is_some (first_of_list (filter_map (commit_by v s d m) facts)) ≡ true → list_any P (commit_views facts s d) ≡ true
+view-there : (P : ℕ → Bool) (facts : List OrderFact) (v s : ℕ) (d : List ℕ) (m : ℕ) → P v ≡ true →
+    is_some (first_of_list (filter_map (commit_by v s d m) facts)) ≡ true → list_any P (commit_views facts s d) ≡ true
 view-there P [] v s d m pass there = absurd (true≢false (sym there))
 view-there P (f ∷ rest) v s d m pass there = by f there (view-there P rest v s d m pass)
   where
-    later : (o : Option ℕ) → list_any P (commit_views rest s d) ≡ true → list_any P (cons_option o (commit_views rest s d)) ≡ true
+    later : (o : Option ℕ) → list_any P (commit_views rest s d) ≡ true →
+        list_any P (cons_option o (commit_views rest s d)) ≡ true
     later None e = e
     later (Some w) e = either (P w) e
       where
-        either : (b : Bool) → list_any P (commit_views rest s d) ≡ true → (b || list_any P (commit_views rest s d)) ≡ true
+        either : (b : Bool) → list_any P (commit_views rest s d) ≡ true →
+            (b || list_any P (commit_views rest s d)) ≡ true
         either true e = refl
         either false e = e
 
-    commit : (c : Signed Commit) (a b h l : Bool) → nat_eq c.signer m ≡ a → nat_eq c.body.v v ≡ b → nat_eq c.body.s s ≡ h → bytes_eq c.body.digest d ≡ l →
-        is_some (first_of_list (cons_option (cond (((a && b) && h) && l) (Some c) None) (filter_map (commit_by v s d m) rest))) ≡ true →
-        (is_some (first_of_list (filter_map (commit_by v s d m) rest)) ≡ true → list_any P (commit_views rest s d) ≡ true) → list_any P (cons_option (cond (h && l) (Some c.body.v) None) (commit_views rest s d)) ≡ true
-    commit c true true true true ea eb eh el there more = ap (λ b. b || list_any P (commit_views rest s d)) (ap P (nat_eq-same c.body.v v eb) ∙ pass)
+    commit : (c : Signed Commit) (a b h l : Bool) → nat_eq c.signer m ≡ a → nat_eq c.body.v v ≡ b →
+        nat_eq c.body.s s ≡ h → bytes_eq c.body.digest d ≡ l →
+        is_some (first_of_list (cons_option (cond (((a && b) && h) && l) (Some c) None)
+        (filter_map (commit_by v s d m) rest))) ≡ true →
+        (is_some (first_of_list (filter_map (commit_by v s d m) rest)) ≡ true →
+        list_any P (commit_views rest s d) ≡ true) →
+        list_any P (cons_option (cond (h && l) (Some c.body.v) None) (commit_views rest s d)) ≡ true
+    commit c true true true true ea eb eh el there more = ap (λ b. b || list_any P (commit_views rest s d))
+        (ap P (nat_eq-same c.body.v v eb) ∙ pass)
     commit c false b h l ea eb eh el there more = later (cond (h && l) (Some c.body.v) None) (more there)
     commit c true false h l ea eb eh el there more = later (cond (h && l) (Some c.body.v) None) (more there)
     commit c true true false l ea eb eh el there more = later (cond (false && l) (Some c.body.v) None) (more there)
-    commit c true true true false ea eb eh el there more = later (cond (true && false) (Some c.body.v) None) (more there)
+    commit c true true true false ea eb eh el there more =
+        later (cond (true && false) (Some c.body.v) None) (more there)
 
-    by : (f : OrderFact) → is_some (first_of_list (cons_option (commit_by v s d m f) (filter_map (commit_by v s d m) rest))) ≡ true → (is_some (first_of_list (filter_map (commit_by v s d m) rest)) ≡ true → list_any P (commit_views rest s d) ≡ true) →
+    by : (f : OrderFact) → is_some
+        (first_of_list (cons_option (commit_by v s d m f) (filter_map (commit_by v s d m) rest))) ≡ true →
+        (is_some (first_of_list (filter_map (commit_by v s d m) rest)) ≡ true →
+        list_any P (commit_views rest s d) ≡ true) →
         list_any P (cons_option (view_of s d f) (commit_views rest s d)) ≡ true
-    by (fact.Commit c) there more = commit c (nat_eq c.signer m) (nat_eq c.body.v v) (nat_eq c.body.s s) (bytes_eq c.body.digest d) refl refl refl refl there more
+    by (fact.Commit c) there more = commit c (nat_eq c.signer m) (nat_eq c.body.v v) (nat_eq c.body.s s)
+        (bytes_eq c.body.digest d) refl refl refl refl there more
     by (fact.Prepare c) there more = more there
     by (fact.Mark c) there more = more there
     by (fact.Rows r) there more = more there
     by (fact.Proposal w t r) there more = more there
     by (fact.Plan w p) there more = more there
 
-voted-committed : (g : Group) (facts : List OrderFact) (v s : ℕ) (d : List ℕ) → 1 ≤ g.q → is_voted g (commit_by v s d) facts ≡ true → is_committed g facts s d ≡ true
+voted-committed : (g : Group) (facts : List OrderFact) (v s : ℕ) (d : List ℕ) → 1 ≤ g.q →
+    is_voted g (commit_by v s d) facts ≡ true → is_committed g facts s d ≡ true
 unfolding is_voted
 voted-committed g facts v s d some voted =
-    let enough : g.q ≤ length (given (λ m. first_of_list (filter_map (commit_by v s d m) facts)) g.n) = leb-true g.q _ voted in
-    let one : (m : ℕ) × (is_some (first_of_list (filter_map (commit_by v s d m) facts)) ≡ true) = some-given (λ m. first_of_list (filter_map (commit_by v s d m) facts)) (numbers_below g.n) (omega arith) in
+    let enough : g.q ≤ length (given (λ m. first_of_list (filter_map (commit_by v s d m) facts)) g.n) =
+    leb-true g.q _ voted in
+    let one : (m : ℕ) × (is_some (first_of_list (filter_map (commit_by v s d m) facts)) ≡ true) =
+    some-given (λ m. first_of_list (filter_map (commit_by v s d m) facts)) (numbers_below g.n) (omega arith) in
     view-there (λ w. is_voted g (commit_by w s d) facts) facts v s d one.0 voted one.1
 
 -- a commit
-pub choices-commit : (g : Group) (n q : ℕ) (facts : List OrderFact) (x : Signed Commit) (old new : Map Vote (List ℕ)) (before after : ℕ) (is_new : Bool) (c now : Choices) → HasSizes g n q → 1 ≤ q → HasCommits facts old → HasCommits (facts ++ fact.Commit x ∷ []) new →
-    before ≡ length (given (vote_at old x.body.v x.body.s x.body.digest) n) → after ≡ length (given (vote_at new x.body.v x.body.s x.body.digest) n) → is_new ≡ (nat_le q after && not (nat_le q before)) →
-    OnTrue is_new ((known : List (List (List ℕ))) (prepares : ℕ × ℕ → List ℕ → Bool) (first : ℕ × ℕ → Option (List ℕ)) (commits : ℕ → List ℕ → Bool) (order : ℕ → Option (List ℕ)) → Agrees known prepares first commits order c →
-    Agrees known prepares first (with_quorum nat_eq x.body.s x.body.digest commits) (with_choice nat_eq x.body.s x.body.digest known order) now) →
+pub choices-commit : (g : Group) (n q : ℕ) (facts : List OrderFact) (x : Signed Commit) (old new : Map Vote (List ℕ))
+    (before after : ℕ) (is_new : Bool) (c now : Choices) → HasSizes g n q → 1 ≤ q → HasCommits facts old →
+    HasCommits (facts ++ fact.Commit x ∷ []) new →
+    before ≡ length (given (vote_at old x.body.v x.body.s x.body.digest) n) →
+    after ≡ length (given (vote_at new x.body.v x.body.s x.body.digest) n) →
+    is_new ≡ (nat_le q after && not (nat_le q before)) →
+    OnTrue is_new ((known : List (List (List ℕ))) (prepares : ℕ × ℕ → List ℕ → Bool) (first : ℕ × ℕ → Option (List ℕ))
+    (commits : ℕ → List ℕ → Bool) (order : ℕ → Option (List ℕ)) → Agrees known prepares first commits order c →
+    Agrees known prepares first (with_quorum nat_eq x.body.s x.body.digest commits)
+    (with_choice nat_eq x.body.s x.body.digest known order) now) →
     OnFalse is_new (now ≡ c) → HasChoices g facts c → HasChoices g (facts ++ fact.Commit x ∷ []) now
-choices-commit g n q facts x old new before after is_new c now sizes some has_old has_new before_is after_is test on_new on_old agrees =
-    by is_new (newly had has (voted-stays g (commit_by x.body.v x.body.s x.body.digest) facts (fact.Commit x)) is_new (test ∙ (λ i. now_is i && not (was_is i)))) on_new on_old
+choices-commit g n q facts x old new before after is_new c now sizes some has_old has_new before_is after_is
+    test on_new on_old agrees =
+    by is_new (newly had has (voted-stays g (commit_by x.body.v x.body.s x.body.digest) facts (fact.Commit x)) is_new
+    (test ∙ (λ i. now_is i && not (was_is i)))) on_new on_old
   where
     had : Bool
     had = is_voted g (commit_by x.body.v x.body.s x.body.digest) facts
@@ -248,10 +355,12 @@ choices-commit g n q facts x old new before after is_new c now sizes some has_ol
     has = is_voted g (commit_by x.body.v x.body.s x.body.digest) (facts ++ fact.Commit x ∷ [])
 
     was_is : nat_le q before ≡ is_voted g (commit_by x.body.v x.body.s x.body.digest) facts
-    was_is = (λ i. nat_le (sym sizes.quorum i) (before_is i)) ∙ commits-quorum g n facts old x.body.v x.body.s x.body.digest sizes.masters has_old
+    was_is = (λ i. nat_le (sym sizes.quorum i) (before_is i))
+        ∙ commits-quorum g n facts old x.body.v x.body.s x.body.digest sizes.masters has_old
 
     now_is : nat_le q after ≡ is_voted g (commit_by x.body.v x.body.s x.body.digest) (facts ++ fact.Commit x ∷ [])
-    now_is = (λ i. nat_le (sym sizes.quorum i) (after_is i)) ∙ commits-quorum g n (facts ++ fact.Commit x ∷ []) new x.body.v x.body.s x.body.digest sizes.masters has_new
+    now_is = (λ i. nat_le (sym sizes.quorum i) (after_is i)) ∙ commits-quorum g n (facts ++ fact.Commit x ∷ [])
+        new x.body.v x.body.s x.body.digest sizes.masters has_new
 
     enough : 1 ≤ g.q
     enough = let same : g.q ≡ q = sizes.quorum in omega arith
@@ -262,58 +371,89 @@ choices-commit g n q facts x old new before after is_new c now sizes some has_ol
     known : rows_known facts ≡ rows_known (facts ++ fact.Commit x ∷ [])
     known = sym (rows_known-push facts (fact.Commit x) ∙ append-nil (rows_known facts))
 
-    views-here : (s : ℕ) (d : List ℕ) → (nat_eq x.body.s s && bytes_eq x.body.digest d) ≡ true → commit_views (facts ++ fact.Commit x ∷ []) s d ≡ commit_views facts s d ++ x.body.v ∷ []
-    views-here s d e = views-push facts (fact.Commit x) s d ∙ ap (λ b. commit_views facts s d ++ cons_option (cond b (Some x.body.v) None) []) e
+    views-here : (s : ℕ) (d : List ℕ) → (nat_eq x.body.s s && bytes_eq x.body.digest d) ≡ true →
+        commit_views (facts ++ fact.Commit x ∷ []) s d ≡ commit_views facts s d ++ x.body.v ∷ []
+    views-here s d e = views-push facts (fact.Commit x) s d
+        ∙ ap (λ b. commit_views facts s d ++ cons_option (cond b (Some x.body.v) None) []) e
 
-    apart : (s : ℕ) (d : List ℕ) → (nat_eq x.body.s s && bytes_eq x.body.digest d) ≡ false → is_committed g (facts ++ fact.Commit x ∷ []) s d ≡ is_committed g facts s d
-    apart s d e = committed-other g facts (fact.Commit x) s d (λ v m. ap (λ b. cond b (Some x) None) (none (nat_eq x.signer m) (nat_eq x.body.v v) (nat_eq x.body.s s) (bytes_eq x.body.digest d) e)) (ap (λ b. cond b (Some x.body.v) None) e)
+    apart : (s : ℕ) (d : List ℕ) → (nat_eq x.body.s s && bytes_eq x.body.digest d) ≡ false →
+        is_committed g (facts ++ fact.Commit x ∷ []) s d ≡ is_committed g facts s d
+    apart s d e = committed-other g facts (fact.Commit x) s d
+        (λ v m. ap (λ b. cond b (Some x) None) (none (nat_eq x.signer m) (nat_eq x.body.v v) (nat_eq x.body.s s)
+        (bytes_eq x.body.digest d) e)) (ap (λ b. cond b (Some x.body.v) None) e)
       where
         none : (a b h l : Bool) → (h && l) ≡ false → (((a && b) && h) && l) ≡ false
         none false b h l e = refl
         none true false h l e = refl
         none true true h l e = e
 
-    at : (P : ℕ → List ℕ → Type 0) (s : ℕ) (d : List ℕ) → (nat_eq x.body.s s && bytes_eq x.body.digest d) ≡ true → P x.body.s x.body.digest → P s d
+    at : (P : ℕ → List ℕ → Type 0) (s : ℕ) (d : List ℕ) → (nat_eq x.body.s s && bytes_eq x.body.digest d) ≡ true →
+        P x.body.s x.body.digest → P s d
     at P s d e p =
-        let both : (nat_eq x.body.s s ≡ true) × (bytes_eq x.body.digest d ≡ true) = and-parts (nat_eq x.body.s s) (bytes_eq x.body.digest d) e in
-        subst (P s) (bytes-same x.body.digest d both.1) (subst (λ (y : ℕ). P y x.body.digest) (nat_eq-same x.body.s s both.0) p)
+        let both : (nat_eq x.body.s s ≡ true) × (bytes_eq x.body.digest d ≡ true) =
+        and-parts (nat_eq x.body.s s) (bytes_eq x.body.digest d) e in
+        subst (P s) (bytes-same x.body.digest d both.1)
+        (subst (λ (y : ℕ). P y x.body.digest) (nat_eq-same x.body.s s both.0) p)
 
     own : (nat_eq x.body.s x.body.s && bytes_eq x.body.digest x.body.digest) ≡ true
     own = nat_eq-own x.body.s x.body.digest
 
-    by : (b : Bool) → cond b ((is_voted g (commit_by x.body.v x.body.s x.body.digest) (facts ++ fact.Commit x ∷ []) ≡ true) × (is_voted g (commit_by x.body.v x.body.s x.body.digest) facts ≡ false))
-        (is_voted g (commit_by x.body.v x.body.s x.body.digest) (facts ++ fact.Commit x ∷ []) ≡ is_voted g (commit_by x.body.v x.body.s x.body.digest) facts) →
-        OnTrue b ((known : List (List (List ℕ))) (prepares : ℕ × ℕ → List ℕ → Bool) (first : ℕ × ℕ → Option (List ℕ)) (commits : ℕ → List ℕ → Bool) (order : ℕ → Option (List ℕ)) → Agrees known prepares first commits order c →
-        Agrees known prepares first (with_quorum nat_eq x.body.s x.body.digest commits) (with_choice nat_eq x.body.s x.body.digest known order) now) →
+    by : (b : Bool) → cond b ((is_voted g (commit_by x.body.v x.body.s x.body.digest) (facts ++ fact.Commit x ∷ []) ≡
+        true) × (is_voted g (commit_by x.body.v x.body.s x.body.digest) facts ≡ false))
+        (is_voted g (commit_by x.body.v x.body.s x.body.digest) (facts ++ fact.Commit x ∷ []) ≡ is_voted g
+        (commit_by x.body.v x.body.s x.body.digest) facts) →
+        OnTrue b ((known : List (List (List ℕ))) (prepares : ℕ × ℕ → List ℕ → Bool) (first : ℕ × ℕ → Option (List ℕ))
+        (commits : ℕ → List ℕ → Bool) (order : ℕ → Option (List ℕ)) → Agrees known prepares first commits order c →
+        Agrees known prepares first (with_quorum nat_eq x.body.s x.body.digest commits)
+        (with_choice nat_eq x.body.s x.body.digest known order) now) →
         OnFalse b (now ≡ c) → HasChoices g (facts ++ fact.Commit x ∷ []) now
     by false same on_true on_false =
         subst (HasChoices g (facts ++ fact.Commit x ∷ [])) (sym on_false)
-        (agrees-alike _ _ _ _ _ _ _ _ _ _ c known (λ k d. sym (prepares k d)) (λ k. sym (prepared-as g facts (fact.Commit x) k refl (prepares k))) (λ s d. sym (commits s d)) (λ s. sym (ordered-as g facts (fact.Commit x) s refl (commits s))) agrees)
+        (agrees-alike _ _ _ _ _ _ _ _ _ _ c known (λ k d. sym (prepares k d))
+        (λ k. sym (prepared-as g facts (fact.Commit x) k refl (prepares k))) (λ s d. sym (commits s d))
+        (λ s. sym (ordered-as g facts (fact.Commit x) s refl (commits s))) agrees)
       where
-        voted : (v : ℕ) (here : Bool) → nat_eq x.body.v v ≡ here → is_voted g (commit_by v x.body.s x.body.digest) (facts ++ fact.Commit x ∷ []) ≡ is_voted g (commit_by v x.body.s x.body.digest) facts
-        voted v true e = subst (λ (w : ℕ). is_voted g (commit_by w x.body.s x.body.digest) (facts ++ fact.Commit x ∷ []) ≡ is_voted g (commit_by w x.body.s x.body.digest) facts) (nat_eq-same x.body.v v e) same
-        voted v false e = commits-apart g facts x v x.body.s x.body.digest (ap (λ b. (b && nat_eq x.body.s x.body.s) && bytes_eq x.body.digest x.body.digest) e)
+        voted : (v : ℕ) (here : Bool) → nat_eq x.body.v v ≡ here →
+            is_voted g (commit_by v x.body.s x.body.digest) (facts ++ fact.Commit x ∷ []) ≡ is_voted g
+            (commit_by v x.body.s x.body.digest) facts
+        voted v true e = subst (λ (w : ℕ). is_voted g (commit_by w x.body.s x.body.digest)
+            (facts ++ fact.Commit x ∷ []) ≡ is_voted g (commit_by w x.body.s x.body.digest) facts)
+            (nat_eq-same x.body.v v e) same
+        voted v false e = commits-apart g facts x v x.body.s x.body.digest
+            (ap (λ b. (b && nat_eq x.body.s x.body.s) && bytes_eq x.body.digest x.body.digest) e)
 
-        last : (b : Bool) → is_voted g (commit_by x.body.v x.body.s x.body.digest) facts ≡ b → (is_committed g facts x.body.s x.body.digest || b) ≡ is_committed g facts x.body.s x.body.digest
+        last : (b : Bool) → is_voted g (commit_by x.body.v x.body.s x.body.digest) facts ≡ b →
+            (is_committed g facts x.body.s x.body.digest || b) ≡ is_committed g facts x.body.s x.body.digest
         last false e = or-false (is_committed g facts x.body.s x.body.digest)
-        last true e = let there : is_committed g facts x.body.s x.body.digest ≡ true = voted-committed g facts x.body.v x.body.s x.body.digest enough e in rw there refl
+        last true e = let there : is_committed g facts x.body.s x.body.digest ≡ true =
+            voted-committed g facts x.body.v x.body.s x.body.digest enough e in rw there refl
 
-        here : is_committed g (facts ++ fact.Commit x ∷ []) x.body.s x.body.digest ≡ is_committed g facts x.body.s x.body.digest
+        here : is_committed g (facts ++ fact.Commit x ∷ []) x.body.s x.body.digest ≡ is_committed
+            g facts x.body.s x.body.digest
         here =
-            ap (list_any (λ v. is_voted g (commit_by v x.body.s x.body.digest) (facts ++ fact.Commit x ∷ []))) (views-here x.body.s x.body.digest own)
-            ∙ (λ i. list_any (λ v. voted v (nat_eq x.body.v v) refl i) (commit_views facts x.body.s x.body.digest ++ x.body.v ∷ []))
-            ∙ list_any-push (λ v. is_voted g (commit_by v x.body.s x.body.digest) facts) (commit_views facts x.body.s x.body.digest) x.body.v
+            ap (list_any (λ v. is_voted g (commit_by v x.body.s x.body.digest) (facts ++ fact.Commit x ∷ [])))
+            (views-here x.body.s x.body.digest own)
+            ∙ (λ i. list_any (λ v. voted v (nat_eq x.body.v v) refl i)
+            (commit_views facts x.body.s x.body.digest ++ x.body.v ∷ []))
+            ∙ list_any-push (λ v. is_voted g (commit_by v x.body.s x.body.digest) facts)
+            (commit_views facts x.body.s x.body.digest) x.body.v
             ∙ last (is_voted g (commit_by x.body.v x.body.s x.body.digest) facts) refl
 
         commits : (s : ℕ) (d : List ℕ) → is_committed g (facts ++ fact.Commit x ∷ []) s d ≡ is_committed g facts s d
         commits s d = on (nat_eq x.body.s s && bytes_eq x.body.digest d) refl
           where
-            on : (b : Bool) → (nat_eq x.body.s s && bytes_eq x.body.digest d) ≡ b → is_committed g (facts ++ fact.Commit x ∷ []) s d ≡ is_committed g facts s d
-            on true e = at (λ (y : ℕ) (z : List ℕ). is_committed g (facts ++ fact.Commit x ∷ []) y z ≡ is_committed g facts y z) s d e here
+            on : (b : Bool) → (nat_eq x.body.s s && bytes_eq x.body.digest d) ≡ b →
+                is_committed g (facts ++ fact.Commit x ∷ []) s d ≡ is_committed g facts s d
+            on true e = at (λ (y : ℕ) (z : List ℕ). is_committed g (facts ++ fact.Commit x ∷ [])
+                y z ≡ is_committed g facts y z) s d e here
             on false e = apart s d e
     by true fresh on_true on_false =
-        agrees-alike _ _ _ _ _ _ _ _ _ _ now known (λ k d. sym (prepares k d)) (λ k. sym (prepared-as g facts (fact.Commit x) k refl (prepares k))) (λ s d. commits s d (nat_eq x.body.s s && bytes_eq x.body.digest d) refl) (λ s. first s (nat_eq x.body.s s) refl)
-        (on_true (rows_known facts) (prepares_in g facts) (prepared_in g facts) (is_committed g facts) (ordered_in g facts) agrees)
+        agrees-alike _ _ _ _ _ _ _ _ _ _ now known (λ k d. sym (prepares k d))
+        (λ k. sym (prepared-as g facts (fact.Commit x) k refl (prepares k)))
+        (λ s d. commits s d (nat_eq x.body.s s && bytes_eq x.body.digest d) refl)
+        (λ s. first s (nat_eq x.body.s s) refl)
+        (on_true (rows_known facts) (prepares_in g facts) (prepared_in g facts) (is_committed g facts)
+        (ordered_in g facts) agrees)
       where
         either : (b : Bool) → (b || true) ≡ true
         either true = refl
@@ -322,18 +462,27 @@ choices-commit g n q facts x old new before after is_new c now sizes some has_ol
         there : is_committed g (facts ++ fact.Commit x ∷ []) x.body.s x.body.digest ≡ true
         there = voted-committed g (facts ++ fact.Commit x ∷ []) x.body.v x.body.s x.body.digest enough fresh.0
 
-        commits : (s : ℕ) (d : List ℕ) (here : Bool) → (nat_eq x.body.s s && bytes_eq x.body.digest d) ≡ here → (is_committed g facts s d || here) ≡ is_committed g (facts ++ fact.Commit x ∷ []) s d
-        commits s d true e = either (is_committed g facts s d) ∙ sym (at (λ (y : ℕ) (z : List ℕ). is_committed g (facts ++ fact.Commit x ∷ []) y z ≡ true) s d e there)
+        commits : (s : ℕ) (d : List ℕ) (here : Bool) → (nat_eq x.body.s s && bytes_eq x.body.digest d) ≡ here →
+            (is_committed g facts s d || here) ≡ is_committed g (facts ++ fact.Commit x ∷ []) s d
+        commits s d true e = either (is_committed g facts s d)
+            ∙ sym (at (λ (y : ℕ) (z : List ℕ). is_committed g (facts ++ fact.Commit x ∷ []) y z ≡ true) s d e there)
         commits s d false e = or-false (is_committed g facts s d) ∙ sym (apart s d e)
 
-        first : (s : ℕ) (here : Bool) → nat_eq x.body.s s ≡ here → or_else (ordered_in g facts s) (cond (here && is_known (rows_known facts) x.body.digest) (Some x.body.digest) None) ≡ ordered_in g (facts ++ fact.Commit x ∷ []) s
-        first s false e = or_else-none (ordered_in g facts s) ∙ sym (ordered-as g facts (fact.Commit x) s refl (λ d. apart s d (ap (λ b. b && bytes_eq x.body.digest d) e)))
+        first : (s : ℕ) (here : Bool) → nat_eq x.body.s s ≡ here →
+            or_else (ordered_in g facts s)
+            (cond (here && is_known (rows_known facts) x.body.digest) (Some x.body.digest) None) ≡ ordered_in g
+            (facts ++ fact.Commit x ∷ []) s
+        first s false e = or_else-none (ordered_in g facts s)
+            ∙ sym (ordered-as g facts (fact.Commit x) s refl
+            (λ d. apart s d (ap (λ b. b && bytes_eq x.body.digest d) e)))
         first s true e = sym (ordered-newly g facts (fact.Commit x) s x.body.digest refl
-            (subst (λ (y : ℕ). is_committed g (facts ++ fact.Commit x ∷ []) y x.body.digest ≡ true) (nat_eq-same x.body.s s e) there)
+            (subst (λ (y : ℕ). is_committed g (facts ++ fact.Commit x ∷ []) y x.body.digest ≡ true)
+            (nat_eq-same x.body.s s e) there)
             (λ d other. apart s d (ap (λ b. b && bytes_eq x.body.digest d) e ∙ other)))
 
 -- a fact that offers nothing
-pub offers-other : (facts : List OrderFact) (x : OrderFact) (offers : Offers) → ((v : ℕ) → plan_in v x ≡ None) → ((v s : ℕ) → proposal_in v s x ≡ None) → HasOffers facts offers → HasOffers (facts ++ x ∷ []) offers
+pub offers-other : (facts : List OrderFact) (x : OrderFact) (offers : Offers) → ((v : ℕ) → plan_in v x ≡ None) →
+    ((v s : ℕ) → proposal_in v s x ≡ None) → HasOffers facts offers → HasOffers (facts ++ x ∷ []) offers
 offers-other facts x offers plan proposal has = record {
   first = has.first;
   plans = λ v. has.plans v ∙ sym (first-other (plan_in v) facts x (plan v));
@@ -342,12 +491,15 @@ offers-other facts x offers plan proposal has = record {
 
 -- stable
 
-stable-is : (g : Group) (facts : List OrderFact) → stable g facts ≡ greatest_of (filter_map (number_marked g facts) facts)
+stable-is : (g : Group) (facts : List OrderFact) →
+    stable g facts ≡ greatest_of (filter_map (number_marked g facts) facts)
 unfolding stable
 stable-is g facts = refl
 
 -- a fact shows the same number where the same numbers are marked by a quorum
-marked-same : (g : Group) (facts more : List OrderFact) → ((s : ℕ) → is_voted g (mark_by s) more ≡ is_voted g (mark_by s) facts) → (x : OrderFact) → number_marked g more x ≡ number_marked g facts x
+marked-same : (g : Group) (facts more : List OrderFact) →
+    ((s : ℕ) → is_voted g (mark_by s) more ≡ is_voted g (mark_by s) facts) → (x : OrderFact) →
+    number_marked g more x ≡ number_marked g facts x
 marked-same g facts more same (fact.Mark f) = ap (λ b. cond b (Some f.body.s) None) (same f.body.s)
 marked-same g facts more same (fact.Prepare f) = refl
 marked-same g facts more same (fact.Commit f) = refl
@@ -356,18 +508,24 @@ marked-same g facts more same (fact.Proposal v s rows) = refl
 marked-same g facts more same (fact.Plan v plan) = refl
 
 -- one fact more, by which no more numbers are marked by a quorum
-stable-pushed : (g : Group) (facts : List OrderFact) (x : OrderFact) → ((s : ℕ) → is_voted g (mark_by s) (facts ++ x ∷ []) ≡ is_voted g (mark_by s) facts)
+stable-pushed : (g : Group) (facts : List OrderFact) (x : OrderFact) →
+    ((s : ℕ) → is_voted g (mark_by s) (facts ++ x ∷ []) ≡ is_voted g (mark_by s) facts)
     → stable g (facts ++ x ∷ []) ≡ max (stable g facts) (or_zero (number_marked g facts x))
 stable-pushed g facts x same =
-    stable-is g (facts ++ x ∷ []) ∙ greatest-same (number_marked g facts) (number_marked g (facts ++ x ∷ [])) (marked-same g facts (facts ++ x ∷ []) same) (facts ++ x ∷ [])
-    ∙ greatest-push (number_marked g facts) facts x ∙ ap (λ k. max k (or_zero (number_marked g facts x))) (sym (stable-is g facts))
+    stable-is g (facts ++ x ∷ []) ∙ greatest-same (number_marked g facts) (number_marked g (facts ++ x ∷ []))
+    (marked-same g facts (facts ++ x ∷ []) same) (facts ++ x ∷ [])
+    ∙ greatest-push (number_marked g facts) facts x ∙ ap (λ k. max k (or_zero (number_marked g facts x)))
+    (sym (stable-is g facts))
 
 max-none : (k : ℕ) → max k 0 ≡ k
 max-none k = omega arith
 
-no_mark-shown : (g : Group) (facts : List OrderFact) (x : OrderFact) → ((s m : ℕ) → mark_by s m x ≡ None) → number_marked g facts x ≡ None
+no_mark-shown : (g : Group) (facts : List OrderFact) (x : OrderFact) → ((s m : ℕ) → mark_by s m x ≡ None) →
+    number_marked g facts x ≡ None
 no_mark-shown g facts (fact.Mark f) none =
-    let own : Some f ≡ None = sym (ap (λ b. cond (b && nat_eq f.body.s f.body.s) (Some f) None) (eq-eqb f.signer f.signer refl) ∙ ap (λ b. cond b (Some f) None) (eq-eqb f.body.s f.body.s refl)) ∙ none f.body.s f.signer in
+    let own : Some f ≡ None =
+    sym (ap (λ b. cond (b && nat_eq f.body.s f.body.s) (Some f) None) (eq-eqb f.signer f.signer refl)
+    ∙ ap (λ b. cond b (Some f) None) (eq-eqb f.body.s f.body.s refl)) ∙ none f.body.s f.signer in
     absurd (cc)
 no_mark-shown g facts (fact.Prepare f) none = refl
 no_mark-shown g facts (fact.Commit f) none = refl
@@ -375,15 +533,22 @@ no_mark-shown g facts (fact.Rows rows) none = refl
 no_mark-shown g facts (fact.Proposal v s rows) none = refl
 no_mark-shown g facts (fact.Plan v plan) none = refl
 
-pub stable-no_mark : (g : Group) (facts : List OrderFact) (x : OrderFact) → ((s m : ℕ) → mark_by s m x ≡ None) → stable g (facts ++ x ∷ []) ≡ stable g facts
+pub stable-no_mark : (g : Group) (facts : List OrderFact) (x : OrderFact) → ((s m : ℕ) → mark_by s m x ≡ None) →
+    stable g (facts ++ x ∷ []) ≡ stable g facts
 stable-no_mark g facts x none =
-    stable-pushed g facts x (λ s. voted-other g (mark_by s) facts x (none s)) ∙ ap (λ o. max (stable g facts) (or_zero o)) (no_mark-shown g facts x none) ∙ max-none (stable g facts)
+    stable-pushed g facts x (λ s. voted-other g (mark_by s) facts x (none s))
+    ∙ ap (λ o. max (stable g facts) (or_zero o)) (no_mark-shown g facts x none) ∙ max-none (stable g facts)
 
-marks-apart : (g : Group) (facts : List OrderFact) (x : Signed Mark) (s : ℕ) → nat_eq x.body.s s ≡ false → is_voted g (mark_by s) (facts ++ fact.Mark x ∷ []) ≡ is_voted g (mark_by s) facts
-marks-apart g facts x s e = voted-other g (mark_by s) facts (fact.Mark x) (λ m. ap (λ b. cond (nat_eq x.signer m && b) (Some x) None) e ∙ ap (λ b. cond b (Some x) None) (false-and (nat_eq x.signer m)))
+marks-apart : (g : Group) (facts : List OrderFact) (x : Signed Mark) (s : ℕ) → nat_eq x.body.s s ≡ false →
+    is_voted g (mark_by s) (facts ++ fact.Mark x ∷ []) ≡ is_voted g (mark_by s) facts
+marks-apart g facts x s e =
+    voted-other g (mark_by s) facts (fact.Mark x) (λ m. ap (λ b. cond (nat_eq x.signer m && b) (Some x) None) e
+    ∙ ap (λ b. cond b (Some x) None) (and-false (nat_eq x.signer m)))
 
 -- a mark raises the stable number where its number has a quorum now
-pub stable-mark : (g : Group) (n q : ℕ) (facts : List OrderFact) (x : Signed Mark) (new : Map (ℕ × ℕ) (List ℕ)) (count was raised : ℕ) → HasSizes g n q → HasMarks (facts ++ fact.Mark x ∷ []) new → count ≡ length (given (mark_at new x.body.s) n) → was ≡ stable g facts →
+pub stable-mark : (g : Group) (n q : ℕ) (facts : List OrderFact) (x : Signed Mark) (new : Map (ℕ × ℕ) (List ℕ))
+    (count was raised : ℕ) → HasSizes g n q → HasMarks (facts ++ fact.Mark x ∷ []) new →
+    count ≡ length (given (mark_at new x.body.s) n) → was ≡ stable g facts →
     raised ≡ cond (nat_le q count) (max was x.body.s) was → raised ≡ stable g (facts ++ fact.Mark x ∷ [])
 stable-mark g n q facts x new count was raised sizes has count_is was_is is =
     is ∙ (λ i. cond (has_is i) (max (was_is i) x.body.s) (was_is i)) ∙ by (is_voted g (mark_by x.body.s) now) refl
@@ -404,15 +569,18 @@ stable-mark g n q facts x new count was raised sizes has count_is was_is is =
         on false h = refl
         on true h = absurd (true≢false (sym (voted-stays g (mark_by x.body.s) facts (fact.Mark x) h) ∙ e))
 
-    same : is_voted g (mark_by x.body.s) now ≡ false → (s : ℕ) → is_voted g (mark_by s) now ≡ is_voted g (mark_by s) facts
+    same : is_voted g (mark_by x.body.s) now ≡ false → (s : ℕ) →
+        is_voted g (mark_by s) now ≡ is_voted g (mark_by s) facts
     same e s = on (nat_eq x.body.s s) refl
       where
         on : (b : Bool) → nat_eq x.body.s s ≡ b → is_voted g (mark_by s) now ≡ is_voted g (mark_by s) facts
         on false h = marks-apart g facts x s h
-        on true h = subst (λ (t : ℕ). is_voted g (mark_by t) now ≡ is_voted g (mark_by t) facts) (nat_eq-same x.body.s s h) (e ∙ sym (lost e))
+        on true h = subst (λ (t : ℕ). is_voted g (mark_by t) now ≡ is_voted g (mark_by t) facts)
+            (nat_eq-same x.body.s s h) (e ∙ sym (lost e))
 
     marked : is_voted g (mark_by x.body.s) now ≡ true → (s : ℕ) (b : Bool) → nat_eq x.body.s s ≡ b →
-        (shown s (is_voted g (mark_by s) now) ≡ shown s (is_voted g (mark_by s) facts)) ⊎ ((shown s (is_voted g (mark_by s) facts) ≡ None) × (shown s (is_voted g (mark_by s) now) ≡ Some x.body.s))
+        (shown s (is_voted g (mark_by s) now) ≡ shown s (is_voted g (mark_by s) facts))
+        ⊎ ((shown s (is_voted g (mark_by s) facts) ≡ None) × (shown s (is_voted g (mark_by s) now) ≡ Some x.body.s))
     marked e s false apart = inl (ap (shown s) (marks-apart g facts x s apart))
     marked e s true own = on (is_voted g (mark_by s) facts) refl
       where
@@ -420,11 +588,15 @@ stable-mark g n q facts x new count was raised sizes has count_is was_is is =
         here = ap (shown s) (ap (λ t. is_voted g (mark_by t) now) (sym (nat_eq-same x.body.s s own)) ∙ e)
 
         on : (b : Bool) → is_voted g (mark_by s) facts ≡ b →
-            (shown s (is_voted g (mark_by s) now) ≡ shown s (is_voted g (mark_by s) facts)) ⊎ ((shown s (is_voted g (mark_by s) facts) ≡ None) × (shown s (is_voted g (mark_by s) now) ≡ Some x.body.s))
+            (shown s (is_voted g (mark_by s) now) ≡ shown s (is_voted g (mark_by s) facts))
+            ⊎ ((shown s (is_voted g (mark_by s) facts) ≡ None)
+            × (shown s (is_voted g (mark_by s) now) ≡ Some x.body.s))
         on true was = inl (here ∙ sym (ap (shown s) was))
         on false was = inr (ap (shown s) was, here ∙ ap Some (sym (nat_eq-same x.body.s s own)))
 
-    more : is_voted g (mark_by x.body.s) now ≡ true → (f : OrderFact) → (number_marked g now f ≡ number_marked g facts f) ⊎ ((number_marked g facts f ≡ None) × (number_marked g now f ≡ Some x.body.s))
+    more : is_voted g (mark_by x.body.s) now ≡ true → (f : OrderFact) →
+        (number_marked g now f ≡ number_marked g facts f)
+        ⊎ ((number_marked g facts f ≡ None) × (number_marked g now f ≡ Some x.body.s))
     more e (fact.Mark f) = marked e f.body.s (nat_eq x.body.s f.body.s) refl
     more e (fact.Prepare f) = inl refl
     more e (fact.Commit f) = inl refl
@@ -432,34 +604,57 @@ stable-mark g n q facts x new count was raised sizes has count_is was_is is =
     more e (fact.Proposal v s rows) = inl refl
     more e (fact.Plan v plan) = inl refl
 
-    by : (b : Bool) → is_voted g (mark_by x.body.s) now ≡ b → cond b (max (stable g facts) x.body.s) (stable g facts) ≡ stable g now
+    by : (b : Bool) → is_voted g (mark_by x.body.s) now ≡ b →
+        cond b (max (stable g facts) x.body.s) (stable g facts) ≡ stable g now
     by true e = sym (
         stable-is g now ∙ greatest-push (number_marked g now) facts (fact.Mark x)
         ∙ ap (λ b. max (greatest_of (filter_map (number_marked g now) facts)) (or_zero (shown x.body.s b))) e
-        ∙ greatest-more (number_marked g facts) (number_marked g now) x.body.s (more e) facts ∙ ap (λ k. max k x.body.s) (sym (stable-is g facts)))
-    by false e = sym (stable-pushed g facts (fact.Mark x) (same e) ∙ ap (λ b. max (stable g facts) (or_zero (shown x.body.s b))) (lost e) ∙ max-none (stable g facts))
+        ∙ greatest-more (number_marked g facts) (number_marked g now) x.body.s (more e) facts
+        ∙ ap (λ k. max k x.body.s) (sym (stable-is g facts)))
+    by false e = sym (stable-pushed g facts (fact.Mark x) (same e)
+        ∙ ap (λ b. max (stable g facts) (or_zero (shown x.body.s b))) (lost e) ∙ max-none (stable g facts))
 
 -- what a map held, in other room, is there still, and takes one more
-pub taken-first : {K X : Type 0} (same : K → K → Bool) (old mid new : Map K X) (key : K) (x : X) → mid.entries ≡ old.entries → TakesFirst same mid new key x → TakesFirst same old new key x
-taken-first same old mid new key x like takes k = takes k ∙ ap (λ es. or_else (lookup (same k) es) (cond (same key k) (Some x) None)) like
+pub taken-first : {K X : Type 0} (same : K → K → Bool) (old mid new : Map K X) (key : K) (x : X) →
+    mid.entries ≡ old.entries → TakesFirst same mid new key x → TakesFirst same old new key x
+taken-first same old mid new key x like takes k =
+    takes k ∙ ap (λ es. or_else (lookup (same k) es) (cond (same key k) (Some x) None)) like
 
-pub offers-proposal : (facts : List OrderFact) (v s : ℕ) (rows : List (List ℕ)) (offers : Offers) (new : Map (ℕ × ℕ) (List (List ℕ))) (pending : Pending) → TakesFirst same_pair offers.proposals new (v, s) rows → HasOffers facts offers →
-    HasOffers (facts ++ fact.Proposal v s rows ∷ []) record { first_plan = offers.first_plan; plans = offers.plans; proposals = new; pending = pending }
+pub offers-proposal : (facts : List OrderFact) (v s : ℕ) (rows : List (List ℕ)) (offers : Offers)
+    (new : Map (ℕ × ℕ) (List (List ℕ))) (pending : PendingNumbers) →
+    TakesFirst same_pair offers.proposals new (v, s) rows → HasOffers facts offers →
+    HasOffers (facts ++ fact.Proposal v s rows ∷ []) record {
+      first_plan = offers.first_plan;
+      plans = offers.plans;
+      proposals = new;
+      pending = pending;
+    }
 offers-proposal facts v s rows offers new pending takes has = record {
   first = has.first;
   plans = λ w. has.plans w ∙ sym (first-other (plan_in w) facts (fact.Proposal v s rows) refl);
-  proposals = λ w t. takes (w, t) ∙ ap (λ o. or_else o (cond (same_pair (v, s) (w, t)) (Some rows) None)) (has.proposals w t) ∙ sym (first_of_list-push (proposal_in w t) facts (fact.Proposal v s rows));
+  proposals = λ w t. takes (w, t) ∙ ap (λ o. or_else o (cond (same_pair (v, s) (w, t)) (Some rows) None))
+      (has.proposals w t) ∙ sym (first_of_list-push (proposal_in w t) facts (fact.Proposal v s rows));
 }
 
-pub offers-plan : (facts : List OrderFact) (v : ℕ) (plan : Plan) (offers : Offers) (new : Map ℕ Plan) (pending : Pending) → TakesFirst nat_eq offers.plans new v plan → HasOffers facts offers →
-    HasOffers (facts ++ fact.Plan v plan ∷ []) record { first_plan = offers.first_plan; plans = new; proposals = offers.proposals; pending = pending }
+pub offers-plan : (facts : List OrderFact) (v : ℕ) (plan : Plan) (offers : Offers) (new : Map ℕ Plan)
+    (pending : PendingNumbers) → TakesFirst nat_eq offers.plans new v plan → HasOffers facts offers →
+    HasOffers (facts ++ fact.Plan v plan ∷ []) record {
+      first_plan = offers.first_plan;
+      plans = new;
+      proposals =
+          offers.proposals;
+      pending = pending;
+    }
 offers-plan facts v plan offers new pending takes has = record {
   first = has.first;
-  plans = λ w. takes w ∙ ap (λ o. or_else o (cond (nat_eq v w) (Some plan) None)) (has.plans w) ∙ sym (first_of_list-push (plan_in w) facts (fact.Plan v plan));
+  plans = λ w. takes w ∙ ap (λ o. or_else o (cond (nat_eq v w) (Some plan) None)) (has.plans w)
+      ∙ sym (first_of_list-push (plan_in w) facts (fact.Plan v plan));
   proposals = λ w t. has.proposals w t ∙ sym (first-other (proposal_in w t) facts (fact.Plan v plan) refl);
 }
 
-pub fit-proposal : (key : ℕ × ℕ) (rows : List (List ℕ)) (offers : Offers) (new : Map (ℕ × ℕ) (List (List ℕ))) (pending : Pending) → rows_fit rows ≡ true → TakesFirst same_pair offers.proposals new key rows → OffersFit offers →
+pub fit-proposal : (key : ℕ × ℕ) (rows : List (List ℕ)) (offers : Offers) (new : Map (ℕ × ℕ) (List (List ℕ)))
+    (pending : PendingNumbers) → rows_fit rows ≡ true → TakesFirst same_pair offers.proposals new key rows →
+    OffersFit offers →
     OffersFit record { first_plan = offers.first_plan; plans = offers.plans; proposals = new; pending = pending }
 fit-proposal key rows offers new pending fit takes fits_all = record {
   first = fits_all.first;
@@ -472,7 +667,8 @@ fit-proposal key rows offers new pending fit takes fits_all = record {
     by None true e = fit
     by None false e = refl
 
-pub fit-plan : (v : ℕ) (plan : Plan) (offers : Offers) (new : Map ℕ Plan) (pending : Pending) → list_all rows_fit plan.rows ≡ true → TakesFirst nat_eq offers.plans new v plan → OffersFit offers →
+pub fit-plan : (v : ℕ) (plan : Plan) (offers : Offers) (new : Map ℕ Plan) (pending : PendingNumbers) →
+    list_all rows_fit plan.rows ≡ true → TakesFirst nat_eq offers.plans new v plan → OffersFit offers →
     OffersFit record { first_plan = offers.first_plan; plans = new; proposals = offers.proposals; pending = pending }
 fit-plan v plan offers new pending fit takes fits_all = record {
   first = fits_all.first;
@@ -488,7 +684,3 @@ fit-plan v plan offers new pending fit takes fits_all = record {
 pub raised-limit : (b : Bool) (was s : ℕ) → was ≤ most_number → s ≤ most_number → cond b (max was s) was ≤ most_number
 raised-limit false was s le most = le
 raised-limit true was s le most = omega arith
-
-pub most_number-is : most_number ≡ 4096
-unfolding most_number
-most_number-is = refl

@@ -1,5 +1,6 @@
 -- Votes: what one fact more adds to them, and when there is a quorum.
-use Rattle.std.proofs.Common.{◌≡◌, ℕ, ◌≤◌, Bool, true, false, cond, ◌&&◌, List, [], ◌∷◌, ◌++◌, Option, Some, None, is_some, length, nat_eq, nat_le, refl, sym, ◌∙◌, ap, arith}
+use Rattle.std.proofs.Common.{◌≡◌, ℕ, ◌≤◌, Bool, true, false, cond, ◌&&◌, List, [], ◌∷◌, ◌++◌, Option, Some, None}
+use Rattle.std.proofs.Common.{is_some, length, nat_eq, nat_le, refl, sym, ◌∙◌, ap, arith}
 use Rattle.std.specs.List.{filter_map}
 use Rattle.std.specs.Option.{option_map}
 use Rattle.std.specs.Str.{bytes_eq}
@@ -14,28 +15,39 @@ use Rattle.protocol_rules.specs.declared.facts.OrderFact.TheVariants as fact
 use Rattle.protocol_rules.specs.Words.{or_else, first_of_list}
 use Rattle.protocol_rules.specs.Group.{Group}
 use Rattle.protocol_rules.specs.Order.{prepare_by, commit_by, mark_by, is_voted}
-use Rattle.global_order.specs.Index.{Map, Vote, TakesFirst, same_vote, same_pair, given, vote_at, mark_at, prepare_of, commit_of, mark_of, HasPrepares, HasCommits, HasMarks}
-use Rattle.global_order.proofs.Booleans.{same_vote-same, same_pair-same, first_of_list-push, or_else-none, option_map-or_else}
+use Rattle.global_order.specs.Index.{Map, Vote, TakesFirst, same_vote, same_pair, given, vote_at, mark_at, prepare_of}
+use Rattle.global_order.specs.Index.{commit_of, mark_of, HasPrepares, HasCommits, HasMarks}
+use Rattle.global_order.proofs.Booleans.{same_vote-same, same_pair-same, first_of_list-push, or_else-none}
+use Rattle.global_order.proofs.Booleans.{option_map-or_else}
 use Rattle.global_order.proofs.Given.{length-map, length-grows}
+pub use Rattle.plain_lists.proofs.Booleans.{regroup}
 
 -- a fact that is no such vote changes nothing
 pub first-other : {X : Type 0} (vote : OrderFact → Option X) (facts : List OrderFact) (x : OrderFact) → vote x ≡ None →
     first_of_list (filter_map vote (facts ++ x ∷ [])) ≡ first_of_list (filter_map vote facts)
-first-other vote facts x none = first_of_list-push vote facts x ∙ ap (or_else (first_of_list (filter_map vote facts))) none ∙ or_else-none (first_of_list (filter_map vote facts))
+first-other vote facts x none = first_of_list-push vote facts x ∙ ap (or_else (first_of_list (filter_map vote facts)))
+    none ∙ or_else-none (first_of_list (filter_map vote facts))
 
-pub voted-other : {X : Type 0} (g : Group) (vote : ℕ → OrderFact → Option X) (facts : List OrderFact) (x : OrderFact) → ((m : ℕ) → vote m x ≡ None) →
+pub voted-other : {X : Type 0} (g : Group) (vote : ℕ → OrderFact → Option X) (facts : List OrderFact)
+    (x : OrderFact) → ((m : ℕ) → vote m x ≡ None) →
     is_voted g vote (facts ++ x ∷ []) ≡ is_voted g vote facts
 unfolding is_voted
-voted-other g vote facts x none = λ i. nat_le g.q (length (filter_map (λ m. first-other (vote m) facts x (none m) i) (numbers_below g.n)))
+voted-other g vote facts x none =
+    λ i. nat_le g.q (length (filter_map (λ m. first-other (vote m) facts x (none m) i) (numbers_below g.n)))
 
 -- a quorum stays one
-pub voted-stays : {X : Type 0} (g : Group) (vote : ℕ → OrderFact → Option X) (facts : List OrderFact) (x : OrderFact) → is_voted g vote facts ≡ true → is_voted g vote (facts ++ x ∷ []) ≡ true
+pub voted-stays : {X : Type 0} (g : Group) (vote : ℕ → OrderFact → Option X) (facts : List OrderFact)
+    (x : OrderFact) → is_voted g vote facts ≡ true → is_voted g vote (facts ++ x ∷ []) ≡ true
 unfolding is_voted
 voted-stays {X} g vote facts x there =
-    let before : g.q ≤ length (filter_map (λ m. first_of_list (filter_map (vote m) facts)) (numbers_below g.n)) = leb-true g.q _ there in
-    let more : length (filter_map (λ m. first_of_list (filter_map (vote m) facts)) (numbers_below g.n)) ≤ length (filter_map (λ m. first_of_list (filter_map (vote m) (facts ++ x ∷ []))) (numbers_below g.n)) =
-    length-grows (λ m. first_of_list (filter_map (vote m) facts)) (λ m. first_of_list (filter_map (vote m) (facts ++ x ∷ []))) (numbers_below g.n)
-    (λ m some. ap is_some (first_of_list-push (vote m) facts x) ∙ keeps (first_of_list (filter_map (vote m) facts)) (vote m x) some) in
+    let before : g.q ≤ length (filter_map (λ m. first_of_list (filter_map (vote m) facts)) (numbers_below g.n)) =
+    leb-true g.q _ there in
+    let more : length (filter_map (λ m. first_of_list (filter_map (vote m) facts)) (numbers_below g.n)) ≤ length
+    (filter_map (λ m. first_of_list (filter_map (vote m) (facts ++ x ∷ []))) (numbers_below g.n)) =
+    length-grows (λ m. first_of_list (filter_map (vote m) facts))
+    (λ m. first_of_list (filter_map (vote m) (facts ++ x ∷ []))) (numbers_below g.n)
+    (λ m some. ap is_some (first_of_list-push (vote m) facts x)
+    ∙ keeps (first_of_list (filter_map (vote m) facts)) (vote m x) some) in
     le-leb g.q _ (omega arith)
   where
     keeps : (o p : Option X) → is_some o ≡ true → is_some (or_else o p) ≡ true
@@ -44,48 +56,53 @@ voted-stays {X} g vote facts x there =
 
 -- prepares
 
-regroup : (a b c d : Bool) → (((b && c) && d) && a) ≡ (((a && b) && c) && d)
-regroup true true true true = refl
-regroup true true true false = refl
-regroup true true false d = refl
-regroup true false c d = refl
-regroup false true true true = refl
-regroup false true true false = refl
-regroup false true false d = refl
-regroup false false c d = refl
-
 prepare-is : (x : Signed Prepare) (v s : ℕ) (d : List ℕ) (m : ℕ) →
-    option_map (prepare_of v s d m) (cond (same_vote (x.body.v, x.body.s, x.body.digest, x.signer) (v, s, d, m)) (Some x.sig) None) ≡ prepare_by v s d m (fact.Prepare x)
+    option_map (prepare_of v s d m) (cond (same_vote (x.body.v, x.body.s, x.body.digest, x.signer) (v, s, d, m))
+    (Some x.sig) None) ≡ prepare_by v s d m (fact.Prepare x)
 prepare-is x v s d m = by (same_vote (x.body.v, x.body.s, x.body.digest, x.signer) (v, s, d, m)) refl
-    ∙ ap (λ b. cond b (Some x) None) (regroup (nat_eq x.signer m) (nat_eq x.body.v v) (nat_eq x.body.s s) (bytes_eq x.body.digest d))
+    ∙ ap (λ b. cond b (Some x) None)
+    (regroup (nat_eq x.signer m) (nat_eq x.body.v v) (nat_eq x.body.s s) (bytes_eq x.body.digest d))
   where
-    by : (here : Bool) → same_vote (x.body.v, x.body.s, x.body.digest, x.signer) (v, s, d, m) ≡ here → option_map (prepare_of v s d m) (cond here (Some x.sig) None) ≡ cond here (Some x) None
+    by : (here : Bool) → same_vote (x.body.v, x.body.s, x.body.digest, x.signer) (v, s, d, m) ≡ here →
+        option_map (prepare_of v s d m) (cond here (Some x.sig) None) ≡ cond here (Some x) None
     by false e = refl
-    by true e = ap (λ (k : Vote). Some (prepare_of k.0 k.1 k.2 k.3 x.sig)) (sym (same_vote-same (x.body.v, x.body.s, x.body.digest, x.signer) (v, s, d, m) e))
+    by true e = ap (λ (k : Vote). Some (prepare_of k.0 k.1 k.2 k.3 x.sig))
+        (sym (same_vote-same (x.body.v, x.body.s, x.body.digest, x.signer) (v, s, d, m) e))
 
-pub prepares-push : (facts : List OrderFact) (x : Signed Prepare) (old new : Map Vote (List ℕ)) → TakesFirst same_vote old new (x.body.v, x.body.s, x.body.digest, x.signer) x.sig →
+pub prepares-push : (facts : List OrderFact) (x : Signed Prepare) (old new : Map Vote (List ℕ)) →
+    TakesFirst same_vote old new (x.body.v, x.body.s, x.body.digest, x.signer) x.sig →
     HasPrepares facts old → HasPrepares (facts ++ fact.Prepare x ∷ []) new
 prepares-push facts x old new takes has v s d m =
     ap (option_map (prepare_of v s d m)) (takes (v, s, d, m))
-    ∙ option_map-or_else (prepare_of v s d m) (vote_at old v s d m) (cond (same_vote (x.body.v, x.body.s, x.body.digest, x.signer) (v, s, d, m)) (Some x.sig) None)
-    ∙ ap (λ o. or_else o (option_map (prepare_of v s d m) (cond (same_vote (x.body.v, x.body.s, x.body.digest, x.signer) (v, s, d, m)) (Some x.sig) None))) (has v s d m)
+    ∙ option_map-or_else (prepare_of v s d m) (vote_at old v s d m)
+    (cond (same_vote (x.body.v, x.body.s, x.body.digest, x.signer) (v, s, d, m)) (Some x.sig) None)
+    ∙ ap (λ o. or_else o (option_map (prepare_of v s d m)
+    (cond (same_vote (x.body.v, x.body.s, x.body.digest, x.signer) (v, s, d, m)) (Some x.sig) None))) (has v s d m)
     ∙ ap (or_else (first_of_list (filter_map (prepare_by v s d m) facts))) (prepare-is x v s d m)
     ∙ sym (first_of_list-push (prepare_by v s d m) facts (fact.Prepare x))
 
-pub prepares-other : (facts : List OrderFact) (x : OrderFact) (votes : Map Vote (List ℕ)) → ((v s : ℕ) (d : List ℕ) (m : ℕ) → prepare_by v s d m x ≡ None) → HasPrepares facts votes → HasPrepares (facts ++ x ∷ []) votes
-prepares-other facts x votes none has v s d m = has v s d m ∙ sym (first-other (prepare_by v s d m) facts x (none v s d m))
+pub prepares-other : (facts : List OrderFact) (x : OrderFact) (votes : Map Vote (List ℕ)) →
+    ((v s : ℕ) (d : List ℕ) (m : ℕ) → prepare_by v s d m x ≡ None) → HasPrepares facts votes →
+    HasPrepares (facts ++ x ∷ []) votes
+prepares-other facts x votes none has v s d m =
+    has v s d m ∙ sym (first-other (prepare_by v s d m) facts x (none v s d m))
 
-pub prepares-quorum : (g : Group) (n : ℕ) (facts : List OrderFact) (votes : Map Vote (List ℕ)) (v s : ℕ) (d : List ℕ) → g.n ≡ n → HasPrepares facts votes →
+pub prepares-quorum : (g : Group) (n : ℕ) (facts : List OrderFact) (votes : Map Vote (List ℕ)) (v s : ℕ)
+    (d : List ℕ) → g.n ≡ n → HasPrepares facts votes →
     nat_le g.q (length (given (vote_at votes v s d) n)) ≡ is_voted g (prepare_by v s d) facts
 unfolding is_voted
 prepares-quorum g n facts votes v s d masters has =
-    ap (nat_le g.q) (ap (λ k. length (given (vote_at votes v s d) k)) (sym masters) ∙ sym (length-map (prepare_of v s d) (vote_at votes v s d) (numbers_below g.n))
+    ap (nat_le g.q) (ap (λ k. length (given (vote_at votes v s d) k)) (sym masters)
+    ∙ sym (length-map (prepare_of v s d) (vote_at votes v s d) (numbers_below g.n))
     ∙ (λ i. length (filter_map (λ m. has v s d m i) (numbers_below g.n))))
 
 -- another view, number or digest has the votes that it had
-pub prepares-apart : (g : Group) (facts : List OrderFact) (x : Signed Prepare) (v s : ℕ) (d : List ℕ) → (same_pair (x.body.v, x.body.s) (v, s) && bytes_eq x.body.digest d) ≡ false →
+pub prepares-apart : (g : Group) (facts : List OrderFact) (x : Signed Prepare) (v s : ℕ) (d : List ℕ) →
+    (same_pair (x.body.v, x.body.s) (v, s) && bytes_eq x.body.digest d) ≡ false →
     is_voted g (prepare_by v s d) (facts ++ fact.Prepare x ∷ []) ≡ is_voted g (prepare_by v s d) facts
-prepares-apart g facts x v s d apart = voted-other g (prepare_by v s d) facts (fact.Prepare x) (λ m. ap (λ b. cond b (Some x) None) (none (nat_eq x.signer m) (nat_eq x.body.v v) (nat_eq x.body.s s) (bytes_eq x.body.digest d) apart))
+prepares-apart g facts x v s d apart = voted-other g (prepare_by v s d) facts (fact.Prepare x)
+    (λ m. ap (λ b. cond b (Some x) None) (none (nat_eq x.signer m) (nat_eq x.body.v v) (nat_eq x.body.s s)
+    (bytes_eq x.body.digest d) apart))
   where
     none : (a b c e : Bool) → ((b && c) && e) ≡ false → (((a && b) && c) && e) ≡ false
     none false b c e is = refl
@@ -94,36 +111,51 @@ prepares-apart g facts x v s d apart = voted-other g (prepare_by v s d) facts (f
 -- commits
 
 commit-is : (x : Signed Commit) (v s : ℕ) (d : List ℕ) (m : ℕ) →
-    option_map (commit_of v s d m) (cond (same_vote (x.body.v, x.body.s, x.body.digest, x.signer) (v, s, d, m)) (Some x.sig) None) ≡ commit_by v s d m (fact.Commit x)
+    option_map (commit_of v s d m) (cond (same_vote (x.body.v, x.body.s, x.body.digest, x.signer) (v, s, d, m))
+    (Some x.sig) None) ≡ commit_by v s d m (fact.Commit x)
 commit-is x v s d m = by (same_vote (x.body.v, x.body.s, x.body.digest, x.signer) (v, s, d, m)) refl
-    ∙ ap (λ b. cond b (Some x) None) (regroup (nat_eq x.signer m) (nat_eq x.body.v v) (nat_eq x.body.s s) (bytes_eq x.body.digest d))
+    ∙ ap (λ b. cond b (Some x) None)
+    (regroup (nat_eq x.signer m) (nat_eq x.body.v v) (nat_eq x.body.s s) (bytes_eq x.body.digest d))
   where
-    by : (here : Bool) → same_vote (x.body.v, x.body.s, x.body.digest, x.signer) (v, s, d, m) ≡ here → option_map (commit_of v s d m) (cond here (Some x.sig) None) ≡ cond here (Some x) None
+    by : (here : Bool) → same_vote (x.body.v, x.body.s, x.body.digest, x.signer) (v, s, d, m) ≡ here →
+        option_map (commit_of v s d m) (cond here (Some x.sig) None) ≡ cond here (Some x) None
     by false e = refl
-    by true e = ap (λ (k : Vote). Some (commit_of k.0 k.1 k.2 k.3 x.sig)) (sym (same_vote-same (x.body.v, x.body.s, x.body.digest, x.signer) (v, s, d, m) e))
+    by true e = ap (λ (k : Vote). Some (commit_of k.0 k.1 k.2 k.3 x.sig))
+        (sym (same_vote-same (x.body.v, x.body.s, x.body.digest, x.signer) (v, s, d, m) e))
 
-pub commits-push : (facts : List OrderFact) (x : Signed Commit) (old new : Map Vote (List ℕ)) → TakesFirst same_vote old new (x.body.v, x.body.s, x.body.digest, x.signer) x.sig →
+pub commits-push : (facts : List OrderFact) (x : Signed Commit) (old new : Map Vote (List ℕ)) →
+    TakesFirst same_vote old new (x.body.v, x.body.s, x.body.digest, x.signer) x.sig →
     HasCommits facts old → HasCommits (facts ++ fact.Commit x ∷ []) new
 commits-push facts x old new takes has v s d m =
     ap (option_map (commit_of v s d m)) (takes (v, s, d, m))
-    ∙ option_map-or_else (commit_of v s d m) (vote_at old v s d m) (cond (same_vote (x.body.v, x.body.s, x.body.digest, x.signer) (v, s, d, m)) (Some x.sig) None)
-    ∙ ap (λ o. or_else o (option_map (commit_of v s d m) (cond (same_vote (x.body.v, x.body.s, x.body.digest, x.signer) (v, s, d, m)) (Some x.sig) None))) (has v s d m)
+    ∙ option_map-or_else (commit_of v s d m) (vote_at old v s d m)
+    (cond (same_vote (x.body.v, x.body.s, x.body.digest, x.signer) (v, s, d, m)) (Some x.sig) None)
+    ∙ ap (λ o. or_else o (option_map (commit_of v s d m)
+    (cond (same_vote (x.body.v, x.body.s, x.body.digest, x.signer) (v, s, d, m)) (Some x.sig) None))) (has v s d m)
     ∙ ap (or_else (first_of_list (filter_map (commit_by v s d m) facts))) (commit-is x v s d m)
     ∙ sym (first_of_list-push (commit_by v s d m) facts (fact.Commit x))
 
-pub commits-other : (facts : List OrderFact) (x : OrderFact) (votes : Map Vote (List ℕ)) → ((v s : ℕ) (d : List ℕ) (m : ℕ) → commit_by v s d m x ≡ None) → HasCommits facts votes → HasCommits (facts ++ x ∷ []) votes
-commits-other facts x votes none has v s d m = has v s d m ∙ sym (first-other (commit_by v s d m) facts x (none v s d m))
+pub commits-other : (facts : List OrderFact) (x : OrderFact) (votes : Map Vote (List ℕ)) →
+    ((v s : ℕ) (d : List ℕ) (m : ℕ) → commit_by v s d m x ≡ None) → HasCommits facts votes →
+    HasCommits (facts ++ x ∷ []) votes
+commits-other facts x votes none has v s d m =
+    has v s d m ∙ sym (first-other (commit_by v s d m) facts x (none v s d m))
 
-pub commits-quorum : (g : Group) (n : ℕ) (facts : List OrderFact) (votes : Map Vote (List ℕ)) (v s : ℕ) (d : List ℕ) → g.n ≡ n → HasCommits facts votes →
+pub commits-quorum : (g : Group) (n : ℕ) (facts : List OrderFact) (votes : Map Vote (List ℕ)) (v s : ℕ) (d : List ℕ) →
+    g.n ≡ n → HasCommits facts votes →
     nat_le g.q (length (given (vote_at votes v s d) n)) ≡ is_voted g (commit_by v s d) facts
 unfolding is_voted
 commits-quorum g n facts votes v s d masters has =
-    ap (nat_le g.q) (ap (λ k. length (given (vote_at votes v s d) k)) (sym masters) ∙ sym (length-map (commit_of v s d) (vote_at votes v s d) (numbers_below g.n))
+    ap (nat_le g.q) (ap (λ k. length (given (vote_at votes v s d) k)) (sym masters)
+    ∙ sym (length-map (commit_of v s d) (vote_at votes v s d) (numbers_below g.n))
     ∙ (λ i. length (filter_map (λ m. has v s d m i) (numbers_below g.n))))
 
-pub commits-apart : (g : Group) (facts : List OrderFact) (x : Signed Commit) (v s : ℕ) (d : List ℕ) → (same_pair (x.body.v, x.body.s) (v, s) && bytes_eq x.body.digest d) ≡ false →
+pub commits-apart : (g : Group) (facts : List OrderFact) (x : Signed Commit) (v s : ℕ) (d : List ℕ) →
+    (same_pair (x.body.v, x.body.s) (v, s) && bytes_eq x.body.digest d) ≡ false →
     is_voted g (commit_by v s d) (facts ++ fact.Commit x ∷ []) ≡ is_voted g (commit_by v s d) facts
-commits-apart g facts x v s d apart = voted-other g (commit_by v s d) facts (fact.Commit x) (λ m. ap (λ b. cond b (Some x) None) (none (nat_eq x.signer m) (nat_eq x.body.v v) (nat_eq x.body.s s) (bytes_eq x.body.digest d) apart))
+commits-apart g facts x v s d apart = voted-other g (commit_by v s d) facts (fact.Commit x)
+    (λ m. ap (λ b. cond b (Some x) None) (none (nat_eq x.signer m) (nat_eq x.body.v v) (nat_eq x.body.s s)
+    (bytes_eq x.body.digest d) apart))
   where
     none : (a b c e : Bool) → ((b && c) && e) ≡ false → (((a && b) && c) && e) ≡ false
     none false b c e is = refl
@@ -131,8 +163,11 @@ commits-apart g facts x v s d apart = voted-other g (commit_by v s d) facts (fac
 
 -- marks
 
-mark-is : (x : Signed Mark) (s m : ℕ) → option_map (mark_of s m) (cond (same_pair (x.body.s, x.signer) (s, m)) (Some x.sig) None) ≡ mark_by s m (fact.Mark x)
-mark-is x s m = by (same_pair (x.body.s, x.signer) (s, m)) refl ∙ ap (λ b. cond b (Some x) None) (swap (nat_eq x.body.s s) (nat_eq x.signer m))
+mark-is : (x : Signed Mark) (s m : ℕ) →
+    option_map (mark_of s m) (cond (same_pair (x.body.s, x.signer) (s, m)) (Some x.sig) None) ≡ mark_by s m
+    (fact.Mark x)
+mark-is x s m = by (same_pair (x.body.s, x.signer) (s, m)) refl ∙ ap (λ b. cond b (Some x) None)
+    (swap (nat_eq x.body.s s) (nat_eq x.signer m))
   where
     swap : (a b : Bool) → (a && b) ≡ (b && a)
     swap true true = refl
@@ -140,25 +175,32 @@ mark-is x s m = by (same_pair (x.body.s, x.signer) (s, m)) refl ∙ ap (λ b. co
     swap false true = refl
     swap false false = refl
 
-    by : (here : Bool) → same_pair (x.body.s, x.signer) (s, m) ≡ here → option_map (mark_of s m) (cond here (Some x.sig) None) ≡ cond here (Some x) None
+    by : (here : Bool) → same_pair (x.body.s, x.signer) (s, m) ≡ here →
+        option_map (mark_of s m) (cond here (Some x.sig) None) ≡ cond here (Some x) None
     by false e = refl
     by true e = ap (λ (k : ℕ × ℕ). Some (mark_of k.0 k.1 x.sig)) (sym (same_pair-same (x.body.s, x.signer) (s, m) e))
 
-pub marks-push : (facts : List OrderFact) (x : Signed Mark) (old new : Map (ℕ × ℕ) (List ℕ)) → TakesFirst same_pair old new (x.body.s, x.signer) x.sig →
+pub marks-push : (facts : List OrderFact) (x : Signed Mark) (old new : Map (ℕ × ℕ) (List ℕ)) →
+    TakesFirst same_pair old new (x.body.s, x.signer) x.sig →
     HasMarks facts old → HasMarks (facts ++ fact.Mark x ∷ []) new
 marks-push facts x old new takes has s m =
     ap (option_map (mark_of s m)) (takes (s, m))
-    ∙ option_map-or_else (mark_of s m) (mark_at old s m) (cond (same_pair (x.body.s, x.signer) (s, m)) (Some x.sig) None)
-    ∙ ap (λ o. or_else o (option_map (mark_of s m) (cond (same_pair (x.body.s, x.signer) (s, m)) (Some x.sig) None))) (has s m)
+    ∙ option_map-or_else (mark_of s m) (mark_at old s m)
+    (cond (same_pair (x.body.s, x.signer) (s, m)) (Some x.sig) None)
+    ∙ ap (λ o. or_else o (option_map (mark_of s m) (cond (same_pair (x.body.s, x.signer) (s, m)) (Some x.sig) None)))
+    (has s m)
     ∙ ap (or_else (first_of_list (filter_map (mark_by s m) facts))) (mark-is x s m)
     ∙ sym (first_of_list-push (mark_by s m) facts (fact.Mark x))
 
-pub marks-other : (facts : List OrderFact) (x : OrderFact) (marks : Map (ℕ × ℕ) (List ℕ)) → ((s m : ℕ) → mark_by s m x ≡ None) → HasMarks facts marks → HasMarks (facts ++ x ∷ []) marks
+pub marks-other : (facts : List OrderFact) (x : OrderFact) (marks : Map (ℕ × ℕ) (List ℕ)) →
+    ((s m : ℕ) → mark_by s m x ≡ None) → HasMarks facts marks → HasMarks (facts ++ x ∷ []) marks
 marks-other facts x marks none has s m = has s m ∙ sym (first-other (mark_by s m) facts x (none s m))
 
-pub marks-quorum : (g : Group) (n : ℕ) (facts : List OrderFact) (marks : Map (ℕ × ℕ) (List ℕ)) (s : ℕ) → g.n ≡ n → HasMarks facts marks →
+pub marks-quorum : (g : Group) (n : ℕ) (facts : List OrderFact) (marks : Map (ℕ × ℕ) (List ℕ)) (s : ℕ) →
+    g.n ≡ n → HasMarks facts marks →
     nat_le g.q (length (given (mark_at marks s) n)) ≡ is_voted g (mark_by s) facts
 unfolding is_voted
 marks-quorum g n facts marks s masters has =
-    ap (nat_le g.q) (ap (λ k. length (given (mark_at marks s) k)) (sym masters) ∙ sym (length-map (mark_of s) (mark_at marks s) (numbers_below g.n))
+    ap (nat_le g.q) (ap (λ k. length (given (mark_at marks s) k)) (sym masters)
+    ∙ sym (length-map (mark_of s) (mark_at marks s) (numbers_below g.n))
     ∙ (λ i. length (filter_map (λ m. has s m i) (numbers_below g.n))))

@@ -1,35 +1,14 @@
 -- What a master gives to another that asks for a whole order, and what is held for it.
 use Rattle.std.specs.Prelude.{◌≡◌, ℕ, Bool, ◌&&◌, List, [], ◌∷◌, Option, Some, None, nat_eq}
-use Rattle.std.specs.Option.{option_map}
 use Rattle.std.specs.Str.{bytes_eq}
 use Rattle.indexmap.specs.IndexMap.{get}
 use Rattle.message_types.specs.declared.reconciling.GiveOrdered.{GiveOrdered}
 use Rattle.message_types.specs.declared.body.Body.{Body}
 use Rattle.message_types.specs.declared.body.Body.TheVariants as body
-use Rattle.message_types.specs.Digests.{digest_of_rows}
 use Rattle.protocol_rules.specs.declared.facts.OrderFact.{OrderFact}
-use Rattle.protocol_rules.specs.Words.{greatest_of}
 use Rattle.protocol_rules.specs.Group.{Group}
-use Rattle.protocol_rules.specs.Order.{ordered, commit_by, quorum_of}
-use Rattle.protocol_rules.specs.Reconcile.{committed_views}
+pub use Rattle.protocol_rules.specs.Reconcile.{last_view, whole_order, given_order}
 use Rattle.global_order.specs.Index.{Map}
-
--- the greatest view in which a quorum committed the number with the digest, 0 where there is none
-abbrev pub last_view : Group → List OrderFact → ℕ → List ℕ → ℕ
-last_view g facts s digest = greatest_of (committed_views g facts s digest)
-
--- the rows as number s, with the commits of a quorum in the greatest view in which one committed them
-abbrev pub whole_order : Group → List OrderFact → ℕ → List (List ℕ) → GiveOrdered
-whole_order g facts s rows = record {
-  s = s;
-  v = last_view g facts s (digest_of_rows rows);
-  rows = rows;
-  commits = quorum_of g (commit_by (last_view g facts s (digest_of_rows rows)) s (digest_of_rows rows)) facts;
-}
-
--- the whole order of number s, where it is ordered
-abbrev pub given_order : Group → List OrderFact → ℕ → Option GiveOrdered
-given_order g facts s = option_map (whole_order g facts s) (ordered g facts s)
 
 -- a whole order as the words that give it
 abbrev pub gift_words : Option GiveOrdered → List Body

@@ -1,5 +1,6 @@
--- The index beside the list of facts: each part of it agrees with a definition over the list.
-use Rattle.std.specs.Prelude.{◌≡◌, ◌⊎◌, ℕ, suc, ◌≤◌, ◌<◌, IsSome, Bool, ◌&&◌, ◌||◌, List, [], true, false, Option, Some, None, is_some, nat_eq, nat_lt, vec_len, vec_capacity, if◌then◌else◌}
+-- The index that an order keeps: each part of it agrees with a definition over the facts that the order was handed.
+use Rattle.std.specs.Prelude.{◌≡◌, ◌⊎◌, ℕ, suc, ◌≤◌, ◌<◌, IsSome, Bool, ◌&&◌, ◌||◌, List, [], true, false, Option}
+use Rattle.std.specs.Prelude.{Some, None, is_some, nat_eq, nat_lt, vec_len, vec_capacity, if◌then◌else◌}
 use Rattle.std.specs.List.{filter_map, find, list_any}
 use Rattle.std.specs.Option.{option_map}
 use Rattle.std.specs.Str.{bytes_eq}
@@ -21,6 +22,7 @@ use Rattle.protocol_rules.specs.Order.{prepare_by, commit_by, mark_by}
 use Rattle.message_types.specs.Digests.{digest_of_rows}
 use Rattle.protocol_rules.specs.Group.{Group, most_number}
 use Rattle.protocol_rules.specs.Order.{is_voted, is_committed, prepared, ordered}
+pub use Rattle.protocol_rules.specs.Keys.{Vote, same_pair, same_vote}
 use Rattle.global_order.specs.Choosing.{has_digest, is_known, IsChosen, IsLeast, lesser}
 use Rattle.global_order.specs.declared.slots.Slot.{Slot}
 use Rattle.global_order.specs.declared.quorum.Quorum.{Quorum}
@@ -28,16 +30,6 @@ use Rattle.global_order.specs.declared.choices.Choices.{Choices}
 
 abbrev pub Map : Type 0 → Type 0 → Type 0
 Map K X = HashMap K X (BuildHasherDefault FoldHasher)
-
--- a vote's view, number, digest and master
-abbrev pub Vote : Type 0
-Vote = ℕ × ℕ × List ℕ × ℕ
-
-abbrev pub same_pair : ℕ × ℕ → ℕ × ℕ → Bool
-same_pair x y = nat_eq x.0 y.0 && nat_eq x.1 y.1
-
-abbrev pub same_vote : Vote → Vote → Bool
-same_vote x y = ((nat_eq x.0 y.0 && nat_eq x.1 y.1) && bytes_eq x.2 y.2) && nat_eq x.3 y.3
 
 -- the values that f gives of the numbers below n
 abbrev pub given : {X : Type 0} → (ℕ → Option X) → ℕ → List X
@@ -52,7 +44,8 @@ mark_at marks s m = get same_pair marks (s, m)
 
 -- the map keeps what it has, and takes the value where the key had none
 abbrev pub TakesFirst : {K X : Type 0} → (K → K → Bool) → Map K X → Map K X → K → X → Type 0
-TakesFirst {K} same old new key x = (k : K) → get same new k ≡ or_else (get same old k) (if same key k then Some x else None)
+TakesFirst {K} same old new key x = (k : K) →
+    get same new k ≡ or_else (get same old k) (if same key k then Some x else None)
 
 abbrev pub prepare_of : ℕ → ℕ → List ℕ → ℕ → List ℕ → Signed Prepare
 prepare_of v s digest m sig = record { signer = m; body = record { v = v; s = s; digest = digest }; sig = sig }
@@ -65,13 +58,16 @@ mark_of s m sig = record { signer = m; body = record { s = s }; sig = sig }
 
 -- held are the signatures of each master's first prepare, commit and mark of each kind
 abbrev pub HasPrepares : List OrderFact → Map Vote (List ℕ) → Type 0
-HasPrepares facts votes = (v s : ℕ) (d : List ℕ) (m : ℕ) → option_map (prepare_of v s d m) (vote_at votes v s d m) ≡ first_of_list (filter_map (prepare_by v s d m) facts)
+HasPrepares facts votes = (v s : ℕ) (d : List ℕ) (m : ℕ) →
+    option_map (prepare_of v s d m) (vote_at votes v s d m) ≡ first_of_list (filter_map (prepare_by v s d m) facts)
 
 abbrev pub HasCommits : List OrderFact → Map Vote (List ℕ) → Type 0
-HasCommits facts votes = (v s : ℕ) (d : List ℕ) (m : ℕ) → option_map (commit_of v s d m) (vote_at votes v s d m) ≡ first_of_list (filter_map (commit_by v s d m) facts)
+HasCommits facts votes = (v s : ℕ) (d : List ℕ) (m : ℕ) →
+    option_map (commit_of v s d m) (vote_at votes v s d m) ≡ first_of_list (filter_map (commit_by v s d m) facts)
 
 abbrev pub HasMarks : List OrderFact → Map (ℕ × ℕ) (List ℕ) → Type 0
-HasMarks facts marks = (s m : ℕ) → option_map (mark_of s m) (mark_at marks s m) ≡ first_of_list (filter_map (mark_by s m) facts)
+HasMarks facts marks = (s m : ℕ) → option_map (mark_of s m) (mark_at marks s m) ≡ first_of_list
+    (filter_map (mark_by s m) facts)
 
 -- held are the first rows of each digest
 abbrev pub HasRows : List (List (List ℕ)) → Map (List ℕ) (List (List ℕ)) → Type 0
@@ -127,8 +123,12 @@ pub record HasRoomFor (digest : List ℕ) (waiting : Waiting) : Type 0 where
 
 -- the slots after are those before, but that those of the keys that pass take the digest
 pub record TakesDigest (passes : ℕ × ℕ → Bool) (digest : List ℕ) (old new : Map (ℕ × ℕ) Slot) : Type 0 where
-  pub first : (k : ℕ × ℕ) → first_in (get same_pair new k) ≡ (if passes k then or_else (first_in (get same_pair old k)) (Some digest) else first_in (get same_pair old k))
-  pub least : (k : ℕ × ℕ) → least_in (get same_pair new k) ≡ (if passes k then lesser (least_in (get same_pair old k)) digest else least_in (get same_pair old k))
+  pub first : (k : ℕ × ℕ) →
+      first_in (get same_pair new k) ≡ (if passes k then or_else (first_in (get same_pair old k)) (Some digest)
+      else first_in (get same_pair old k))
+  pub least : (k : ℕ × ℕ) →
+      least_in (get same_pair new k) ≡ (if passes k then lesser (least_in (get same_pair old k)) digest else least_in
+      (get same_pair old k))
   pub places : (k : ℕ × ℕ) → is_some (get same_pair new k) ≡ is_some (get same_pair old k)
 
 -- there is a place for one more, and all else is as it was
@@ -138,20 +138,26 @@ pub record KeepsSlots (old new : Map (ℕ × ℕ) Slot) : Type 0 where
   pub places : (k : ℕ × ℕ) → is_some (get same_pair old k) ≡ true → is_some (get same_pair new k) ≡ true
 
 pub record TakesOrder (passes : ℕ → Bool) (digest : List ℕ) (old new : Map ℕ (Option (List ℕ))) : Type 0 where
-  pub order : (s : ℕ) → order_in (get nat_eq new s) ≡ (if passes s then or_else (order_in (get nat_eq old s)) (Some digest) else order_in (get nat_eq old s))
+  pub order : (s : ℕ) → order_in (get nat_eq new s) ≡ (if passes s then or_else (order_in (get nat_eq old s))
+      (Some digest) else order_in (get nat_eq old s))
   pub places : (s : ℕ) → is_some (get nat_eq new s) ≡ is_some (get nat_eq old s)
 
 pub record KeepsOrders (old new : Map ℕ (Option (List ℕ))) : Type 0 where
   pub order : (s : ℕ) → order_in (get nat_eq new s) ≡ order_in (get nat_eq old s)
   pub places : (s : ℕ) → is_some (get nat_eq old s) ≡ true → is_some (get nat_eq new s) ≡ true
 
--- Where these rows are known, `prepares` says which digests a quorum prepared in a view as a number, `commits` which a quorum
--- committed as a number, and `first` and `order` which digests were chosen of them: what the choices hold agrees with all these.
-pub record Agrees (known : List (List (List ℕ))) (prepares : ℕ × ℕ → List ℕ → Bool) (first : ℕ × ℕ → Option (List ℕ)) (commits : ℕ → List ℕ → Bool) (order : ℕ → Option (List ℕ)) (choices : Choices) : Type 0 where
+-- Where these rows are known, `prepares` says which digests a quorum prepared in a view as a number, `commits` which a
+-- quorum committed as a number, and `first` and `order` which digests were chosen of them: what the choices hold agrees
+-- with all these.
+pub record Agrees (known : List (List (List ℕ))) (prepares : ℕ × ℕ → List ℕ → Bool) (first : ℕ × ℕ → Option (List ℕ))
+    (commits : ℕ → List ℕ → Bool) (order : ℕ → Option (List ℕ)) (choices : Choices) : Type 0 where
   pub rows : HasRows known choices.rows
-  pub prepared : IsChosen known prepares first (λ k. first_in (get same_pair choices.prepared k)) (λ k d. slot_waits choices.backed k d) (λ k. is_some (get same_pair choices.prepared k))
-  pub least : (k : ℕ × ℕ) → IsLeast (λ d. prepares k d && is_known known d) (least_in (get same_pair choices.prepared k))
-  pub ordered : IsChosen known commits order (λ s. order_in (get nat_eq choices.ordered s)) (λ s d. order_waits choices.committed s d) (λ s. is_some (get nat_eq choices.ordered s))
+  pub prepared : IsChosen known prepares first (λ k. first_in (get same_pair choices.prepared k))
+      (λ k d. slot_waits choices.backed k d) (λ k. is_some (get same_pair choices.prepared k))
+  pub least : (k : ℕ × ℕ) →
+      IsLeast (λ d. prepares k d && is_known known d) (least_in (get same_pair choices.prepared k))
+  pub ordered : IsChosen known commits order (λ s. order_in (get nat_eq choices.ordered s))
+      (λ s d. order_waits choices.committed s d) (λ s. is_some (get nat_eq choices.ordered s))
 
 -- a choice where rows of this digest are known too
 abbrev pub with_rows : {K : Type 0} → (K → List ℕ → Bool) → (K → Option (List ℕ)) → List ℕ → K → Option (List ℕ)
@@ -161,8 +167,10 @@ with_rows backs first digest k = or_else (first k) (if backs k digest then Some 
 abbrev pub with_quorum : {K : Type 0} → (K → K → Bool) → K → List ℕ → (K → List ℕ → Bool) → K → List ℕ → Bool
 with_quorum same key digest backs k e = backs k e || (same key k && bytes_eq digest e)
 
-abbrev pub with_choice : {K : Type 0} → (K → K → Bool) → K → List ℕ → List (List (List ℕ)) → (K → Option (List ℕ)) → K → Option (List ℕ)
-with_choice same key digest rows first k = or_else (first k) (if same key k && is_known rows digest then Some digest else None)
+abbrev pub with_choice : {K : Type 0} → (K → K → Bool) → K → List ℕ → List (List (List ℕ)) →
+    (K → Option (List ℕ)) → K → Option (List ℕ)
+with_choice same key digest rows first k =
+    or_else (first k) (if same key k && is_known rows digest then Some digest else None)
 
 -- the digests that a quorum prepared in a view as a number, and the one prepared first
 abbrev pub prepares_in : Group → List OrderFact → ℕ × ℕ → List ℕ → Bool
@@ -176,12 +184,15 @@ ordered_in g facts s = option_map digest_of_rows (ordered g facts s)
 
 -- the choices are those of these facts
 abbrev pub HasChoices : Group → List OrderFact → Choices → Type 0
-HasChoices g facts choices = Agrees (rows_known facts) (prepares_in g facts) (prepared_in g facts) (is_committed g facts) (ordered_in g facts) choices
+HasChoices g facts choices = Agrees (rows_known facts) (prepares_in g facts) (prepared_in g facts)
+    (is_committed g facts) (ordered_in g facts) choices
 
 -- each quorum that waits has a place for its digest
 pub record HasPlaces (choices : Choices) : Type 0 where
-  pub prepared : (k : ℕ × ℕ) (d : List ℕ) → slot_waits choices.backed k d ≡ true → is_some (get same_pair choices.prepared k) ≡ true
-  pub ordered : (s : ℕ) (d : List ℕ) → order_waits choices.committed s d ≡ true → is_some (get nat_eq choices.ordered s) ≡ true
+  pub prepared : (k : ℕ × ℕ) (d : List ℕ) → slot_waits choices.backed k d ≡ true →
+      is_some (get same_pair choices.prepared k) ≡ true
+  pub ordered : (s : ℕ) (d : List ℕ) → order_waits choices.committed s d ≡ true →
+      is_some (get nat_eq choices.ordered s) ≡ true
 
 -- the numbers from 1 to `reach`, and no further, are those that f gives something of without a gap
 pub record ReachesLess (f : ℕ → Option (List ℕ)) (reach : ℕ) : Type 0 where
@@ -215,5 +226,7 @@ abbrev pub OrdersGrow : Map ℕ (Option (List ℕ)) → Map ℕ (Option (List �
 OrdersGrow old new = (s : ℕ) → IsSome (order_in (get nat_eq old s)) → IsSome (order_in (get nat_eq new s))
 
 -- the choice where all these rows are known too
-abbrev pub with_all : {K : Type 0} → (K → List ℕ → Bool) → (K → Option (List ℕ)) → List (List (List ℕ)) → K → Option (List ℕ)
-with_all backs first rows k = or_else (first k) (option_map digest_of_rows (find (λ r. backs k (digest_of_rows r)) rows))
+abbrev pub with_all : {K : Type 0} → (K → List ℕ → Bool) → (K → Option (List ℕ)) →
+    List (List (List ℕ)) → K → Option (List ℕ)
+with_all backs first rows k =
+    or_else (first k) (option_map digest_of_rows (find (λ r. backs k (digest_of_rows r)) rows))

@@ -1,10 +1,9 @@
 -- What is held of what was said.
 use Rattle.std.specs.Prelude.{◌≡◌, ℕ, ◌≤◌, ◌%◌, List, nat_le}
 use Rattle.std.specs.List.{list_any}
-use Rattle.std.specs.HashSet.{HashSet}
 use Rattle.std.specs.declared.hash.FoldHasher.{FoldHasher}
 use Rattle.std.specs.declared.hash.BuildHasherDefault.{BuildHasherDefault}
-use Rattle.indexmap.specs.IndexSet.{contains}
+use Rattle.std.specs.HashSet.{HashSet, contains}
 use Rattle.message_types.specs.declared.body.Body.{Body}
 use Rattle.protocol_rules.specs.Group.{mark_step}
 use Rattle.protocol_rules.specs.Order.{prepares_said, commits_said, marks_said}

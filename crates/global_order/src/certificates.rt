@@ -8,7 +8,7 @@ ghost use Rattle.protocol_rules.specs.Words.{last_below};
 ghost use Rattle.protocol_rules.specs.Order.{quorum_of, prepare_by, mark_by, certificate_of, certificate_at, least_prepared, last_certificate};
 ghost use Rattle.protocol_rules.specs.Facts.{rows_known};
 ghost use Rattle.global_order.specs.Choosing.{has_digest};
-ghost use Rattle.global_order.specs.Taken.{HasSizes};
+ghost use Rattle.global_order.specs.OrderState.{HasSizes};
 ghost use Rattle.global_order.specs.Index.{HasPrepares, HasMarks, HasRows, HasChoices, vote_at, mark_at, prepare_of, mark_of};
 
 use crate::choices::Choices;
@@ -167,17 +167,4 @@ fn certificate_with(
         rows,
         prepares,
     }))
-}
-
-/// Adds the certificate, if there is one.
-pub fn push_certificate(
-    certificates: &mut Vec<Certificate>,
-    certificate: Option<Certificate>,
-) -> Result<(), Want>
-    ensures { OnOk result (certificates.new.items ≡ certificates.old.items ++ option_to_list certificate) }
-{
-    if let Some(certificate) = certificate {
-        certificates.push(certificate)?;
-    }
-    Ok(())
 }

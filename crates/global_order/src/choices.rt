@@ -7,32 +7,51 @@ ghost use Rattle.message_types.specs.Spelling.{rows_fit};
 ghost use Rattle.global_order.specs.Index.{Agrees, HasHighestOrder, HasPlaces, HasRoomFor, OrdersGrow, same_pair, with_rows, with_all, with_quorum, with_choice};
 ghost use Rattle.global_order.specs.Unsaid.{HasPendingCommits};
 
+use crate::letting::let_go;
 use crate::orders::{Orders, put_order, raised_to, settle_orders};
-use crate::pending::{Pending, note_pending};
+use crate::pending::{PendingNumbers, note_pending};
 use crate::quorum::Quorum;
 use crate::slots::{Slots, put_digest, settle_slots};
 use crate::waiting::{Waiting, put_waiting};
 use indexmap::IndexMap;
-use message_digests::rows_digest;
-use message_types::Rows;
+use message_types::{Rows, rows_digest};
 
 /// The first known rows of each digest.
 pub type Known = IndexMap<[u8; 32], Rows>;
 
 /// What is prepared and ordered.
-#[derive(Drop)]
 pub struct Choices {
     pub rows: Known,
     pub prepared: Slots,
     /// The quorums of prepares that wait for their rows.
     pub backed: Waiting,
     /// Where commits may be due.
-    pub pending: Pending,
+    pub pending: PendingNumbers,
     pub ordered: Orders,
     /// The quorums of commits that wait for their rows.
     pub committed: Waiting,
     /// The greatest number ordered, 0 where there is none.
     pub highest: u64,
+}
+
+// Each part of an order is taken apart by itself: the drop of the whole is then short to prove.
+impl Drop for Choices {
+    fn drop(self) {
+        let Choices {
+            rows,
+            prepared,
+            backed,
+            pending: _,
+            ordered,
+            committed,
+            highest: _,
+        } = self;
+        let_go(rows);
+        let_go(prepared);
+        let_go(backed);
+        let_go(ordered);
+        let_go(committed);
+    }
 }
 
 /// Makes rows known.
@@ -73,6 +92,7 @@ pub fn learn_all(choices: &mut Choices, all: Vec<Rows>)
     requires fit { IsTrue (list_all rows_fit all.items) }
     requires room { vec_len all ≤ spare choices.old.rows }
     requires places { HasPlaces choices.old }
+    ensures places { HasPlaces choices.new }
     ensures known { (known : List (List (List ℕ))) (prepares : ℕ × ℕ → List ℕ → Bool) (first : ℕ × ℕ → Option (List ℕ)) (commits : ℕ → List ℕ → Bool) (order : ℕ → Option (List ℕ))
         → Agrees known prepares first commits order choices.old
         → Agrees (known ++ all.items) prepares (with_all prepares first all.items) commits (with_all commits order all.items) choices.new }
@@ -89,6 +109,7 @@ pub fn learn_all(choices: &mut Choices, all: Vec<Rows>)
 pub fn note_if_prepared(choices: &mut Choices, is_new: bool, v: u64, s: u64, digest: [u8; 32])
     requires place { IsTrue (is_some (get same_pair choices.old.prepared (v, s))) }
     requires room { HasRoomFor digest choices.old.backed }
+    ensures places { HasPlaces choices.old → HasPlaces choices.new }
     ensures new { OnTrue is_new ((known : List (List (List ℕ))) (prepares : ℕ × ℕ → List ℕ → Bool) (first : ℕ × ℕ → Option (List ℕ)) (commits : ℕ → List ℕ → Bool) (order : ℕ → Option (List ℕ))
         → Agrees known prepares first commits order choices.old
         → Agrees known (with_quorum same_pair (v, s) digest prepares) (with_choice same_pair (v, s) digest known first) commits order choices.new) }
@@ -106,6 +127,7 @@ pub fn note_if_prepared(choices: &mut Choices, is_new: bool, v: u64, s: u64, dig
 pub fn note_if_committed(choices: &mut Choices, is_new: bool, v: u64, s: u64, digest: [u8; 32])
     requires place { IsTrue (is_some (get nat_eq choices.old.ordered s)) }
     requires room { HasRoomFor digest choices.old.committed }
+    ensures places { HasPlaces choices.old → HasPlaces choices.new }
     ensures new { OnTrue is_new ((known : List (List (List ℕ))) (prepares : ℕ × ℕ → List ℕ → Bool) (first : ℕ × ℕ → Option (List ℕ)) (commits : ℕ → List ℕ → Bool) (order : ℕ → Option (List ℕ))
         → Agrees known prepares first commits order choices.old
         → Agrees known prepares first (with_quorum nat_eq s digest commits) (with_choice nat_eq s digest known order) choices.new) }
@@ -123,6 +145,7 @@ pub fn note_if_committed(choices: &mut Choices, is_new: bool, v: u64, s: u64, di
 fn note_prepared(choices: &mut Choices, v: u64, s: u64, digest: [u8; 32])
     requires place { IsTrue (is_some (get same_pair choices.old.prepared (v, s))) }
     requires room { HasRoomFor digest choices.old.backed }
+    ensures places { HasPlaces choices.old → HasPlaces choices.new }
     ensures agrees { (known : List (List (List ℕ))) (prepares : ℕ × ℕ → List ℕ → Bool) (first : ℕ × ℕ → Option (List ℕ)) (commits : ℕ → List ℕ → Bool) (order : ℕ → Option (List ℕ))
         → Agrees known prepares first commits order choices.old
         → Agrees known (with_quorum same_pair (v, s) digest prepares) (with_choice same_pair (v, s) digest known first) commits order choices.new }
@@ -142,6 +165,7 @@ fn note_prepared(choices: &mut Choices, v: u64, s: u64, digest: [u8; 32])
 fn note_committed(choices: &mut Choices, v: u64, s: u64, digest: [u8; 32])
     requires place { IsTrue (is_some (get nat_eq choices.old.ordered s)) }
     requires room { HasRoomFor digest choices.old.committed }
+    ensures places { HasPlaces choices.old → HasPlaces choices.new }
     ensures agrees { (known : List (List (List ℕ))) (prepares : ℕ × ℕ → List ℕ → Bool) (first : ℕ × ℕ → Option (List ℕ)) (commits : ℕ → List ℕ → Bool) (order : ℕ → Option (List ℕ))
         → Agrees known prepares first commits order choices.old
         → Agrees known prepares first (with_quorum nat_eq s digest commits) (with_choice nat_eq s digest known order) choices.new }

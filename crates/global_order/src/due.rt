@@ -1,7 +1,7 @@
 ghost use Rattle.std.specs.Prelude.{◌≡◌, ◌+◌, ◌-◌, ◌≤◌, ◌<◌, ◌^◌, ◌++◌, ℕ, Bool, List, OnOk, IsTrue, Some};
 ghost use Rattle.std.specs.List.{flat_map, list_any};
 ghost use Rattle.indexmap.specs.IndexMap.{get};
-ghost use Rattle.indexmap.specs.IndexSet.{contains};
+ghost use Rattle.std.specs.HashSet.{contains};
 ghost use Rattle.message_types.specs.declared.body.Body.{Body as Word};
 ghost use Rattle.protocol_rules.specs.declared.facts.OrderFact.{OrderFact as Fact};
 ghost use Rattle.protocol_rules.specs.Group.{Group};
@@ -13,29 +13,26 @@ ghost use Rattle.global_order.specs.Saying.{HasSaidPrepares, HasSaidCommits, Has
 ghost use Rattle.global_order.specs.Unsaid.{HasPending, holds_prepared, offers_rows, said_in};
 
 use crate::offers::{Offers, offered_in};
-use crate::pending::Pending;
+use crate::pending::PendingNumbers;
 use crate::said::Places;
 use crate::slots::{Slots, first_digest};
-use message_digests::rows_digest;
-use message_types::{Body, Commit, Mark, Prepare};
+use message_types::{Body, Commit, Mark, Prepare, rows_digest};
 use plain_lists::Want;
-
-/// A mark is said for each multiple of this.
-pub const MARK_STEP: u64 = 8;
+use protocol_rules::MARK_STEP;
 
 /// Adds the prepares due in the pending view for the numbers below `end`.
 pub fn push_pending_prepares(
     bodies: &mut Vec<Body>,
     offers: &Offers,
     said: &Places,
-    pending: &Pending,
+    pending: &PendingNumbers,
     end: u64,
 ) -> Result<(), Want>
     requires { OffersFit offers.now }
     ensures { OnOk result ((facts : List Fact) (words : List Word) → HasOffers facts offers.now → HasSaidPrepares words said.now → HasPending (said_in said.now) (offers_rows facts) pending.now
         → bodies.new.items ≡ bodies.old.items ++ flat_map (prepare_due facts words pending.now.view) (numbers_from 1 (end - 1))) }
 {
-    let Pending {
+    let PendingNumbers {
         view,
         low,
         high,
@@ -94,14 +91,14 @@ pub fn push_pending_commits(
     bodies: &mut Vec<Body>,
     slots: &Slots,
     said: &Places,
-    pending: &Pending,
+    pending: &PendingNumbers,
     end: u64,
 ) -> Result<(), Want>
     ensures { OnOk result ((g : Group) (facts : List Fact) (words : List Word) → ((k : ℕ × ℕ) → first_in (get same_pair slots.now k) ≡ prepared_in g facts k) → HasSaidCommits words said.now
         → HasPending (said_in said.now) (holds_prepared slots.now) pending.now
         → bodies.new.items ≡ bodies.old.items ++ flat_map (commit_due g facts words pending.now.view) (numbers_from 1 (end - 1))) }
 {
-    let Pending {
+    let PendingNumbers {
         view,
         low,
         high,

@@ -4,7 +4,7 @@ ghost use Rattle.indexmap.specs.IndexMap.{get, spare};
 ghost use Rattle.protocol_rules.specs.declared.facts.OrderFact.{OrderFact as Fact};
 ghost use Rattle.protocol_rules.specs.Group.{Group};
 ghost use Rattle.protocol_rules.specs.Order.{quorum_of, commit_by};
-ghost use Rattle.global_order.specs.Taken.{HasSizes};
+ghost use Rattle.global_order.specs.OrderState.{HasSizes};
 ghost use Rattle.global_order.specs.Giving.{same_order, view_in};
 ghost use Rattle.global_order.specs.Index.{HasCommits, vote_at, commit_of};
 

@@ -7,18 +7,18 @@ ghost use Rattle.protocol_rules.specs.declared.facts.OrderFact.{OrderFact as Fac
 ghost use Rattle.protocol_rules.specs.Facts.{tells, facts_of};
 ghost use Rattle.protocol_rules.specs.Reconcile.{asks_for_order, give_ordered_due, orders_given};
 ghost use Rattle.global_order.specs.Giving.{given_order, gift_words};
-ghost use Rattle.global_order.specs.Taken.{Taken};
+ghost use Rattle.global_order.specs.OrderState.{OrderState, IsOrderOf, Learns};
 
 /// A law, which does nothing: the facts that words tell are those of each word in turn. So an order that was handed
-/// what each word tells, as its master came to know it, has the facts of all that the master knows, and each of its
+/// what each word tells, as its master came to know it, is the order of all that the master knows, and each of its
 /// answers is the definition over these; a word that tells nothing changes nothing.
 pub fn only_facts_count()
-    ensures nothing { (g : Group) (t : Taken) → t.facts ≡ [] → t.facts ≡ facts_of g [] }
-    ensures word { (g : Group) (before after : Taken) (known : List (Signed Body)) (f : Signed Body) → before.facts ≡ facts_of g known
-        → after.facts ≡ before.facts ++ tells g f → after.facts ≡ facts_of g (known ++ f ∷ []) }
+    ensures nothing { (g : Group) (order : OrderState) (said : List Body) → IsOrderOf g order [] said → IsOrderOf g order (facts_of g []) said }
+    ensures word { (g : Group) (before after : OrderState) (known : List (Signed Body)) (said : List Body) (f : Signed Body) → Learns before after (tells g f)
+        → IsOrderOf g before (facts_of g known) said → IsOrderOf g after (facts_of g (known ++ f ∷ [])) said }
     ensures words { (g : Group) (known more : List (Signed Body)) → facts_of g (known ++ more) ≡ facts_of g known ++ facts_of g more }
-    ensures other { (g : Group) (t : Taken) (known : List (Signed Body)) (f : Signed Body) → tells g f ≡ [] → t.facts ≡ facts_of g known
-        → t.facts ≡ facts_of g (known ++ f ∷ []) }
+    ensures other { (g : Group) (order : OrderState) (known : List (Signed Body)) (said : List Body) (f : Signed Body) → tells g f ≡ []
+        → IsOrderOf g order (facts_of g known) said → IsOrderOf g order (facts_of g (known ++ f ∷ [])) said }
 {}
 
 /// A law, which does nothing: where another master asked for a number and it wasn't given, what is due for it is the whole

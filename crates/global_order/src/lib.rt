@@ -1,6 +1,6 @@
 //! The global order, after Prime and PBFT: the prepares, commits and marks that a master says, what is prepared,
-//! ordered and stable, and the certificates that a report brings. It keeps the facts that it was handed, since its
-//! contracts speak of that list, and beside them an index that agrees with the definitions over the list.
+//! ordered and stable, and the certificates that a report brings. It keeps no list of the facts that it was handed or of
+//! what it said, but an index that agrees with the definitions over these lists, whichever they were.
 #![tactic(auto)]
 
 mod certificates;
@@ -8,6 +8,7 @@ mod choices;
 mod due;
 mod gifts;
 pub mod laws;
+mod letting;
 mod offers;
 pub mod order;
 mod orders;

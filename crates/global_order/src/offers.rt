@@ -9,7 +9,8 @@ ghost use Rattle.global_order.specs.Index.{TakesFirst, same_pair};
 ghost use Rattle.global_order.specs.Offered.{HasOffers, OffersFit};
 ghost use Rattle.global_order.specs.Unsaid.{IsNoted, with_view};
 
-use crate::pending::{Pending, note_all_pending, note_pending};
+use crate::letting::let_go;
+use crate::pending::{PendingNumbers, note_all_pending, note_pending};
 use indexmap::IndexMap;
 use message_types::{Plan, Rows};
 
@@ -20,14 +21,26 @@ pub type Plans = IndexMap<u64, Plan>;
 pub type Proposals = IndexMap<(u64, u64), Rows>;
 
 /// What the views offer.
-#[derive(Drop)]
 pub struct Offers {
     /// The plan of view 0.
     pub first_plan: Plan,
     pub plans: Plans,
     pub proposals: Proposals,
     /// Where prepares may be due.
-    pub pending: Pending,
+    pub pending: PendingNumbers,
+}
+
+impl Drop for Offers {
+    fn drop(self) {
+        let Offers {
+            first_plan: _,
+            plans,
+            proposals,
+            pending: _,
+        } = self;
+        let_go(plans);
+        let_go(proposals);
+    }
 }
 
 /// The plan of a view, where one is known.
@@ -60,7 +73,7 @@ pub fn offered_in(offers: &Offers, v: u64, s: u64) -> Option<&Rows>
 }
 
 /// Keeps a view's plan, unless one is kept.
-pub fn note_plan(plans: &mut Plans, pending: &mut Pending, v: u64, plan: Plan)
+pub fn note_plan(plans: &mut Plans, pending: &mut PendingNumbers, v: u64, plan: Plan)
     requires { 1 ≤ spare plans.old }
     ensures taken { TakesFirst nat_eq plans.old plans.new v plan }
     ensures pending { pending.new ≡ (if is_some (get nat_eq plans.old v) then pending.old else with_view v pending.old) }
@@ -73,7 +86,13 @@ pub fn note_plan(plans: &mut Plans, pending: &mut Pending, v: u64, plan: Plan)
 }
 
 /// Keeps what a view offers as a number, unless something is kept.
-pub fn note_proposal(proposals: &mut Proposals, pending: &mut Pending, v: u64, s: u64, rows: Rows)
+pub fn note_proposal(
+    proposals: &mut Proposals,
+    pending: &mut PendingNumbers,
+    v: u64,
+    s: u64,
+    rows: Rows,
+)
     requires { 1 ≤ spare proposals.old }
     ensures taken { TakesFirst same_pair proposals.old proposals.new (v, s) rows }
     ensures known { OnTrue (is_some (get same_pair proposals.old (v, s))) (pending.new ≡ pending.old) }

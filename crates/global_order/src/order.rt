@@ -1,41 +1,39 @@
-ghost use Rattle.std.specs.Prelude.{◌≡◌, ◌++◌, ◌∷◌, ◌&&◌, ◌≤◌, ◌<◌, List, [], IsTrue, OnOk, OnErr, IfOk, option_copied, nat_le, not, max, if◌then◌else◌};
+ghost use Rattle.std.specs.Prelude.{◌≡◌, ◌∷◌, ◌&&◌, ◌≤◌, ◌<◌, ℕ, [], IsTrue, OnOk, OnErr, IfOk, option_copied, nat_le, not, max, if◌then◌else◌};
 ghost use Rattle.std.specs.List.{list_all};
 ghost use Rattle.message_types.specs.Spelling.{rows_fit};
 ghost use Rattle.protocol_rules.specs.declared.facts.OrderFact.TheVariants as fact;
-ghost use Rattle.protocol_rules.specs.Group.{Group, most_number};
+ghost use Rattle.protocol_rules.specs.Group.{group_of, most_number};
 ghost use Rattle.protocol_rules.specs.Master.{gap_of};
 ghost use Rattle.protocol_rules.specs.Order as rules;
 ghost use Rattle.global_order.specs.Giving.{given_order};
-ghost use Rattle.global_order.specs.Taken.{IsOrderOf, bodies_due};
+ghost use Rattle.global_order.specs.OrderState.{IsOrderOf, Learns, Says, Stays, Where, bodies_due};
 
-use crate::certificates::{first_certificate_of, last_certificate_of, marks_of, push_certificate};
+use crate::certificates::{first_certificate_of, last_certificate_of, marks_of};
 use crate::choices::{Choices, learn, learn_all, note_if_committed, note_if_prepared};
 use crate::due::{push_marks, push_pending_commits, push_pending_prepares};
 use crate::gifts::{Views, commits_of, note_view, view_of};
+use crate::letting::let_go;
 use crate::offers::{Offers, note_plan, note_proposal, offered_in, plan_of_view};
-use crate::orders::{MOST_NUMBER, make_order, order_of, run_end};
+use crate::orders::{make_order, order_of, run_end};
 use crate::pending::{all_pending, pending_from, pending_in};
 use crate::said::{Said, note_said};
 use crate::slots::make_slot;
 use crate::votes::{Marks, Votes, count_marks, count_votes, note_mark, note_vote};
 use crate::waiting::make_room;
-use indexmap::{IndexMap, IndexSet};
+use indexmap::IndexMap;
 use message_types::{Body, Certificate, Commit, GiveOrdered, Mark, Plan, Prepare, Rows, Signed};
-use plain_lists::{Copied, Items, Want};
-use protocol_rules::OrderFact;
+use plain_lists::{Copied, Items, Want, extend_option};
+use protocol_rules::{MOST_NUMBER, WINDOW};
 use quorum_sets::Sizes;
 use std::alloc::Global;
+use std::collections::HashSet;
 use std::marker::Model;
 
-/// How far above the stable number a view's numbers may be.
-const WINDOW: u64 = 16;
-
-/// One master's global order. Contracts see the facts that it was handed, in order, and what it said.
+/// One master's global order. Contracts say what it is of the facts that it was handed and the bodies that it said: it keeps
+/// neither of these lists.
 pub struct Order {
     alloc: Global,
     sizes: Sizes,
-    facts: Vec<OrderFact>,
-    said: Vec<Body>,
     prepares: Votes,
     commits: Votes,
     marks: Marks,
@@ -53,43 +51,50 @@ impl Drop for Order {
         let Order {
             alloc: _,
             sizes: _,
-            facts: _,
-            said: _,
-            prepares: _,
-            commits: _,
-            marks: _,
+            prepares,
+            commits,
+            marks,
             choices: _,
-            views: _,
+            views,
             offers: _,
             told: _,
             stable: _,
             gapless: _,
         } = self;
+        let_go(prepares);
+        let_go(commits);
+        let_go(marks);
+        let_go(views);
     }
 }
 
 impl Model for Order {
-    ghost use Rattle.global_order.specs.Taken.{Taken};
+    ghost use Rattle.std.specs.Coded.{codes};
+    ghost use Rattle.indexmap.specs.Layout.{hash_map_code};
+    ghost use Rattle.global_order.specs.contracts.choices.Choices as choices_type;
+    ghost use Rattle.global_order.specs.contracts.offers.Offers as offers_type;
+    ghost use Rattle.global_order.specs.contracts.said.Said as told_type;
+    ghost use Rattle.global_order.specs.OrderState.{OrderState};
 
-    ghost Value = { Taken };
+    ghost Value = { OrderState };
 
-    ghost use Rattle.global_order.specs.Held.{taken_of, IsHeld};
+    ghost coded = { Prim.hlevel (codes, hash_map_code, choices_type.the_row.coded, offers_type.the_row.coded, told_type.the_row.coded) };
 
-    ghost view = { taken_of };
+    ghost use Rattle.global_order.specs.Held.{state_of, IsSound};
 
-    ghost invariant = { IsHeld };
+    ghost view = { state_of };
+
+    ghost invariant = { IsSound };
 }
 
 impl Order {
     /// An order that was handed nothing and said nothing yet.
     pub fn new(alloc: Global, sizes: Sizes) -> Order
-        ensures { result ≡ record { masters = sizes.n; quorum = sizes.q; facts = []; said = [] } }
+        ensures { (clients : ℕ) → IsOrderOf (group_of sizes clients) result [] [] }
     {
         Order {
             alloc,
             sizes,
-            facts: Vec::new(alloc),
-            said: Vec::new(alloc),
             prepares: IndexMap::new(alloc),
             commits: IndexMap::new(alloc),
             marks: IndexMap::new(alloc),
@@ -113,8 +118,8 @@ impl Order {
                 pending: all_pending(0),
             },
             told: Said {
-                prepares: IndexSet::new(alloc),
-                commits: IndexSet::new(alloc),
+                prepares: HashSet::new(alloc),
+                commits: HashSet::new(alloc),
                 marked: 0,
             },
             stable: 0,
@@ -125,13 +130,11 @@ impl Order {
     /// Takes the rows that a preprepare offers as number `s` in view `v`.
     pub fn take_preprepare(&mut self, v: u64, s: u64, rows: &Rows) -> Result<(), Want>
         requires { IsTrue (rows_fit rows.now) }
-        ensures taken { OnOk result (self.new ≡ record self.old { facts = self.old.facts ++ fact.Proposal v s rows.now ∷ [] }) }
-        ensures refused { OnErr result (self.new ≡ self.old) }
+        ensures taken { OnOk result (Learns self.old self.new (fact.Proposal v s rows.now ∷ [])) }
+        ensures refused { OnErr result (Stays self.old self.new) }
     {
         let known = rows.copy()?;
         let offered = rows.copy()?;
-        let rows = rows.copy()?;
-        self.facts.reserve(1)?;
         self.choices.rows.reserve(1)?;
         self.offers.proposals.reserve(1)?;
         learn(&mut self.choices, known);
@@ -143,19 +146,16 @@ impl Order {
             s,
             offered,
         );
-        self.facts.push(OrderFact::Proposal { v, s, rows }).unwrap();
         Ok(())
     }
 
     /// Takes a master's prepare.
     pub fn take_prepare(&mut self, frame: &Signed<Prepare>) -> Result<(), Want>
-        ensures taken { OnOk result (self.new ≡ record self.old { facts = self.old.facts ++ fact.Prepare frame.now ∷ [] }) }
-        ensures refused { OnErr result (self.new ≡ self.old) }
+        ensures taken { OnOk result (Learns self.old self.new (fact.Prepare frame.now ∷ [])) }
+        ensures refused { OnErr result (Stays self.old self.new) }
     {
         let Prepare { v, s, digest } = frame.body;
         let vote = (v, s, digest, frame.signer);
-        let own = frame.copy()?;
-        self.facts.reserve(1)?;
         make_room(self.alloc, &mut self.choices.backed, digest)?;
         make_slot(&mut self.choices.prepared, v, s)?;
         let before = count_votes(&self.prepares, self.sizes.n, v, s, digest);
@@ -163,19 +163,16 @@ impl Order {
         let after = count_votes(&self.prepares, self.sizes.n, v, s, digest);
         let is_new = reaches_quorum(&self.sizes, before, after);
         note_if_prepared(&mut self.choices, is_new, v, s, digest);
-        self.facts.push(OrderFact::Prepare(own)).unwrap();
         Ok(())
     }
 
     /// Takes a master's commit.
     pub fn take_commit(&mut self, frame: &Signed<Commit>) -> Result<(), Want>
-        ensures taken { OnOk result (self.new ≡ record self.old { facts = self.old.facts ++ fact.Commit frame.now ∷ [] }) }
-        ensures refused { OnErr result (self.new ≡ self.old) }
+        ensures taken { OnOk result (Learns self.old self.new (fact.Commit frame.now ∷ [])) }
+        ensures refused { OnErr result (Stays self.old self.new) }
     {
         let Commit { v, s, digest } = frame.body;
         let vote = (v, s, digest, frame.signer);
-        let own = frame.copy()?;
-        self.facts.reserve(1)?;
         make_room(self.alloc, &mut self.choices.committed, digest)?;
         make_order(&mut self.choices.ordered, s)?;
         self.views.reserve(1)?;
@@ -186,69 +183,59 @@ impl Order {
         note_if_committed(&mut self.choices, is_new, v, s, digest);
         note_view(&mut self.views, after >= self.sizes.q, v, s, digest);
         self.gapless = run_end(&self.choices.ordered, self.gapless);
-        self.facts.push(OrderFact::Commit(own)).unwrap();
         Ok(())
     }
 
     /// Takes a master's mark. One of a number that there isn't is passed over.
     pub fn take_mark(&mut self, frame: &Signed<Mark>) -> Result<(), Want>
-        ensures taken { OnOk result (frame.now.body.s ≤ most_number → self.new ≡ record self.old { facts = self.old.facts ++ fact.Mark frame.now ∷ [] }) }
+        ensures taken { OnOk result (frame.now.body.s ≤ most_number → Learns self.old self.new (fact.Mark frame.now ∷ [])) }
         ensures passed { OnOk result (most_number < frame.now.body.s → self.new ≡ self.old) }
-        ensures refused { OnErr result (self.new ≡ self.old) }
+        ensures refused { OnErr result (Stays self.old self.new) }
     {
         let s = frame.body.s;
         if s > MOST_NUMBER {
             return Ok(());
         }
-        let own = frame.copy()?;
-        self.facts.reserve(1)?;
         note_mark(&mut self.marks, (s, frame.signer), &frame.sig)?;
         let count = count_marks(&self.marks, self.sizes.n, s);
         self.stable = raised(self.stable, s, count >= self.sizes.q);
-        self.facts.push(OrderFact::Mark(own)).unwrap();
         Ok(())
     }
 
     /// Takes rows that a certificate or a given order holds.
     pub fn take_rows(&mut self, rows: &Rows) -> Result<(), Want>
         requires { IsTrue (rows_fit rows.now) }
-        ensures taken { OnOk result (self.new ≡ record self.old { facts = self.old.facts ++ fact.Rows rows.now ∷ [] }) }
-        ensures refused { OnErr result (self.new ≡ self.old) }
+        ensures taken { OnOk result (Learns self.old self.new (fact.Rows rows.now ∷ [])) }
+        ensures refused { OnErr result (Stays self.old self.new) }
     {
         let known = rows.copy()?;
-        let own = rows.copy()?;
-        self.facts.reserve(1)?;
         self.choices.rows.reserve(1)?;
         learn(&mut self.choices, known);
         self.gapless = run_end(&self.choices.ordered, self.gapless);
-        self.facts.push(OrderFact::Rows(own)).unwrap();
         Ok(())
     }
 
     /// Takes the plan of a new view `v`. The first of a view stands.
     pub fn offer_plan(&mut self, v: u64, plan: &Plan) -> Result<(), Want>
         requires { IsTrue (list_all rows_fit plan.now.rows) }
-        ensures taken { OnOk result (self.new ≡ record self.old { facts = self.old.facts ++ fact.Plan v plan.now ∷ [] }) }
-        ensures refused { OnErr result (self.new ≡ self.old) }
+        ensures taken { OnOk result (Learns self.old self.new (fact.Plan v plan.now ∷ [])) }
+        ensures refused { OnErr result (Stays self.old self.new) }
     {
         let known = plan.rows.copy()?;
         let offered = plan.copy()?;
-        let own = plan.copy()?;
-        self.facts.reserve(1)?;
         self.choices.rows.reserve(known.len())?;
         self.offers.plans.reserve(1)?;
         learn_all(&mut self.choices, known.into_vec());
         self.gapless = run_end(&self.choices.ordered, self.gapless);
         note_plan(&mut self.offers.plans, &mut self.offers.pending, v, offered);
-        self.facts.push(OrderFact::Plan { v, plan: own }).unwrap();
         Ok(())
     }
 
     /// The prepares, commits and marks due in a view, which count as said from then on.
     pub fn due(&mut self, view: u64, is_open: bool) -> Result<Vec<Body>, Want>
-        ensures due { IfOk result (λ bodies. (g : Group) → IsOrderOf g self.old → bodies.items ≡ bodies_due g self.old view is_open) }
-        ensures said { IfOk result (λ bodies. self.new ≡ record self.old { said = self.old.said ++ bodies.items }) }
-        ensures refused { OnErr result (self.new ≡ self.old) }
+        ensures due { IfOk result (λ bodies. Where self.old (λ g facts said. bodies.items ≡ bodies_due g facts said view is_open)) }
+        ensures said { IfOk result (λ bodies. Says self.old self.new bodies.items) }
+        ensures refused { OnErr result (Stays self.old self.new) }
     {
         let mut bodies = Vec::new(self.alloc);
         let end = self.stable + WINDOW + 1;
@@ -270,10 +257,8 @@ impl Order {
             end,
         )?;
         push_marks(&mut bodies, self.told.marked, self.gapless)?;
-        let mut again = copy_all(self.alloc, &bodies)?;
         self.told.prepares.reserve(bodies.len())?;
         self.told.commits.reserve(bodies.len())?;
-        self.said.append(&mut again)?;
         note_said(&mut self.told.prepares, &mut self.told.commits, &bodies);
         self.told.marked = self.gapless;
         self.offers.pending = pending_from(&prepares, prepares_end);
@@ -283,7 +268,7 @@ impl Order {
 
     /// The rows that are ordered as number `s`. None exactly where none are.
     pub fn ordered(&self, s: u64) -> Option<&Rows>
-        ensures { (g : Group) → IsOrderOf g self.now → option_copied result ≡ rules.ordered g self.now.facts s }
+        ensures { Where self.now (λ g facts said. option_copied result ≡ rules.ordered g facts s) }
     {
         let digest = order_of(&self.choices.ordered, s)?;
         self.choices.rows.get(&digest)
@@ -291,14 +276,14 @@ impl Order {
 
     /// Up to which number all are ordered.
     pub fn gapless(&self) -> u64
-        ensures { (g : Group) → IsOrderOf g self.now → result ≡ rules.gapless g self.now.facts }
+        ensures { Where self.now (λ g facts said. result ≡ rules.gapless g facts) }
     {
         self.gapless
     }
 
     /// The least number that isn't ordered, where a greater one is.
     pub fn gap(&self) -> Option<u64>
-        ensures { (g : Group) → IsOrderOf g self.now → result ≡ gap_of g self.now.facts }
+        ensures { Where self.now (λ g facts said. result ≡ gap_of g facts) }
     {
         let least = self.gapless + 1;
         if least < self.choices.highest {
@@ -311,7 +296,7 @@ impl Order {
     /// The whole order of number `s`, for a master that asks for it: its rows and the commits of the `q` lowest masters in
     /// the greatest view in which a quorum committed them. None exactly where it isn't ordered.
     pub fn given(&self, s: u64) -> Result<Option<GiveOrdered>, Want>
-        ensures { IfOk result (λ gift. (g : Group) → IsOrderOf g self.now → gift ≡ given_order g self.now.facts s) }
+        ensures { IfOk result (λ gift. Where self.now (λ g facts said. gift ≡ given_order g facts s)) }
     {
         let Some(digest) = order_of(&self.choices.ordered, s) else {
             return Ok(None);
@@ -332,14 +317,14 @@ impl Order {
 
     /// The greatest number that a quorum marked, 0 where there is none.
     pub fn stable(&self) -> u64
-        ensures { (g : Group) → IsOrderOf g self.now → result ≡ rules.stable g self.now.facts }
+        ensures { Where self.now (λ g facts said. result ≡ rules.stable g facts) }
     {
         self.stable
     }
 
     /// The marks that show the stable number: the first ones of the `q` lowest masters. None for 0.
     pub fn marks(&self) -> Result<Vec<Signed<Mark>>, Want>
-        ensures { IfOk result (λ marks. (g : Group) → IsOrderOf g self.now → marks.items ≡ rules.marks_for g self.now.facts (rules.stable g self.now.facts)) }
+        ensures { IfOk result (λ marks. Where self.now (λ g facts said. marks.items ≡ rules.marks_for g facts (rules.stable g facts))) }
     {
         if self.stable == 0 {
             return Ok(Vec::new(self.alloc));
@@ -350,7 +335,7 @@ impl Order {
     /// The marks that show a base: the first ones of the `q` lowest masters, and no mark for base 0. None exactly
     /// where `base` isn't 0 and fewer than `q` masters' marks of it are known.
     pub fn marks_of_base(&self, base: u64) -> Result<Option<Items<Signed<Mark>>>, Want>
-        ensures { IfOk result (λ marks. (g : Group) → IsOrderOf g self.now → marks ≡ rules.marks_at g self.now.facts base) }
+        ensures { IfOk result (λ marks. Where self.now (λ g facts said. marks ≡ rules.marks_at g facts base)) }
     {
         if base == 0 {
             return Ok(Some(Items::new(self.alloc)));
@@ -366,7 +351,7 @@ impl Order {
     /// The certificate of view `v` for number `s` that was complete first, with the first prepares of the `q` lowest
     /// masters. None exactly where no known rows have a quorum of prepares there.
     pub fn certificate(&self, v: u64, s: u64) -> Result<Option<Certificate>, Want>
-        ensures { IfOk result (λ certificate. (g : Group) → IsOrderOf g self.now → certificate ≡ rules.certificate_at g self.now.facts s v) }
+        ensures { IfOk result (λ certificate. Where self.now (λ g facts said. certificate ≡ rules.certificate_at g facts s v)) }
     {
         first_certificate_of(self.alloc, &self.choices, &self.prepares, &self.sizes, v, s)
     }
@@ -375,7 +360,7 @@ impl Order {
     /// certificate of a view below this, that of the highest one. The certificate holds the first prepares of the
     /// `q` lowest masters; of several of one view it is that of the least digest.
     pub fn certificates(&self, below: u64) -> Result<Vec<Certificate>, Want>
-        ensures { IfOk result (λ certificates. (g : Group) → IsOrderOf g self.now → certificates.items ≡ rules.certificates_below g self.now.facts below) }
+        ensures { IfOk result (λ certificates. Where self.now (λ g facts said. certificates.items ≡ rules.certificates_below g facts below)) }
     {
         let mut certificates = Vec::new(self.alloc);
         for s in self.stable + 1..self.stable + WINDOW + 1 {
@@ -387,21 +372,21 @@ impl Order {
                 below,
                 s,
             )?;
-            push_certificate(&mut certificates, certificate)?;
+            extend_option(&mut certificates, certificate)?;
         }
         Ok(certificates)
     }
 
     /// The plan of view `v`. None exactly where none is known; view 0 has an empty one.
     pub fn plan(&self, v: u64) -> Option<&Plan>
-        ensures { option_copied result ≡ rules.plan_known self.now.facts v }
+        ensures { Where self.now (λ g facts said. option_copied result ≡ rules.plan_known facts v) }
     {
         plan_of_view(&self.offers, v)
     }
 
     /// The rows that view `v` offers as number `s`, once it is open.
     pub fn offered(&self, v: u64, s: u64) -> Option<&Rows>
-        ensures { option_copied result ≡ rules.offered self.now.facts v s }
+        ensures { Where self.now (λ g facts said. option_copied result ≡ rules.offered facts v s) }
     {
         offered_in(&self.offers, v, s)
     }
@@ -419,14 +404,4 @@ fn raised(stable: u64, s: u64, is_marked: bool) -> u64
     ensures { result ≡ (if is_marked then max stable s else stable) }
 {
     if is_marked { stable.max(s) } else { stable }
-}
-
-fn copy_all(alloc: Global, bodies: &Vec<Body>) -> Result<Vec<Body>, Want>
-    ensures { IfOk result (λ copies. copies.items ≡ bodies.now.items) }
-{
-    let mut copies = Vec::with_capacity(alloc, bodies.len())?;
-    for body in bodies {
-        copies.push(body.copy()?)?;
-    }
-    Ok(copies)
 }

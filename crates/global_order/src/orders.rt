@@ -10,9 +10,7 @@ use crate::quorum::Quorum;
 use crate::waiting::Waiting;
 use indexmap::IndexMap;
 use plain_lists::Want;
-
-/// Global numbers go from 1 to this.
-pub const MOST_NUMBER: u64 = 4096;
+use protocol_rules::MOST_NUMBER;
 
 /// The digest that is ordered as each number that a quorum committed, where its rows are known.
 pub type Orders = IndexMap<u64, Option<[u8; 32]>>;

@@ -4,7 +4,7 @@ ghost use Rattle.global_order.specs.Unsaid.{HasPending, IsNoted, LooksFrom, whol
 /// Where the numbers of a view stand for which a word may be due: from `low` to below `high` those that changed since it was
 /// looked for, and from `beyond` on those that weren't in the window yet. So what is due isn't looked for among all numbers.
 #[derive(Clone, Copy)]
-pub struct Pending {
+pub struct PendingNumbers {
     pub view: u64,
     pub low: u64,
     pub high: u64,
@@ -12,10 +12,10 @@ pub struct Pending {
 }
 
 /// All numbers of a view.
-pub fn all_pending(view: u64) -> Pending
+pub fn all_pending(view: u64) -> PendingNumbers
     ensures { result ≡ whole_view view }
 {
-    Pending {
+    PendingNumbers {
         view,
         low: 1,
         high: 0,
@@ -24,7 +24,7 @@ pub fn all_pending(view: u64) -> Pending
 }
 
 /// Notes that a word may be due for a number, if it is one of the pending view.
-pub fn note_pending(pending: &mut Pending, v: u64, s: u64)
+pub fn note_pending(pending: &mut PendingNumbers, v: u64, s: u64)
     ensures { IsNoted v s pending.old pending.new }
 {
     if v != pending.view || s == 0 || s >= pending.beyond {
@@ -35,7 +35,7 @@ pub fn note_pending(pending: &mut Pending, v: u64, s: u64)
 }
 
 /// Notes that words may be due for all numbers of a view, if it is the pending one.
-pub fn note_all_pending(pending: &mut Pending, v: u64)
+pub fn note_all_pending(pending: &mut PendingNumbers, v: u64)
     ensures { pending.new ≡ with_view v pending.old }
 {
     if v == pending.view {
@@ -44,7 +44,7 @@ pub fn note_all_pending(pending: &mut Pending, v: u64)
 }
 
 /// What is pending in a view: all of it, where another one was pending.
-pub fn pending_in(pending: &Pending, view: u64) -> Pending
+pub fn pending_in(pending: &PendingNumbers, view: u64) -> PendingNumbers
     ensures view { result.view ≡ view }
     ensures pending { (said there : ℕ → ℕ → Bool) → HasPending said there pending.now → HasPending said there result }
 {
@@ -56,11 +56,11 @@ pub fn pending_in(pending: &Pending, view: u64) -> Pending
 }
 
 /// What is pending once all numbers below `end` were looked at.
-pub fn pending_from(pending: &Pending, end: u64) -> Pending
+pub fn pending_from(pending: &PendingNumbers, end: u64) -> PendingNumbers
     ensures { LooksFrom end pending.now result }
 {
     let high = if pending.high <= end { 0 } else { pending.high };
-    Pending {
+    PendingNumbers {
         view: pending.view,
         low: pending.low.max(end),
         high,

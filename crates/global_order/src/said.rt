@@ -1,22 +1,34 @@
 ghost use Rattle.std.specs.Prelude.{◌≡◌, ◌+◌, ◌≤◌, ◌||◌, ℕ, length};
 ghost use Rattle.std.specs.List.{list_any};
-ghost use Rattle.indexmap.specs.IndexSet.{contains, spare};
+ghost use Rattle.std.specs.HashSet.{contains, spare};
 ghost use Rattle.protocol_rules.specs.Order.{prepares_said, commits_said};
 ghost use Rattle.global_order.specs.Index.{same_pair};
 
-use indexmap::IndexSet;
+use crate::letting::let_go;
 use message_types::Body;
+use std::collections::HashSet;
 
 /// Views with numbers.
-pub type Places = IndexSet<(u64, u64)>;
+pub type Places = HashSet<(u64, u64)>;
 
 /// What was said.
-#[derive(Drop)]
 pub struct Said {
     pub prepares: Places,
     pub commits: Places,
     /// All marks up to this number were said.
     pub marked: u64,
+}
+
+impl Drop for Said {
+    fn drop(self) {
+        let Said {
+            prepares,
+            commits,
+            marked: _,
+        } = self;
+        let_go(prepares);
+        let_go(commits);
+    }
 }
 
 /// Notes the prepares and commits among some bodies.

@@ -7,7 +7,7 @@ ghost use Rattle.global_order.specs.Choosing.{lesser};
 ghost use Rattle.global_order.specs.Index.{same_pair, first_in, least_in, is_backing, slot_waits, KeepsSlots, TakesDigest};
 ghost use Rattle.global_order.specs.Unsaid.{HasPending, holds_prepared};
 
-use crate::pending::{Pending, note_pending};
+use crate::pending::{PendingNumbers, note_pending};
 use crate::quorum::Quorum;
 use crate::waiting::Waiting;
 use indexmap::IndexMap;
@@ -75,7 +75,7 @@ fn with_digest(slot: Slot, digest: [u8; 32]) -> Slot
 pub fn settle_slots(
     backed: &mut Waiting,
     slots: &mut Slots,
-    pending: &mut Pending,
+    pending: &mut PendingNumbers,
     digest: [u8; 32],
 )
     requires { (k : ℕ × ℕ) → IsTrue (slot_waits backed.old k digest) → IsTrue (is_some (get same_pair slots.old k)) }
@@ -90,7 +90,12 @@ pub fn settle_slots(
 }
 
 /// Has the slots of these quorums that are for rows of this digest take it.
-fn put_digests(slots: &mut Slots, pending: &mut Pending, waiting: &[Quorum], digest: [u8; 32])
+fn put_digests(
+    slots: &mut Slots,
+    pending: &mut PendingNumbers,
+    waiting: &[Quorum],
+    digest: [u8; 32],
+)
     requires { (k : ℕ × ℕ) → IsTrue (list_any (is_backing k digest) waiting.now) → IsTrue (is_some (get same_pair slots.old k)) }
     ensures slots { TakesDigest (λ k. list_any (is_backing k digest) waiting.now) digest slots.old slots.new }
     ensures pending { (said : ℕ → ℕ → Bool) → HasPending said (holds_prepared slots.old) pending.old → HasPending said (holds_prepared slots.new) pending.new }

@@ -14,6 +14,7 @@ pub child_is : (tree : TreeSeed) (h q : ℕ) (ots : Ots) (id_hash id seed : List
     → (r : Result TreeSeed Want) → IfOk r (λ c. c ≡ tree_from h ots id seed) → IfOk r (λ c. c ≡ child_tree tree h q)
 unfolding child_tree
 child_is tree h q ots id_hash id seed e_ots e_hash e_id e_seed r made =
-    let whole = ap (λ o. tree_from h o id seed) e_ots ∙ ap (λ i. tree_from h tree.ots i seed) (e_id ∙ ap (take 16) e_hash)
+    let whole = ap (λ o. tree_from h o id seed) e_ots ∙ ap (λ i. tree_from h tree.ots i seed)
+    (e_id ∙ ap (take 16) e_hash)
     ∙ ap (tree_from h tree.ots (take 16 (hash_under tree.id q child_id_tag (u8_bytes 0xff ++ tree.seed)))) e_seed in
     subst (λ t. IfOk r (λ c. c ≡ t)) whole made

@@ -1,5 +1,6 @@
 -- How a signature is cut into its signed keys.
-use Rattle.std.proofs.Common.{◌≡◌, ◌≤◌, ◌<◌, ◌^◌, ◌+◌, ◌*◌, ◌-◌, ℕ, zero, suc, List, ◌++◌, length, take, drop, sym, ap, ◌∙◌, subst, arith, length-append, append_assoc}
+use Rattle.std.proofs.Common.{◌≡◌, ◌≤◌, ◌<◌, ◌^◌, ◌+◌, ◌*◌, ◌-◌, ℕ, zero, suc, List, ◌++◌, length, take, drop, sym}
+use Rattle.std.proofs.Common.{ap, ◌∙◌, subst, arith, length-append, append_assoc}
 use Rattle.std.proofs.lemmas.List.{drop_at, take_at, take-append-drop}
 use Rattle.wire_parts.specs.Fields.{u32_bytes}
 use Rattle.wire_parts.specs.FieldLaws.{length-u32_bytes}
@@ -17,21 +18,23 @@ pub tree_key_len : (public message sig : List ℕ) → TreeVerifies public messa
 tree_key_len public message sig (key, is_key, signed) = key_len key public is_key
 
 -- what leads on is a key of 56 bytes
-leads_len : (n : ℕ) (public message sig : List ℕ) → LeadsThrough n public message sig → length public ≡ 56
+pub leads_len : (n : ℕ) (public message sig : List ℕ) → LeadsThrough n public message sig → length public ≡ 56
 leads_len zero public message sig h = tree_key_len public message sig h
 leads_len (suc n) public message sig (signed, next, rest, e, verifies, leads) = tree_key_len public next signed verifies
 
 -- the parts that the key's own length cuts out
 pub record LeadCuts (n : ℕ) (key : PublicKey) (message sig : List ℕ) : Type 0 where
   pub room : tree_signature_len key.height key.ots + 56 ≤ length sig
-  pub signed : IsSignedUnder key (take 56 (drop (tree_signature_len key.height key.ots) sig)) (take (tree_signature_len key.height key.ots) sig)
+  pub signed : IsSignedUnder key (take 56 (drop (tree_signature_len key.height key.ots) sig))
+      (take (tree_signature_len key.height key.ots) sig)
   pub leads : LeadsThrough n (take 56 (drop (tree_signature_len key.height key.ots) sig)) message
       (drop 56 (drop (tree_signature_len key.height key.ots) sig))
 
 pub lead_cuts : (n : ℕ) (key : PublicKey) (public message sig : List ℕ) → IsKey key public
     → LeadsThrough (suc n) public message sig → LeadCuts n key message sig
 lead_cuts n key public message sig is_key (signed, next, rest, e, (key', is_key', under'), leads) =
-    let under : IsSignedUnder key next signed = subst (λ k. IsSignedUnder k next signed) (one_key key' key public is_key' is_key) under' in
+    let under : IsSignedUnder key next signed =
+    subst (λ k. IsSignedUnder k next signed) (one_key key' key public is_key' is_key) under' in
     let len = tree_signature_len key.height key.ots in
     let signed_is = signed_len key next signed under in
     let next_is = leads_len n next message rest leads in
@@ -42,7 +45,8 @@ lead_cuts n key public message sig is_key (signed, next, rest, e, (key', is_key'
     let last = ap (drop 56) back ∙ drop_at next rest 56 next_is in
     let whole = ap length e ∙ length-append (signed ++ next) rest in
     let at_front : IsSignedUnder key next (take len sig) = subst (λ x. IsSignedUnder key next x) (sym front) under in
-    let at_rest : LeadsThrough n next message (drop 56 (drop len sig)) = subst (λ x. LeadsThrough n next message x) (sym last) leads in
+    let at_rest : LeadsThrough n next message (drop 56 (drop len sig)) =
+    subst (λ x. LeadsThrough n next message x) (sym last) leads in
     record {
       room = omega (arith, length-append signed next);
       signed = subst (λ x. IsSignedUnder key x (take len sig)) (sym middle) at_front;
@@ -63,12 +67,14 @@ pub lead_key : (n : ℕ) (public message sig : List ℕ) → LeadsThrough (suc n
 lead_key n public message sig (signed, next, rest, e, (key, is_key, under), leads) = (key, is_key)
 
 -- at n above 0
-pub leads_before : (n : ℕ) (public message sig : List ℕ) → 1 ≤ n → LeadsThrough n public message sig → LeadsThrough (suc (n - 1)) public message sig
+pub leads_before : (n : ℕ) (public message sig : List ℕ) → 1 ≤ n → LeadsThrough n public message sig →
+    LeadsThrough (suc (n - 1)) public message sig
 leads_before n public message sig h leads =
     let e : n ≡ suc (n - 1) = omega arith in
     subst (λ k. LeadsThrough k public message sig) e leads
 
-pub leads_after : (n : ℕ) (public message sig : List ℕ) → 1 ≤ n → LeadsThrough (suc (n - 1)) public message sig → LeadsThrough n public message sig
+pub leads_after : (n : ℕ) (public message sig : List ℕ) → 1 ≤ n → LeadsThrough (suc (n - 1)) public message sig →
+    LeadsThrough n public message sig
 leads_after n public message sig h leads =
     let e : suc (n - 1) ≡ n = omega arith in
     subst (λ k. LeadsThrough k public message sig) e leads
@@ -93,9 +99,12 @@ pub verifies_leads : (public message sig : List ℕ) (count : ℕ) → count < 2
 verifies_leads public message sig count fits e v =
     let same = verifies_count public message sig count fits e v in
     let key = ap (drop 4) v.public_bytes ∙ drop_at (u32_bytes v.levels) v.key 4 (length-u32_bytes v.levels) in
-    let rest = ap (drop 4) v.sig_bytes ∙ drop_at (u32_bytes (v.levels - 1)) v.rest 4 (length-u32_bytes (v.levels - 1)) in
-    let at_key : LeadsThrough (v.levels - 1) (drop 4 public) message v.rest = subst (λ x. LeadsThrough (v.levels - 1) x message v.rest) (sym key) v.leads in
-    let at_rest : LeadsThrough (v.levels - 1) (drop 4 public) message (drop 4 sig) = subst (λ x. LeadsThrough (v.levels - 1) (drop 4 public) message x) (sym rest) at_key in
+    let rest = ap (drop 4) v.sig_bytes ∙ drop_at (u32_bytes (v.levels - 1)) v.rest 4
+    (length-u32_bytes (v.levels - 1)) in
+    let at_key : LeadsThrough (v.levels - 1) (drop 4 public) message v.rest =
+    subst (λ x. LeadsThrough (v.levels - 1) x message v.rest) (sym key) v.leads in
+    let at_rest : LeadsThrough (v.levels - 1) (drop 4 public) message (drop 4 sig) =
+    subst (λ x. LeadsThrough (v.levels - 1) (drop 4 public) message x) (sym rest) at_key in
     subst (λ k. LeadsThrough k (drop 4 public) message (drop 4 sig)) (sym same) at_rest
 
 -- bytes with these levels verify, if they lead through that many signed keys
@@ -122,7 +131,8 @@ verifies_room public message sig v =
 
 -- the same parts under other names
 pub parts_of_lead : (n : ℕ) (key : PublicKey) (message sig signed rest next last : List ℕ) (len : ℕ)
-    → len ≡ tree_signature_len key.height key.ots → signed ≡ take len sig → rest ≡ drop len sig → next ≡ take 56 rest → last ≡ drop 56 rest
+    → len ≡ tree_signature_len key.height key.ots → signed ≡ take len sig → rest ≡ drop len sig →
+    next ≡ take 56 rest → last ≡ drop 56 rest
     → LeadCuts n key message sig → IsSignedUnder key next signed × LeadsThrough n next message last
 parts_of_lead n key message sig signed rest next last len e_len e_signed e_rest e_next e_last cuts =
     let whole_len = tree_signature_len key.height key.ots in
@@ -130,14 +140,19 @@ parts_of_lead n key message sig signed rest next last len e_len e_signed e_rest 
     let at_rest = e_rest ∙ ap (λ k. drop k sig) e_len in
     let at_next = e_next ∙ ap (take 56) at_rest in
     let at_last = e_last ∙ ap (drop 56) at_rest in
-    let one : IsSignedUnder key next (take whole_len sig) = subst (λ x. IsSignedUnder key x (take whole_len sig)) (sym at_next) cuts.signed in
+    let one : IsSignedUnder key next (take whole_len sig) =
+    subst (λ x. IsSignedUnder key x (take whole_len sig)) (sym at_next) cuts.signed in
     let two : LeadsThrough n next message (drop 56 (drop whole_len sig)) =
-    subst (λ x. LeadsThrough n x message (drop 56 (drop whole_len sig))) (sym at_next) cuts.leads in
-    (subst (λ x. IsSignedUnder key next x) (sym at_signed) one, subst (λ x. LeadsThrough n next message x) (sym at_last) two)
+    subst (λ x. LeadsThrough n x message (drop 56 (drop whole_len sig))) (sym at_next) cuts.leads in (
+      subst (λ x. IsSignedUnder key next x) (sym at_signed) one,
+      subst (λ x. LeadsThrough n next message x) (sym at_last) two,
+    )
 
 pub lead_of_parts : (n : ℕ) (key : PublicKey) (message sig signed rest next last : List ℕ) (len : ℕ)
-    → len ≡ tree_signature_len key.height key.ots → signed ≡ take len sig → rest ≡ drop len sig → next ≡ take 56 rest → last ≡ drop 56 rest
-    → len + 56 ≤ length sig → IsSignedUnder key next signed → LeadsThrough n next message last → LeadCuts n key message sig
+    → len ≡ tree_signature_len key.height key.ots → signed ≡ take len sig → rest ≡ drop len sig →
+    next ≡ take 56 rest → last ≡ drop 56 rest
+    → len + 56 ≤ length sig → IsSignedUnder key next signed → LeadsThrough n next message last →
+    LeadCuts n key message sig
 lead_of_parts n key message sig signed rest next last len e_len e_signed e_rest e_next e_last room under leads =
     let whole_len = tree_signature_len key.height key.ots in
     let at_signed = e_signed ∙ ap (λ k. take k sig) e_len in
@@ -145,7 +160,8 @@ lead_of_parts n key message sig signed rest next last len e_len e_signed e_rest 
     let at_next = e_next ∙ ap (take 56) at_rest in
     let at_last = e_last ∙ ap (drop 56) at_rest in
     let one : IsSignedUnder key next (take whole_len sig) = subst (λ x. IsSignedUnder key next x) at_signed under in
-    let two : LeadsThrough n next message (drop 56 (drop whole_len sig)) = subst (λ x. LeadsThrough n next message x) at_last leads in
+    let two : LeadsThrough n next message (drop 56 (drop whole_len sig)) =
+    subst (λ x. LeadsThrough n next message x) at_last leads in
     record {
       room = omega arith;
       signed = subst (λ x. IsSignedUnder key x (take whole_len sig)) at_next one;

@@ -3,4 +3,4 @@ pub mod Signatures
 pub mod State
 pub mod Descent
 pub mod Path
-pub mod Kept
+pub mod KeyInside

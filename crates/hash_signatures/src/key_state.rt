@@ -90,7 +90,7 @@ impl Model for KeyState {
 
     ghost Value = { KeyUse };
 
-    ghost use Rattle.hash_signatures.specs.Kept.{use_of, IsKept};
+    ghost use Rattle.hash_signatures.specs.KeyInside.{use_of, IsKept};
 
     ghost view = { use_of };
 

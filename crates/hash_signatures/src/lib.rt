@@ -7,9 +7,11 @@
 pub mod crossing;
 mod descent;
 mod key_state;
+mod known_keys;
 mod path;
 mod verification;
 
 pub use crate::key_state::{KeyAnswer, KeyState, SignAnswer};
-pub use crate::verification::verify;
+pub use crate::known_keys::KnownKeys;
+pub use crate::verification::{Anew, KeyCheck, verify, verify_by};
 pub use ots_keys::Ots;

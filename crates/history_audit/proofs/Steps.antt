@@ -1,22 +1,18 @@
--- Small steps: bytes of a length, rows made of summaries, and the counts of one entry more.
-use Rattle.std.proofs.Common.{◌≡◌, ℕ, ◌+◌, ◌/◌, ◌%◌, ◌<◌, ◌≤◌, zero, suc, Bool, true, false, cond, List, [], ◌∷◌, ◌++◌, Some, None, length, map, take, drop, get_or, filter, refl, sym, ◌∙◌, ap, arith, append_assoc}
-use Rattle.std.proofs.lemmas.List.{map-append, take_more, drop_more, drop_all}
+-- Small steps: bytes of a length, and the counts of one entry more.
+use Rattle.std.proofs.Common.{◌≡◌, ℕ, ◌+◌, ◌/◌, ◌%◌, ◌<◌, ◌≤◌, List, [], ◌∷◌, ◌++◌, length, map, take, drop, get_or}
+use Rattle.std.proofs.Common.{filter, sym, ◌∙◌, ap, arith, append_assoc}
+use Rattle.std.proofs.lemmas.List.{take_more, drop_more, drop_all}
 use Rattle.std.proofs.lemmas.List.Concat.{flat_map-append}
 use Rattle.std.proofs.lemmas.List.Folds.{flat_map-map}
-use Rattle.std.specs.List.{find, flat_map}
+use Rattle.std.specs.List.{flat_map}
 use Rattle.wire_parts.specs.Fields.{u16_bytes}
 use Rattle.message_types.specs.declared.signed.Signed.{Signed}
-use Rattle.message_types.specs.declared.preordering.PoSummary.{PoSummary}
 use Rattle.message_types.specs.declared.body.Body.{Body}
-use Rattle.quorum_sets.specs.Masters.{numbers_below}
 use Rattle.protocol_rules.specs.Group.{Group}
-use Rattle.protocol_rules.specs.Matrix.{rows_of_frames}
 use Rattle.history_rules.specs.Events.{Entry}
 use Rattle.history_rules.specs.Setup.{Setup}
 use Rattle.history_rules.specs.Audit.{parts_taken, bodies_of, texts_of}
 use Rattle.history_rules.specs.Counts.{is_forged, forged_from}
-use Rattle.agreement.proofs.Lists.{none_some}
-use Rattle.history_audit.specs.Texts.{row_of}
 
 -- the lowest 16 bits of a length are all that its field shows
 pub low_bytes : (n : ℕ) → u16_bytes (n % 65536) ≡ u16_bytes n
@@ -26,56 +22,41 @@ low_bytes n =
     let low : n % 65536 % 256 ≡ n % 256 = omega arith in
     ap (λ (x : ℕ). x ∷ n % 65536 % 256 ∷ []) high ∙ ap (λ (x : ℕ). n / 256 % 256 ∷ x ∷ []) low
 
-pub rows_next : (frames : List (Signed PoSummary)) (n : ℕ) → map (row_of frames) (numbers_below (suc n)) ≡ map (row_of frames) (numbers_below n) ++ row_of frames n ∷ []
-unfolding numbers_below
-rows_next frames n = map-append (row_of frames) (numbers_below n) (n ∷ [])
-
-pub rows_made : (g : Group) (frames : List (Signed PoSummary)) → rows_of_frames g frames ≡ map (row_of frames) (numbers_below g.n)
-unfolding rows_of_frames
-rows_made g frames = refl
-
--- what is found first at a place before which nothing was found
-pub found_at : {X : Type 0} (t : X → Bool) (xs : List X) (i : ℕ) (x : X) → i < length xs → x ≡ get_or xs i x → find t (take i xs) ≡ None → t x ≡ true → find t xs ≡ Some x
-found_at t [] i x below is none passes = absurd (omega arith)
-found_at {X} t (y ∷ xs) zero x below is none passes = ap (λ (b : Bool). cond b (Some y) (find t xs)) (ap t (sym is) ∙ passes) ∙ ap (λ (z : X). Some z) (sym is)
-found_at {X} t (y ∷ xs) (suc i) x below is none passes = by (t y) refl none (λ later. found_at t xs i x (omega arith) is later passes)
-  where
-    by : (b : Bool) → t y ≡ b → cond b (Some y) (find t (take i xs)) ≡ None → (find t (take i xs) ≡ None → find t xs ≡ Some x) → cond (t y) (Some y) (find t xs) ≡ Some x
-    by true e bad deeper = absurd (none_some (sym bad))
-    by false e later deeper = ap (λ (b : Bool). cond b (Some y) (find t xs)) e ∙ deeper later
-
-pub none_at : {X : Type 0} (t : X → Bool) (xs : List X) (i : ℕ) (x : X) → i < length xs → x ≡ get_or xs i x → find t (take i xs) ≡ None → t x ≡ false → find t (take (suc i) xs) ≡ None
-none_at t [] i x below is none fails = absurd (omega arith)
-none_at {X} t (y ∷ xs) zero x below is none fails = ap (λ (b : Bool). cond b (Some y) None) (ap t (sym is) ∙ fails)
-none_at {X} t (y ∷ xs) (suc i) x below is none fails = by (t y) refl none (λ later. none_at t xs i x (omega arith) is later fails)
-  where
-    by : (b : Bool) → t y ≡ b → cond b (Some y) (find t (take i xs)) ≡ None → (find t (take i xs) ≡ None → find t (take (suc i) xs) ≡ None) → cond (t y) (Some y) (find t (take (suc i) xs)) ≡ None
-    by true e bad deeper = absurd (none_some (sym bad))
-    by false e later deeper = ap (λ (b : Bool). cond b (Some y) (find t (take (suc i) xs))) e ∙ deeper later
-
 -- the forged words of one entry more
-pub forged_more : (w : Setup) (es : List Entry) (i : ℕ) (e : Entry) (count more total : ℕ) → i < length es → e ≡ get_or es i e
-    → more ≡ length (filter (is_forged w (take i es)) (parts_taken e)) → count + forged_from w (take i es) (drop i es) ≡ total
+pub forged_more : (w : Setup) (es : List Entry) (i : ℕ) (e : Entry) (count more total : ℕ) →
+    i < length es → e ≡ get_or es i e
+    → more ≡ length (filter (is_forged w (take i es)) (parts_taken e)) →
+    count + forged_from w (take i es) (drop i es) ≡ total
     → (count + more) + forged_from w (take (i + 1) es) (drop (i + 1) es) ≡ total
 forged_more w es i e count more total below is counted so_far =
-    let rest : drop i es ≡ e ∷ drop (i + 1) es = drop_more es i e below ∙ ap (λ (z : Entry). z ∷ drop (i + 1) es) (sym is) in
-    let front : take (i + 1) es ≡ take i es ++ e ∷ [] = take_more es i e below ∙ ap (λ (z : Entry). take i es ++ z ∷ []) (sym is) in
-    let split : forged_from w (take i es) (drop i es) ≡ length (filter (is_forged w (take i es)) (parts_taken e)) + forged_from w (take (i + 1) es) (drop (i + 1) es) =
-    ap (forged_from w (take i es)) rest ∙ ap (λ (before : List Entry). length (filter (is_forged w (take i es)) (parts_taken e)) + forged_from w before (drop (i + 1) es)) (sym front) in
+    let rest : drop i es ≡ e ∷ drop (i + 1) es = drop_more es i e below
+    ∙ ap (λ (z : Entry). z ∷ drop (i + 1) es) (sym is) in
+    let front : take (i + 1) es ≡ take i es ++ e ∷ [] = take_more es i e below
+    ∙ ap (λ (z : Entry). take i es ++ z ∷ []) (sym is) in
+    let split : forged_from w (take i es) (drop i es) ≡ length (filter (is_forged w (take i es)) (parts_taken e)) +
+    forged_from w (take (i + 1) es) (drop (i + 1) es) =
+    ap (forged_from w (take i es)) rest
+    ∙ ap (λ (before : List Entry). length (filter (is_forged w (take i es)) (parts_taken e)) + forged_from w
+    before (drop (i + 1) es)) (sym front) in
     omega arith
 
-pub forged_all : (w : Setup) (es : List Entry) (i count total : ℕ) → length es ≤ i → count + forged_from w (take i es) (drop i es) ≡ total → count ≡ total
+pub forged_all : (w : Setup) (es : List Entry) (i count total : ℕ) → length es ≤ i →
+    count + forged_from w (take i es) (drop i es) ≡ total → count ≡ total
 forged_all w es i count total all so_far =
     let none : forged_from w (take i es) (drop i es) ≡ 0 = ap (forged_from w (take i es)) (drop_all i es all) in
     omega arith
 
-pub entry_pushed : (es : List Entry) (i : ℕ) (e : Entry) → i < length es → e ≡ get_or es i e → take i es ++ e ∷ [] ≡ take (i + 1) es
+pub entry_pushed : (es : List Entry) (i : ℕ) (e : Entry) → i < length es → e ≡ get_or es i e →
+    take i es ++ e ∷ [] ≡ take (i + 1) es
 entry_pushed es i e below is = sym (take_more es i e below ∙ ap (λ (z : Entry). take i es ++ z ∷ []) (sym is))
 
 -- the texts of an entry: of the parts taken, then of what was said
 pub texts_at : (g : Group) (e : Entry) (given : List (List ℕ))
-    → (given ++ flat_map (λ p. texts_of g p.body) (parts_taken e)) ++ flat_map (texts_of g) e.said ≡ given ++ flat_map (texts_of g) (bodies_of e)
+    → (given ++ flat_map (λ p. texts_of g p.body) (parts_taken e)) ++ flat_map (texts_of g) e.said ≡ given
+    ++ flat_map (texts_of g) (bodies_of e)
 texts_at g e given =
     append_assoc given (flat_map (λ p. texts_of g p.body) (parts_taken e)) (flat_map (texts_of g) e.said)
-    ∙ ap (λ (ts : List (List ℕ)). given ++ (ts ++ flat_map (texts_of g) e.said)) (sym (flat_map-map (texts_of g) (λ (p : Signed Body). p.body) (parts_taken e)))
-    ∙ ap (λ (ts : List (List ℕ)). given ++ ts) (sym (flat_map-append (texts_of g) (map (λ (p : Signed Body). p.body) (parts_taken e)) e.said))
+    ∙ ap (λ (ts : List (List ℕ)). given ++ (ts ++ flat_map (texts_of g) e.said))
+    (sym (flat_map-map (texts_of g) (λ (p : Signed Body). p.body) (parts_taken e)))
+    ∙ ap (λ (ts : List (List ℕ)). given ++ ts)
+    (sym (flat_map-append (texts_of g) (map (λ (p : Signed Body). p.body) (parts_taken e)) e.said))

@@ -11,4 +11,5 @@ use Rattle.history_audit.specs.Counting.{are_spelled}
 -- nothing, correct ones what the rules make of words that are spelled themselves, clients updates.
 abbrev pub LegalAreSpelled : Type 0
 LegalAreSpelled =
-    (c : Contents) (history : List Entry) → IsScenario c → IsLegal (setup_of c) history → length history < 2 ^ 32 → are_spelled history ≡ true
+    (c : Contents) (history : List Entry) → IsScenario c → IsLegal (setup_of c) history → length history < 2 ^ 32 →
+    are_spelled history ≡ true

@@ -1,5 +1,6 @@
 -- Lists of which, of any two, one begins the other.
-use Rattle.std.specs.Prelude.{◌≡◌, Bool, true, List, [], Option, Some, None, filter, fold, length, map, nat_lt, if◌then◌else◌}
+use Rattle.std.specs.Prelude.{◌≡◌, Bool, true, List, [], Option, Some, None, filter, fold, length, map, nat_lt}
+use Rattle.std.specs.Prelude.{if◌then◌else◌}
 use Rattle.std.specs.List.{list_all, starts_with}
 use Rattle.message_types.specs.declared.updates.Update.{Update}
 use Rattle.quorum_sets.specs.Masters.{numbers_below}
@@ -31,4 +32,5 @@ begins_if whole (Some list) = starts_with is_same_update whole list
 abbrev pub AgreesByLists : Type 0
 AgreesByLists =
     (w : Setup) (history : List Entry)
-    → agrees w history ≡ all_prefixes (map (executions w history) (filter (is_correct_master w) (numbers_below w.group.n)))
+    → agrees w history ≡ all_prefixes
+    (map (executions w history) (filter (is_correct_master w) (numbers_below w.group.n)))

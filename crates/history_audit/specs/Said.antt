@@ -12,13 +12,7 @@ use Rattle.message_types.specs.declared.body.Body.{Body}
 use Rattle.message_types.specs.declared.body.Body.TheVariants as body
 use Rattle.history_rules.specs.Events.{Entry}
 use Rattle.history_rules.specs.Sameness.{is_same_body}
-
--- an actor, a body's number of its kind, and two of the body's own numbers
-abbrev pub Key : Type 0
-Key = ℕ × ℕ × ℕ × ℕ
-
-abbrev pub same_key : Key → Key → Bool
-same_key x y = ((nat_eq x.0 y.0 && nat_eq x.1 y.1) && nat_eq x.2 y.2) && nat_eq x.3 y.3
+use Rattle.protocol_rules.specs.Keys.{Key, same_key}
 
 -- the sum of a list of numbers, in 64 bits
 abbrev pub sum_of : List ℕ → ℕ
@@ -74,4 +68,5 @@ was_said words actor b = list_any (λ w. nat_eq w.0 actor && is_same_body b w.1)
 
 -- Of these words the map answers whether one was said, by the few bodies under one key.
 abbrev pub HasWords : List (ℕ × Body) → WordMap → Type 0
-HasWords words kept = (actor : ℕ) (b : Body) → list_any (is_same_body b) (bodies_at kept (key_of actor b)) ≡ was_said words actor b
+HasWords words kept = (actor : ℕ) (b : Body) →
+    list_any (is_same_body b) (bodies_at kept (key_of actor b)) ≡ was_said words actor b

@@ -19,9 +19,8 @@ ghost use Rattle.history_audit.specs.Texts.{AreTexts};
 
 use crate::said::{Said, is_said, note_words};
 use crate::texts::{Texts, note_bodies, note_parts};
-use frame_parts::parts_of;
 use indexmap::IndexMap;
-use message_types::Frame;
+use message_types::{Frame, parts_of};
 use plain_lists::Want;
 use scenario_file::Scenario;
 use std::alloc::Global;

@@ -1,13 +1,9 @@
 ghost use Rattle.std.specs.Prelude.{◌≡◌, ◌++◌, OnOk, IfOk};
 ghost use Rattle.message_types.specs.Texts.{list_text, rows_text};
 ghost use Rattle.wire_parts.specs.Fields.{u16_bytes, u64_bytes};
-ghost use Rattle.protocol_rules.specs.Group.{Group};
-ghost use Rattle.protocol_rules.specs.Matrix.{rows_of_frames};
-ghost use Rattle.history_audit.specs.Texts.{row_of};
 
-use message_types::{PoSummary, Rows, Signed};
-use plain_lists::{Copied, Items, Vector, Want};
-use quorum_sets::Sizes;
+use message_types::Rows;
+use plain_lists::{Vector, Want};
 use std::alloc::Global;
 use wire_parts::{put_u16, put_u64};
 
@@ -39,27 +35,4 @@ fn put_length(out: &mut Vec<u8>, length: usize) -> Result<(), Want>
     ensures { OnOk result (out.new.items ≡ out.old.items ++ u16_bytes length) }
 {
     put_u16(out, (length % 65536) as u16)
-}
-
-/// Rows from summaries: each master's numbers at its place, none where it signed none.
-pub fn rows_of(alloc: Global, sizes: &Sizes, frames: &[Signed<PoSummary>]) -> Result<Rows, Want>
-    ensures { IfOk result (λ rows. (g : Group) → sizes.now.n ≡ g.n → rows ≡ rows_of_frames g frames.now) }
-{
-    let mut rows = Items::new(alloc);
-    for master in 0..sizes.n {
-        rows.push(row_of(alloc, frames, master)?)?;
-    }
-    Ok(rows)
-}
-
-/// The numbers of the first summary that the master signed.
-fn row_of(alloc: Global, frames: &[Signed<PoSummary>], master: u32) -> Result<Vector, Want>
-    ensures { IfOk result (λ row. row ≡ row_of frames.now master) }
-{
-    for frame in frames {
-        if frame.signer == master {
-            return frame.body.numbers.copy();
-        }
-    }
-    Ok(Items::new(alloc))
 }

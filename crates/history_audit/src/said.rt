@@ -3,7 +3,8 @@ ghost use Rattle.message_types.specs.declared.body.Body.{Body as Word};
 ghost use Rattle.std.specs.List.{list_any};
 ghost use Rattle.indexmap.specs.IndexMap.{get};
 ghost use Rattle.history_rules.specs.Sameness.{is_same_body};
-ghost use Rattle.history_audit.specs.Said.{Key as KeyOf, same_key, mark_of, key_of, sum_of, bodies_at, was_said, HasWords};
+ghost use Rattle.protocol_rules.specs.Keys.{Key as KeyOf, same_key};
+ghost use Rattle.history_audit.specs.Said.{mark_of, key_of, sum_of, bodies_at, was_said, HasWords};
 
 use indexmap::IndexMap;
 use message_types::Body;

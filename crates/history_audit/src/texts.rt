@@ -10,11 +10,12 @@ ghost use Rattle.history_rules.specs.Audit.{texts_of};
 ghost use Rattle.history_rules.specs.Counts.{alike_from};
 ghost use Rattle.history_audit.specs.Texts.{AreTexts};
 
-use crate::rows::{rows_of, text_of_rows};
+use crate::rows::text_of_rows;
 use indexmap::IndexSet;
 use message_forms::word_text;
 use message_types::{Body, Certificate, Frame, NewView, PrePrepare, Report, Rows, Update};
 use plain_lists::Want;
+use protocol_rules::rows_of;
 use quorum_sets::Sizes;
 use sha2::{Digest, Sha256};
 use std::alloc::Global;

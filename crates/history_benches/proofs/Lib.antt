@@ -1,5 +1,5 @@
 mod Numbered
-mod Shown
+pub mod Shown
 pub mod Steps
 mod Placing
 mod Joined

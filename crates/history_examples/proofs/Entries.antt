@@ -1,6 +1,7 @@
 -- Legality entry after entry: what can be tested at once, and what each actor says.
-use Rattle.std.proofs.Common.{◌≡◌, ℕ, ◌+◌, Bool, true, false, ◌&&◌, not, List, [], ◌∷◌, ◌++◌, length, nat_eq, nat_lt, refl, sym, subst, append_assoc}
-use Rattle.std.proofs.lemmas.Bool.{and_parts, eqb-true}
+use Rattle.std.proofs.Common.{◌≡◌, ℕ, ◌+◌, Bool, true, ◌&&◌, not, List, [], ◌∷◌, ◌++◌, length, nat_eq, nat_lt, sym}
+use Rattle.std.proofs.Common.{subst, append_assoc}
+use Rattle.std.proofs.lemmas.Bool.{and_parts, eqb-true, not-true}
 use Rattle.std.proofs.lemmas.Bool.Decides.{Decides-ltb}
 use Rattle.std.proofs.lemmas.List.{append-nil}
 use Rattle.history_rules.specs.Events.{Event, Entry, Took}
@@ -17,7 +18,8 @@ takes_well w now _ = true
 
 abbrev may_come : Setup → List Entry → Entry → Bool
 may_come w before e =
-    nat_eq e.stamp (length before) && nat_lt e.actor (w.group.n + w.group.clients) && not (is_halted w e.actor (own before e.actor))
+    nat_eq e.stamp (length before) && nat_lt e.actor (w.group.n + w.group.clients)
+    && not (is_halted w e.actor (own before e.actor))
     && w.fits e.actor e.event && takes_well w (length before) e.event
 
 abbrev pub each_may_come : Setup → List Entry → List Entry → Bool
@@ -34,11 +36,8 @@ taken_well w now (Took stamp place frame) e =
     let both = and_parts (stands w frame) (nat_lt stamp now) e in (both.0, (Decides-ltb stamp now).0 both.1)
 taken_well w now _ e = tt
 
-not_true : (b : Bool) → not b ≡ true → b ≡ false
-not_true true e = sym e
-not_true false e = refl
-
-legal_entry : (w : Setup) (before : List Entry) (e : Entry) → may_come w before e ≡ true → e.said ≡ says w before e.actor e.event → IsLegalEntry w before e
+legal_entry : (w : Setup) (before : List Entry) (e : Entry) → may_come w before e ≡ true →
+    e.said ≡ says w before e.actor e.event → IsLegalEntry w before e
 legal_entry w before e may said =
     let stamp = nat_eq e.stamp (length before) in
     let actor = nat_lt e.actor (w.group.n + w.group.clients) in
@@ -52,13 +51,14 @@ legal_entry w before e may said =
     record {
       stamp = eqb-true e.stamp (length before) first.0;
       actor = (Decides-ltb e.actor (w.group.n + w.group.clients)).0 first.1;
-      running = not_true (is_halted w e.actor (own before e.actor)) both.1;
+      running = not-true (is_halted w e.actor (own before e.actor)) both.1;
       role = three.1;
       taken = taken_well w (length before) e.event four.1;
       said = said;
     }
 
-each_legal : (w : Setup) (seen rest : List Entry) → each_may_come w seen rest ≡ true → EachSays w seen rest → EachLegal w seen rest
+each_legal : (w : Setup) (seen rest : List Entry) → each_may_come w seen rest ≡ true → EachSays w seen rest →
+    EachLegal w seen rest
 each_legal w seen [] may said = tt
 each_legal w seen (e ∷ rest) may said =
     let both = and_parts (may_come w seen e) (each_may_come w (seen ++ e ∷ []) rest) may in
@@ -67,7 +67,9 @@ each_legal w seen (e ∷ rest) may said =
 legal_after : (w : Setup) (seen rest : List Entry) → IsLegal w seen → EachLegal w seen rest → IsLegal w (seen ++ rest)
 legal_after w seen [] legal all = subst (IsLegal w) (sym (append-nil seen)) legal
 legal_after w seen (e ∷ rest) legal all =
-    subst (IsLegal w) (append_assoc seen (e ∷ []) rest) (legal_after w (seen ++ e ∷ []) rest (one_more_is_legal w seen e legal all.0) all.1)
+    subst (IsLegal w) (append_assoc seen (e ∷ []) rest)
+    (legal_after w (seen ++ e ∷ []) rest (one_more_is_legal w seen e legal all.0) all.1)
 
-pub legal_history : (w : Setup) (history : List Entry) → each_may_come w [] history ≡ true → EachSays w [] history → IsLegal w history
+pub legal_history : (w : Setup) (history : List Entry) → each_may_come w [] history ≡ true →
+    EachSays w [] history → IsLegal w history
 legal_history w history may said = legal_after w [] history (none_is_legal w) (each_legal w [] history may said)

@@ -1,6 +1,7 @@
--- What an actor says, entry after entry: each master's mind, which is what it knows and was told of so far, is computed once
--- an entry, from what it was before. So long examples can be computed.
-use Rattle.std.proofs.Common.{◌≡◌, ℕ, ◌+◌, Bool, true, false, cond, List, [], ◌∷◌, ◌++◌, map, refl, sym, ◌∙◌, ap, subst, inl, inr, ◌⊎◌, nat_eq, append_assoc}
+-- What an actor says, entry after entry: each master's mind, which is what it knows and was told of so far, is computed
+-- once an entry, from what it was before. So long examples can be computed.
+use Rattle.std.proofs.Common.{◌≡◌, ℕ, ◌+◌, Bool, true, false, cond, List, [], ◌∷◌, ◌++◌, map, refl, sym, ◌∙◌, ap}
+use Rattle.std.proofs.Common.{subst, inl, inr, ◌⊎◌, nat_eq, append_assoc}
 use Rattle.std.proofs.lemmas.Bool.{eq-eqb, ne_eqb, cases_eq}
 use Rattle.std.proofs.lemmas.List.{append-nil}
 use Rattle.std.proofs.lemmas.Grind.{flat_map-append}
@@ -18,14 +19,17 @@ use Rattle.protocol_rules.specs.Facts.{facts_of}
 use Rattle.protocol_rules.specs.Preorder.{requests_due}
 use Rattle.protocol_rules.specs.Order.{stable, marks_for, certificates_below, prepare_due, commit_due, marks_due}
 use Rattle.protocol_rules.specs.Views.{view, is_open, report_due, new_view_due}
-use Rattle.protocol_rules.specs.Measures.{Told, ticks_of, waited, pings_due, pongs_due, round_trips_due, tat_reports_due, tat_bounds_due, suspects_due}
+use Rattle.protocol_rules.specs.Measures.{Told, ticks_of, waited, pings_due, pongs_due, round_trips_due}
+use Rattle.protocol_rules.specs.Measures.{tat_reports_due, tat_bounds_due, suspects_due}
 use Rattle.protocol_rules.specs.Reconcile.{ask_update_due, ask_order_due}
-use Rattle.protocol_rules.specs.Master.{Heard, learned, taken_frames, known_at, taken_at, said_before, told_of, waits, waiting_for, summaries_due, preprepares_due, vouchers_due, answers}
+use Rattle.protocol_rules.specs.Master.{Heard, learned, taken_frames, known_at, taken_at, said_before, told_of, waits}
+use Rattle.protocol_rules.specs.Master.{waiting_for, summaries_due, preprepares_due, vouchers_due, answers}
 use Rattle.history_rules.specs.Events.{Event, Entry, frame_taken, is_tick, is_silent}
 use Rattle.history_rules.specs.Setup.{Setup, room, own, signed_from, leaves_used}
 use Rattle.history_rules.specs.Legal.{heard, intruded_says, says_in, says}
 use Rattle.agreement.proofs.Known.{hears, heard_then, heard_other, heard_silent}
-use Rattle.history_examples.proofs.Short.{short_acks, short_gives, short_gives_ordered, acks_same, gives_same, gives_ordered_same, short_gap, gap_same}
+use Rattle.history_examples.proofs.Short.{short_acks, short_gives, short_gives_ordered, acks_same, gives_same}
+use Rattle.history_examples.proofs.Short.{gives_ordered_same, short_gap, gap_same}
 
 -- what a master took, knows, said and was told of before an event
 pub record Mind : Type 0 where
@@ -36,19 +40,27 @@ pub record Mind : Type 0 where
 
 -- so it is after these events
 abbrev pub mind_after : Group → List Heard → Mind
-mind_after g before = record { taken = flat_map (λ e. taken_frames e.took) before; known = flat_map learned before; said = said_before before; told = told_of g [] before }
+mind_after g before = record {
+  taken = flat_map (λ e. taken_frames e.took) before;
+  known = flat_map learned before;
+  said = said_before before;
+  told = told_of g [] before;
+}
 
 -- an event, where these words are known
 abbrev told_now : Group → List (Signed Body) → Bool → Told
 told_now g known at_tick = record { is_tick = at_tick; view = view g known; waits = waits g known }
 
 told_more : (g : Group) (first before : List Heard) (e : Heard)
-    → told_of g first (before ++ e ∷ []) ≡ told_of g first before ++ told_now g (known_at (first ++ before) e.took) e.is_tick ∷ []
-told_more g first [] e = ap (λ (hs : List Heard). told_now g (known_at hs e.took) e.is_tick ∷ []) (sym (append-nil first))
+    → told_of g first (before ++ e ∷ []) ≡ told_of g first before
+    ++ told_now g (known_at (first ++ before) e.took) e.is_tick ∷ []
+told_more g first [] e = ap (λ (hs : List Heard). told_now g (known_at hs e.took) e.is_tick ∷ [])
+    (sym (append-nil first))
 told_more g first (h ∷ rest) e =
     ap (λ (ts : List Told). told_now g (known_at first h.took) h.is_tick ∷ ts)
     (told_more g (first ++ h ∷ []) rest e
-    ∙ ap (λ (hs : List Heard). told_of g (first ++ h ∷ []) rest ++ told_now g (known_at hs e.took) e.is_tick ∷ []) (append_assoc first (h ∷ []) rest))
+    ∙ ap (λ (hs : List Heard). told_of g (first ++ h ∷ []) rest ++ told_now g (known_at hs e.took) e.is_tick ∷ [])
+    (append_assoc first (h ∷ []) rest))
 
 -- the answers with three rows and the order's gap as given, of a master that took, knows, said and was told of these
 abbrev answers_with : Group → (List Update → ℕ → List Order) → ℕ → List (Signed Body) → List (Signed Body) → List Body
@@ -81,19 +93,24 @@ unfoldable pub short_answers : Group → (List Update → ℕ → List Order) �
     → List Body
 short_answers g orders me mind took at_tick =
     let known = mind.known ++ flat_map parts (taken_frames took) in
-    answers_with g orders me (mind.taken ++ taken_frames took) known mind.said (mind.told ++ told_now g known at_tick ∷ []) at_tick
-    (short_acks g known mind.said) (short_gives g me known mind.said) (short_gives_ordered g me known (facts_of g known) mind.said) (short_gap g (facts_of g known))
+    answers_with g orders me (mind.taken ++ taken_frames took) known mind.said
+    (mind.told ++ told_now g known at_tick ∷ []) at_tick
+    (short_acks g known mind.said) (short_gives g me known mind.said)
+    (short_gives_ordered g me known (facts_of g known) mind.said) (short_gap g (facts_of g known))
 
 -- The answers are what the shorter way gives.
-answers_short : (g : Group) (orders : List Update → ℕ → List Order) (me : ℕ) (before : List Heard) (took : Option (Signed Body)) (at_tick : Bool)
+answers_short : (g : Group) (orders : List Update → ℕ → List Order) (me : ℕ) (before : List Heard)
+    (took : Option (Signed Body)) (at_tick : Bool)
     → answers g orders me before took at_tick ≡ short_answers g orders me (mind_after g before) took at_tick
 unfolding answers short_answers known_at
 answers_short g orders me before took at_tick =
     let known = known_at before took in
     let facts = facts_of g known in
     let said = said_before before in
-    λ i. answers_with g orders me (taken_at before took) known said (told_more g [] before record { took = took; is_tick = at_tick; said = [] } i) at_tick
-    (acks_same g known said i) (gives_same g me known said i) (gives_ordered_same g me known facts said i) (gap_same g facts i)
+    λ i. answers_with g orders me (taken_at before took) known said
+    (told_more g [] before record { took = took; is_tick = at_tick; said = [] } i) at_tick
+    (acks_same g known said i) (gives_same g me known said i) (gives_ordered_same g me known facts said i)
+    (gap_same g facts i)
 
 -- the mind after an event at which these words are known and these frames are said
 abbrev grown : Group → Mind → Option (Signed Body) → Bool → List (Signed Body) → List (Signed Body) → Mind
@@ -108,19 +125,27 @@ grown g mind took at_tick known frames = record {
 abbrev mind_then : Setup → ℕ → Mind → Entry → Mind
 mind_then w used mind e =
     if is_silent e.event then mind
-    else grown w.group mind (frame_taken e.event) (is_tick e.event) (mind.known ++ flat_map parts (taken_frames (frame_taken e.event))) (signed_from w e.actor used e.said 0 e.said)
+    else grown w.group mind (frame_taken e.event) (is_tick e.event)
+    (mind.known ++ flat_map parts (taken_frames (frame_taken e.event))) (signed_from w e.actor used e.said 0 e.said)
 
 mind_heard : (g : Group) (before : List Heard) (h : Heard)
-    → mind_after g (before ++ h ∷ []) ≡ grown g (mind_after g before) h.took h.is_tick (flat_map learned before ++ flat_map parts (taken_frames h.took)) h.said
+    → mind_after g (before ++ h ∷ []) ≡ grown g (mind_after g before) h.took h.is_tick
+    (flat_map learned before ++ flat_map parts (taken_frames h.took)) h.said
 unfolding known_at
 mind_heard g before h =
-    let taken : flat_map (λ (e : Heard). taken_frames e.took) (before ++ h ∷ []) ≡ flat_map (λ (e : Heard). taken_frames e.took) before ++ taken_frames h.took =
-    flat_map-append (λ (e : Heard). taken_frames e.took) before (h ∷ []) ∙ ap (λ (fs : List (Signed Body)). flat_map (λ (e : Heard). taken_frames e.took) before ++ fs) (append-nil (taken_frames h.took)) in
-    let known : flat_map learned (before ++ h ∷ []) ≡ (flat_map learned before ++ flat_map parts (taken_frames h.took)) ++ flat_map parts h.said =
-    flat_map-append learned before (h ∷ []) ∙ ap (λ (fs : List (Signed Body)). flat_map learned before ++ fs) (append-nil (learned h))
+    let taken : flat_map (λ (e : Heard). taken_frames e.took) (before ++ h ∷ []) ≡ flat_map
+    (λ (e : Heard). taken_frames e.took) before ++ taken_frames h.took =
+    flat_map-append (λ (e : Heard). taken_frames e.took) before (h ∷ [])
+    ∙ ap (λ (fs : List (Signed Body)). flat_map (λ (e : Heard). taken_frames e.took) before ++ fs)
+    (append-nil (taken_frames h.took)) in
+    let known : flat_map learned (before ++ h ∷ []) ≡ (flat_map learned before
+    ++ flat_map parts (taken_frames h.took)) ++ flat_map parts h.said =
+    flat_map-append learned before (h ∷ []) ∙ ap (λ (fs : List (Signed Body)). flat_map learned before ++ fs)
+    (append-nil (learned h))
     ∙ sym (append_assoc (flat_map learned before) (flat_map parts (taken_frames h.took)) (flat_map parts h.said)) in
     let said : said_before (before ++ h ∷ []) ≡ said_before before ++ map (λ (f : Signed Body). f.body) h.said =
-    flat_map-append (λ (e : Heard). map (λ (f : Signed Body). f.body) e.said) before (h ∷ []) ∙ ap (λ (bs : List Body). said_before before ++ bs) (append-nil (map (λ (f : Signed Body). f.body) h.said)) in
+    flat_map-append (λ (e : Heard). map (λ (f : Signed Body). f.body) e.said) before (h ∷ [])
+    ∙ ap (λ (bs : List Body). said_before before ++ bs) (append-nil (map (λ (f : Signed Body). f.body) h.said)) in
     λ i. record { taken = taken i; known = known i; said = said i; told = told_more g [] before h i }
 
 -- the minds of all actors
@@ -148,15 +173,19 @@ are_minds w seen minds e are a = by_actor (cases_eq e.actor a)
     before = heard w seen e.actor
 
     after : Mind
-    after = grown w.group (mind_after w.group before) (frame_taken e.event) (is_tick e.event) (flat_map learned before ++ flat_map parts (taken_frames (frame_taken e.event))) (signed_from w e.actor used e.said 0 e.said)
+    after = grown w.group (mind_after w.group before) (frame_taken e.event) (is_tick e.event)
+        (flat_map learned before ++ flat_map parts (taken_frames (frame_taken e.event)))
+        (signed_from w e.actor used e.said 0 e.said)
 
     by_event : (b : Bool) → is_silent e.event ≡ b
         → mind_then w used (minds_after w seen e.actor) e ≡ minds_after w (seen ++ e ∷ []) e.actor
     by_event true silent =
-        ap (λ b. cond b (mind_after w.group before) after) silent ∙ ap (mind_after w.group) (sym (heard_silent w seen e e.actor refl silent))
+        ap (λ b. cond b (mind_after w.group before) after) silent
+        ∙ ap (mind_after w.group) (sym (heard_silent w seen e e.actor refl silent))
     by_event false loud =
         ap (λ b. cond b (mind_after w.group before) after) loud
-        ∙ sym (ap (mind_after w.group) (heard_then w seen e e.actor refl loud) ∙ mind_heard w.group before (hears w e.actor used e))
+        ∙ sym (ap (mind_after w.group) (heard_then w seen e e.actor refl loud)
+        ∙ mind_heard w.group before (hears w e.actor used e))
 
     by_actor : (e.actor ≡ a) ⊎ (e.actor ≡ a → ⊥) → minds_then w seen minds e a ≡ minds_after w (seen ++ e ∷ []) a
     by_actor (inl by) =
@@ -173,7 +202,8 @@ unfoldable pub short_says : Setup → Mind → List Entry → ℕ → Event → 
 short_says w mind own actor event =
     take (room w own) (
     if nat_lt actor w.group.n
-    then (if w.intruded actor then intruded_says else (if is_silent event then [] else short_answers w.group w.orders actor mind (frame_taken event) (is_tick event)))
+    then (if w.intruded actor then intruded_says else
+    (if is_silent event then [] else short_answers w.group w.orders actor mind (frame_taken event) (is_tick event)))
     else w.client_says actor own event)
 
 says_short : (w : Setup) (before : List Entry) (actor : ℕ) (event : Event)
@@ -182,13 +212,16 @@ unfolding says_in short_says
 says_short w before actor event = λ i.
     take (room w (own before actor)) (
     if nat_lt actor w.group.n
-    then (if w.intruded actor then intruded_says else (if is_silent event then [] else answers_short w.group w.orders actor (heard w before actor) (frame_taken event) (is_tick event) i))
+    then (if w.intruded actor then intruded_says else
+    (if is_silent event then [] else answers_short w.group w.orders actor (heard w before actor)
+    (frame_taken event) (is_tick event) i))
     else w.client_says actor (own before actor) event)
 
 -- each of the entries says, after those seen and those before it, what the shorter way gives
 abbrev SaysFrom : Setup → (ℕ → Mind) → List Entry → List Entry → Type 0
 SaysFrom w minds seen [] = Unit {0}
-SaysFrom w minds seen (e ∷ rest) = (e.said ≡ short_says w (minds e.actor) (own seen e.actor) e.actor e.event) × SaysFrom w (minds_then w seen minds e) (seen ++ e ∷ []) rest
+SaysFrom w minds seen (e ∷ rest) = (e.said ≡ short_says w (minds e.actor) (own seen e.actor) e.actor e.event)
+    × SaysFrom w (minds_then w seen minds e) (seen ++ e ∷ []) rest
 
 abbrev pub EachSaysShort : Setup → List Entry → List Entry → Type 0
 EachSaysShort w seen rest = SaysFrom w (minds_after w seen) seen rest
@@ -202,7 +235,8 @@ by_minds : (w : Setup) (minds : ℕ → Mind) (seen rest : List Entry) → AreMi
     → EachSays w seen rest
 by_minds w minds seen [] are short = tt
 by_minds w minds seen (e ∷ rest) are short = (
-  short.0 ∙ ap (λ (m : Mind). short_says w m (own seen e.actor) e.actor e.event) (are e.actor) ∙ sym (says_short w seen e.actor e.event),
+  short.0 ∙ ap (λ (m : Mind). short_says w m (own seen e.actor) e.actor e.event) (are e.actor)
+      ∙ sym (says_short w seen e.actor e.event),
   by_minds w (minds_then w seen minds e) (seen ++ e ∷ []) rest (are_minds w seen minds e are) short.1,
 )
 
@@ -212,5 +246,8 @@ in_short w seen rest short = by_minds w (minds_after w seen) seen rest (λ a. re
 pub then_says : (w : Setup) (seen xs ys : List Entry) → EachSays w seen xs → EachSays w (seen ++ xs) ys
     → EachSays w seen (xs ++ ys)
 then_says w seen [] ys first second = subst (λ (bs : List Entry). EachSays w bs ys) (append-nil seen) second
-then_says w seen (x ∷ xs) ys first second =
-    (first.0, then_says w (seen ++ x ∷ []) xs ys first.1 (subst (λ (bs : List Entry). EachSays w bs ys) (sym (append_assoc seen (x ∷ []) xs)) second))
+then_says w seen (x ∷ xs) ys first second = (
+  first.0,
+  then_says w (seen ++ x ∷ []) xs ys first.1
+      (subst (λ (bs : List Entry). EachSays w bs ys) (sym (append_assoc seen (x ∷ []) xs)) second),
+)

@@ -1,4 +1,5 @@
--- The run under an intruded leader, computed: its entries are legal, its counts are in order, and master 3 has executed.
+-- The run under an intruded leader, computed: its entries are legal, its counts are in order, and master 3 has
+-- executed.
 use Rattle.std.proofs.Common.{◌≡◌, ◌≤◌, true, [], ◌∷◌, ◌++◌, refl, arith}
 use Rattle.sha2.specs.Sha256.{sha256, digest_bytes, hash_after, compress, rounds, schedule, first_words}
 use Rattle.wire_parts.specs.Fields.{u16_bytes, u32_bytes, u64_bytes}
@@ -13,7 +14,8 @@ use Rattle.protocol_rules.specs.Plans.{chosen, plan_of}
 use Rattle.protocol_rules.specs.Preorder.{certified, vector}
 use Rattle.protocol_rules.specs.Matrix.{latest, rows_of_frames, eligible}
 use Rattle.protocol_rules.specs.Order.{is_voted, prepared, offered, ordered, ordered_run, stable, last_certificate}
-use Rattle.protocol_rules.specs.Execution.{eligible_requests, certified_run, first_missing, kept_after, executed_of, waiting_of}
+use Rattle.protocol_rules.specs.Execution.{eligible_requests, certified_run, first_missing, kept_after, executed_of}
+use Rattle.protocol_rules.specs.Execution.{waiting_of}
 use Rattle.protocol_rules.specs.Views.{view, is_open}
 use Rattle.protocol_rules.specs.Measures.{turnaround, acceptable, own_bound}
 use Rattle.protocol_rules.specs.Master.{known_at, executed, waits}
@@ -29,39 +31,74 @@ use Rattle.audit_counts.proofs.Sound.{sound_by_counts}
 use Rattle.history_examples.specs.Examples.{ExecutedUnderIntrudedLeader}
 
 all_fit : each_may_come it.setup [] it.history ≡ true
-unfolding own stands has_spelling digest_of_update digest_of_rows most_number most_view mark_step window sha256 digest_bytes hash_after compress rounds schedule first_words u16_bytes u32_bytes u64_bytes
+unfolding own stands has_spelling digest_of_update digest_of_rows most_number most_view mark_step window sha256
+    digest_bytes hash_after compress rounds schedule first_words u16_bytes u32_bytes u64_bytes
 all_fit = refl
 
 introduced_says : EachSays it.setup [] it.introduced
-unfolding short_says short_answers own heard_in known_at numbers_below has_quorum first_met run_from numbers_from best_by last_below in_order each_once most_number window most_view mark_step facts_of rows_known chosen plan_of certified vector latest rows_of_frames eligible is_voted prepared offered ordered ordered_run stable last_certificate eligible_requests certified_run first_missing kept_after executed_of waiting_of view is_open turnaround acceptable own_bound executed waits digest_of_update digest_of_rows sha256 digest_bytes hash_after compress rounds schedule first_words u16_bytes u32_bytes u64_bytes
+unfolding short_says short_answers own heard_in known_at numbers_below has_quorum first_met run_from numbers_from
+    best_by last_below in_order each_once most_number window most_view mark_step facts_of rows_known chosen plan_of
+    certified vector latest rows_of_frames eligible is_voted prepared offered ordered ordered_run stable
+    last_certificate eligible_requests certified_run first_missing kept_after executed_of waiting_of view is_open
+    turnaround acceptable own_bound executed waits digest_of_update digest_of_rows sha256 digest_bytes hash_after
+    compress rounds schedule first_words u16_bytes u32_bytes u64_bytes
 introduced_says = in_short it.setup [] it.introduced (refl, (refl, (refl, (refl, (refl, (refl, (refl, tt)))))))
 
 summarized_says : EachSays it.setup it.introduced it.summarized
-unfolding short_says short_answers own heard_in known_at numbers_below has_quorum first_met run_from numbers_from best_by last_below in_order each_once most_number window most_view mark_step facts_of rows_known chosen plan_of certified vector latest rows_of_frames eligible is_voted prepared offered ordered ordered_run stable last_certificate eligible_requests certified_run first_missing kept_after executed_of waiting_of view is_open turnaround acceptable own_bound executed waits digest_of_update digest_of_rows sha256 digest_bytes hash_after compress rounds schedule first_words u16_bytes u32_bytes u64_bytes
+unfolding short_says short_answers own heard_in known_at numbers_below has_quorum first_met run_from numbers_from
+    best_by last_below in_order each_once most_number window most_view mark_step facts_of rows_known chosen plan_of
+    certified vector latest rows_of_frames eligible is_voted prepared offered ordered ordered_run stable
+    last_certificate eligible_requests certified_run first_missing kept_after executed_of waiting_of view is_open
+    turnaround acceptable own_bound executed waits digest_of_update digest_of_rows sha256 digest_bytes hash_after
+    compress rounds schedule first_words u16_bytes u32_bytes u64_bytes
 summarized_says = in_short it.setup it.introduced it.summarized (refl, (refl, tt))
 
 proposed_says : EachSays it.setup (it.introduced ++ it.summarized) it.proposed
-unfolding short_says short_answers own heard_in known_at numbers_below has_quorum first_met run_from numbers_from best_by last_below in_order each_once most_number window most_view mark_step facts_of rows_known chosen plan_of certified vector latest rows_of_frames eligible is_voted prepared offered ordered ordered_run stable last_certificate eligible_requests certified_run first_missing kept_after executed_of waiting_of view is_open turnaround acceptable own_bound executed waits digest_of_update digest_of_rows sha256 digest_bytes hash_after compress rounds schedule first_words u16_bytes u32_bytes u64_bytes
+unfolding short_says short_answers own heard_in known_at numbers_below has_quorum first_met run_from numbers_from
+    best_by last_below in_order each_once most_number window most_view mark_step facts_of rows_known chosen plan_of
+    certified vector latest rows_of_frames eligible is_voted prepared offered ordered ordered_run stable
+    last_certificate eligible_requests certified_run first_missing kept_after executed_of waiting_of view is_open
+    turnaround acceptable own_bound executed waits digest_of_update digest_of_rows sha256 digest_bytes hash_after
+    compress rounds schedule first_words u16_bytes u32_bytes u64_bytes
 proposed_says = in_short it.setup (it.introduced ++ it.summarized) it.proposed (refl, (refl, (refl, tt)))
 
 prepared_says : EachSays it.setup (it.introduced ++ it.summarized ++ it.proposed) it.prepared
-unfolding short_says short_answers own heard_in known_at numbers_below has_quorum first_met run_from numbers_from best_by last_below in_order each_once most_number window most_view mark_step facts_of rows_known chosen plan_of certified vector latest rows_of_frames eligible is_voted prepared offered ordered ordered_run stable last_certificate eligible_requests certified_run first_missing kept_after executed_of waiting_of view is_open turnaround acceptable own_bound executed waits digest_of_update digest_of_rows sha256 digest_bytes hash_after compress rounds schedule first_words u16_bytes u32_bytes u64_bytes
+unfolding short_says short_answers own heard_in known_at numbers_below has_quorum first_met run_from numbers_from
+    best_by last_below in_order each_once most_number window most_view mark_step facts_of rows_known chosen plan_of
+    certified vector latest rows_of_frames eligible is_voted prepared offered ordered ordered_run stable
+    last_certificate eligible_requests certified_run first_missing kept_after executed_of waiting_of view is_open
+    turnaround acceptable own_bound executed waits digest_of_update digest_of_rows sha256 digest_bytes hash_after
+    compress rounds schedule first_words u16_bytes u32_bytes u64_bytes
 prepared_says = in_short it.setup (it.introduced ++ it.summarized ++ it.proposed) it.prepared (refl, (refl, (refl, tt)))
 
 committed_says : EachSays it.setup (it.introduced ++ it.summarized ++ it.proposed ++ it.prepared) it.committed
-unfolding short_says short_answers own heard_in known_at numbers_below has_quorum first_met run_from numbers_from best_by last_below in_order each_once most_number window most_view mark_step facts_of rows_known chosen plan_of certified vector latest rows_of_frames eligible is_voted prepared offered ordered ordered_run stable last_certificate eligible_requests certified_run first_missing kept_after executed_of waiting_of view is_open turnaround acceptable own_bound executed waits digest_of_update digest_of_rows sha256 digest_bytes hash_after compress rounds schedule first_words u16_bytes u32_bytes u64_bytes
-committed_says = in_short it.setup (it.introduced ++ it.summarized ++ it.proposed ++ it.prepared) it.committed (refl, (refl, (refl, tt)))
+unfolding short_says short_answers own heard_in known_at numbers_below has_quorum first_met run_from numbers_from
+    best_by last_below in_order each_once most_number window most_view mark_step facts_of rows_known chosen plan_of
+    certified vector latest rows_of_frames eligible is_voted prepared offered ordered ordered_run stable
+    last_certificate eligible_requests certified_run first_missing kept_after executed_of waiting_of view is_open
+    turnaround acceptable own_bound executed waits digest_of_update digest_of_rows sha256 digest_bytes hash_after
+    compress rounds schedule first_words u16_bytes u32_bytes u64_bytes
+committed_says = in_short it.setup (it.introduced ++ it.summarized ++ it.proposed ++ it.prepared) it.committed
+    (refl, (refl, (refl, tt)))
 
 all_says : EachSays it.setup [] it.history
 all_says =
-    then_says it.setup [] (it.introduced ++ it.summarized ++ it.proposed ++ it.prepared) it.committed (then_says it.setup [] (it.introduced ++ it.summarized ++ it.proposed) it.prepared (then_says it.setup [] (it.introduced ++ it.summarized) it.proposed (then_says it.setup [] it.introduced it.summarized introduced_says summarized_says) proposed_says) prepared_says) committed_says
+    then_says it.setup [] (it.introduced ++ it.summarized ++ it.proposed ++ it.prepared) it.committed
+    (then_says it.setup [] (it.introduced ++ it.summarized ++ it.proposed) it.prepared
+    (then_says it.setup [] (it.introduced ++ it.summarized) it.proposed
+    (then_says it.setup [] it.introduced it.summarized introduced_says summarized_says) proposed_says)
+    prepared_says) committed_says
 
 is_legal : IsLegal it.setup it.history
 is_legal = legal_history it.setup it.history all_fit all_says
 
 sizes : HasSizes it.group
 sizes = record {
-  group = record { some_may_be_intruded = omega arith; at_most_three_intruded = omega arith; at_most_two_away = omega arith };
+  group = record {
+    some_may_be_intruded = omega arith;
+    at_most_three_intruded = omega arith;
+    at_most_two_away = omega arith;
+  };
   all = refl;
   quorum = refl;
 }
@@ -70,7 +107,8 @@ none_forged : forged it.setup it.history ≡ 0
 none_forged = refl
 
 none_alike : alike it.group it.history ≡ 0
-unfolding numbers_below rows_of_frames plan_of sha256 digest_bytes hash_after compress rounds schedule first_words u16_bytes u32_bytes u64_bytes
+unfolding numbers_below rows_of_frames plan_of sha256 digest_bytes hash_after compress rounds schedule first_words
+    u16_bytes u32_bytes u64_bytes
 none_alike = refl
 
 one_intruded : intruded_masters it.setup ≡ 1
@@ -81,7 +119,12 @@ few : intruded_masters it.setup ≤ 1
 few = let one : intruded_masters it.setup ≡ 1 = one_intruded in omega (arith, one)
 
 executed_it : executions it.setup it.history 3 ≡ update ∷ []
-unfolding known_of own heard_in known_at numbers_below has_quorum first_met run_from numbers_from best_by last_below in_order each_once most_number window most_view mark_step facts_of rows_known chosen plan_of certified vector latest rows_of_frames eligible is_voted prepared offered ordered ordered_run stable last_certificate eligible_requests certified_run first_missing kept_after executed_of waiting_of view is_open turnaround acceptable own_bound executed waits digest_of_update digest_of_rows sha256 digest_bytes hash_after compress rounds schedule first_words u16_bytes u32_bytes u64_bytes
+unfolding known_of own heard_in known_at numbers_below has_quorum first_met run_from numbers_from best_by last_below
+    in_order each_once most_number window most_view mark_step facts_of rows_known chosen plan_of certified vector
+    latest rows_of_frames eligible is_voted prepared offered ordered ordered_run stable last_certificate
+    eligible_requests certified_run first_missing kept_after executed_of waiting_of view is_open turnaround acceptable
+    own_bound executed waits digest_of_update digest_of_rows sha256 digest_bytes hash_after compress rounds schedule
+    first_words u16_bytes u32_bytes u64_bytes
 executed_it = refl
 
 pub executed_under_intruded_leader : ExecutedUnderIntrudedLeader

@@ -1,7 +1,7 @@
--- A change of view: four masters, of which master 0 is intruded and leads view 0, and one screen. Master 0 introduces an
--- update and proposes it, masters 1 and 2 prepare it, and then the leader is silent. Masters 1 and 2 wait for it for 24 ticks
--- each, tell so, suspect it, and report into view 1, which master 1 leads and opens. What was prepared in view 0 is ordered in
--- view 1, and master 1 executes it. Master 3 hears nothing. A quorum is three.
+-- A change of view: four masters, of which master 0 is intruded and leads view 0, and one screen. Master 0 introduces
+-- an update and proposes it, masters 1 and 2 prepare it, and then the leader is silent. Masters 1 and 2 wait for it for
+-- 24 ticks each, tell so, suspect it, and report into view 1, which master 1 leads and opens. What was prepared in view
+-- 0 is ordered in view 1, and master 1 executes it. Master 3 hears nothing. A quorum is three.
 use Rattle.std.specs.Prelude.{ℕ, ◌+◌, List, [], ◌∷◌, ◌++◌, nat_eq}
 use Rattle.message_types.specs.declared.ordering.Prepare.{Prepare}
 use Rattle.message_types.specs.declared.ordering.Commit.{Commit}
@@ -12,7 +12,8 @@ use Rattle.protocol_rules.specs.Group.{Group}
 use Rattle.history_rules.specs.Events.{Entry}
 use Rattle.history_rules.specs.Setup.{Setup}
 use Rattle.history_examples.specs.Signing.{sealed, setup_of, commands, cries, takes, ticks, quiet_ticks}
-use Rattle.history_examples.specs.Words.{update, request, ack, certificate, summary, rows, rows_digest, by_three, proposal, prepare, prepared_report, report}
+use Rattle.history_examples.specs.Words.{update, request, ack, certificate, summary, rows, rows_digest, by_three}
+use Rattle.history_examples.specs.Words.{proposal, prepare, prepared_report, report}
 
 abbrev pub group : Group
 group = record { n = 4; f = 1; k = 0; q = 3; clients = 1 }
@@ -20,8 +21,8 @@ group = record { n = 4; f = 1; k = 0; q = 3; clients = 1 }
 abbrev pub setup : Setup
 setup = setup_of group (λ m. nat_eq m 0)
 
--- how long a master waited in view 0; its vote against that view's leader; what masters 1 and 2 bring into view 1, namely
--- nothing; and the word that opens it, with the three masters' reports
+-- how long a master waited in view 0; its vote against that view's leader; what masters 1 and 2 bring into view 1,
+-- namely nothing; and the word that opens it, with the three masters' reports
 abbrev pub waited : ℕ → Body
 waited count = body.TatReport record { v = 0; ticks = count }
 
@@ -32,7 +33,11 @@ abbrev pub empty_report : Report
 empty_report = record { v = 1; base = 0; marks = []; certificates = [] }
 
 abbrev pub new_view : Body
-new_view = body.NewView record { v = 1; reports = sealed body.Report 0 prepared_report ∷ sealed body.Report 1 empty_report ∷ sealed body.Report 2 empty_report ∷ [] }
+new_view = body.NewView record {
+  v = 1;
+  reports = sealed body.Report 0 prepared_report
+      ∷ sealed body.Report 1 empty_report ∷ sealed body.Report 2 empty_report ∷ [];
+}
 
 -- number 1 once more, in view 1
 abbrev pub prepare_again : Prepare
@@ -66,7 +71,8 @@ proposed =
     ∷ takes 11 2 9 0 proposal (body.Prepare prepare ∷ [])
     ∷ []
 
--- A master waits for 24 ticks: at each eighth it tells how long so far, and its sixteenth tick in all is one with a ping.
+-- A master waits for 24 ticks: at each eighth it tells how long so far, and its sixteenth tick in all is one with a
+-- ping.
 abbrev pub waits_of : ℕ → ℕ → List Entry
 waits_of first master =
     quiet_ticks first master 7 ++ ticks (first + 7) master (waited 8 ∷ [])
@@ -95,8 +101,8 @@ suspected =
     ∷ cries 67 0 suspect
     ∷ []
 
--- A quorum suspects the leader: masters 1 and 2 report into view 1. Master 1 leads it, and opens it with three reports, of
--- which master 0's brings what was prepared.
+-- A quorum suspects the leader: masters 1 and 2 report into view 1. Master 1 leads it, and opens it with three reports,
+-- of which master 0's brings what was prepared.
 abbrev pub reported : List Entry
 reported =
     takes 68 1 67 0 suspect []

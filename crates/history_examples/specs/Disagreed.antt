@@ -1,4 +1,5 @@
--- A history in which correct masters disagree: of four masters two are intruded, 0 and 1, where a group of four bears one.
+-- A history in which correct masters disagree: of four masters two are intruded, 0 and 1, where a group of four bears
+-- one.
 -- Master 0 introduces two updates of two screens as one and the same request, one to each correct master. Each of these
 -- acknowledges its own, so each gets a certificate of its own from the intruded ones. Then one order, and each executes
 -- another update.
@@ -8,7 +9,8 @@ use Rattle.protocol_rules.specs.Group.{Group}
 use Rattle.history_rules.specs.Events.{Entry}
 use Rattle.history_rules.specs.Setup.{Setup}
 use Rattle.history_examples.specs.Signing.{setup_of, commands, cries, takes, ticks}
-use Rattle.history_examples.specs.Words.{update, request, ack, certificate, other_update, other_request, other_ack, other_certificate, summary, proposal, prepare, report, commit, order}
+use Rattle.history_examples.specs.Words.{update, request, ack, certificate, other_update, other_request, other_ack}
+use Rattle.history_examples.specs.Words.{other_certificate, summary, proposal, prepare, report, commit, order}
 
 abbrev pub group : Group
 group = record { n = 4; f = 1; k = 0; q = 3; clients = 2 }

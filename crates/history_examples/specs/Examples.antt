@@ -18,8 +18,8 @@ use Rattle.history_examples.specs.Changed as changed
 use Rattle.history_examples.specs.Shared as shared
 use Rattle.history_examples.specs.Halted as halting
 
--- There is a sound history in which a correct master has executed an update, and no master is intruded: the laws' premises
--- can be met together, by a plain run.
+-- There is a sound history in which a correct master has executed an update, and no master is intruded: the laws'
+-- premises can be met together, by a plain run.
 pub record SomethingIsExecuted : Type 0 where
   pub sound : IsSound plain.setup plain.history
   pub intruded : intruded_masters plain.setup ≡ 0
@@ -61,8 +61,8 @@ pub record ForgedWordsDisagree : Type 0 where
   pub alike : NoSharedDigest forging.group forging.history
   pub disagree : Disagree forging.setup forging.history 2 3 (update ∷ []) (other_update ∷ [])
 
--- There is a sound history with a change of view: correct masters suspect an intruded leader, a correct one opens the next
--- view, and executes there what was prepared in the view before.
+-- There is a sound history with a change of view: correct masters suspect an intruded leader, a correct one opens the
+-- next view, and executes there what was prepared in the view before.
 pub record ExecutedAfterChangeOfView : Type 0 where
   pub sound : IsSound changed.setup changed.history
   pub intruded : changed.setup.intruded (leader_of changed.group 0) ≡ true
@@ -72,8 +72,8 @@ pub record ExecutedAfterChangeOfView : Type 0 where
   pub view : view_by changed.setup changed.history 1 ≡ 1
   pub executed : executions changed.setup changed.history 1 ≡ update ∷ []
 
--- There is one of a group with a master away, whose bodies of one entry share leaves: of 40 orders that a master executes, it
--- vouches for the 32 that its last leaf can sign.
+-- There is one of a group with a master away, whose bodies of one entry share leaves: of 40 orders that a master
+-- executes, it vouches for the 32 that its last leaf can sign.
 pub record ExecutedWithSharedLeaves : Type 0 where
   pub sound : IsSound shared.setup shared.history
   pub away : shared.group.k ≡ 1
@@ -82,7 +82,8 @@ pub record ExecutedWithSharedLeaves : Type 0 where
   pub orders : length (shared.setup.orders (executions shared.setup shared.history 1) 0) ≡ 40
   pub used : leaves_used shared.setup (own shared.history 1) ≡ shared.setup.leaves
 
--- There is one in which an actor is halted, by the failure of a call at its restart: it has no entry more, and others execute.
+-- There is one in which an actor is halted, by the failure of a call at its restart: it has no entry more, and others
+-- execute.
 pub record ExecutedWithoutHalted : Type 0 where
   pub sound : IsSound halting.setup halting.history
   pub correct : is_correct_master halting.setup 3 ≡ true

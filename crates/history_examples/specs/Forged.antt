@@ -1,5 +1,5 @@
--- A history in which words are forged: no master is intruded, and yet correct masters disagree. Masters 2 and 3 take frames
--- in the names of masters that said nothing: a certificate each, of one request with two updates, and one order.
+-- A history in which words are forged: no master is intruded, and yet correct masters disagree. Masters 2 and 3 take
+-- frames in the names of masters that said nothing: a certificate each, of one request with two updates, and one order.
 use Rattle.std.specs.Prelude.{List, [], ◌∷◌, false}
 use Rattle.message_types.specs.declared.body.Body.TheVariants as body
 use Rattle.protocol_rules.specs.Group.{Group}

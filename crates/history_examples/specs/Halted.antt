@@ -1,23 +1,25 @@
--- A history in which an actor is halted: four masters, of which master 0 is intruded, and one screen. The third call of master
--- 3's keeper fails. Master 3 takes a certificate, and that entry is kept by the first call. Then it restarts: the second call
--- reads what was kept, the third is to keep the restart. So master 3 is halted, and masters 1 and 2 go on without it. (Of the
--- other actors call 0 is to fail, and there is no such call.)
+-- A history in which an actor is halted: four masters, of which master 0 is intruded, and one screen. The third call of
+-- master 3's keeper fails. Master 3 takes a certificate, and that entry is kept by the first call. Then it restarts:
+-- the second call reads what was kept, the third is to keep the restart. So master 3 is halted, and masters 1 and 2 go
+-- on without it. (Of the other actors call 0 is to fail, and there is no such call.)
 use Rattle.std.specs.Prelude.{List, [], ◌∷◌, ◌++◌, nat_eq, if◌then◌else◌}
 use Rattle.message_types.specs.declared.body.Body.TheVariants as body
 use Rattle.protocol_rules.specs.Group.{Group}
 use Rattle.history_rules.specs.Events.{Entry}
 use Rattle.history_rules.specs.Setup.{Setup}
 use Rattle.history_examples.specs.Signing.{setup_of, commands, cries, takes, ticks, restarts}
-use Rattle.history_examples.specs.Words.{update, request, ack, certificate, summary, proposal, prepare, report, commit, order}
+use Rattle.history_examples.specs.Words.{update, request, ack, certificate, summary, proposal, prepare, report}
+use Rattle.history_examples.specs.Words.{commit, order}
 
 abbrev pub group : Group
 group = record { n = 4; f = 1; k = 0; q = 3; clients = 1 }
 
 abbrev pub setup : Setup
-setup = let plain : Setup = setup_of group (λ m. nat_eq m 0) in record plain { failing = λ actor. if nat_eq actor 3 then 3 ∷ [] else 0 ∷ [] }
+setup = let plain : Setup = setup_of group (λ m. nat_eq m 0) in
+    record plain { failing = λ actor. if nat_eq actor 3 then 3 ∷ [] else 0 ∷ [] }
 
--- The screen's command; master 0's request, which masters 1 and 2 acknowledge; its certificate, which master 3 takes too, and
--- acknowledges.
+-- The screen's command; master 0's request, which masters 1 and 2 acknowledge; its certificate, which master 3 takes
+-- too, and acknowledges.
 abbrev pub introduced : List Entry
 introduced =
     commands 0 4 update

@@ -1,6 +1,6 @@
--- A plain run: four masters, of which none is intruded, and one screen. The screen's update comes to master 0, which is its
--- door and leads view 0. Masters 0, 1 and 2 acknowledge, summarize, prepare and commit, each frame by frame, and master 0
--- executes. Master 3 hears nothing. A quorum is three.
+-- A plain run: four masters, of which none is intruded, and one screen. The screen's update comes to master 0, which is
+-- its door and leads view 0. Masters 0, 1 and 2 acknowledge, summarize, prepare and commit, each frame by frame, and
+-- master 0 executes. Master 3 hears nothing. A quorum is three.
 use Rattle.std.specs.Prelude.{List, [], ◌∷◌, ◌++◌, false}
 use Rattle.message_types.specs.declared.body.Body.TheVariants as body
 use Rattle.protocol_rules.specs.Group.{Group}

@@ -1,13 +1,14 @@
--- A history in which an update is executed under an intruded leader: four masters, of which master 0 is intruded, and one
--- screen. Master 0 introduces and proposes all, masters 1 and 2 acknowledge, summarize, prepare and commit, and master 3,
--- which heard nothing so far, takes the certificate and the order and executes.
+-- A history in which an update is executed under an intruded leader: four masters, of which master 0 is intruded, and
+-- one screen. Master 0 introduces and proposes all, masters 1 and 2 acknowledge, summarize, prepare and commit, and
+-- master 3, which heard nothing so far, takes the certificate and the order and executes.
 use Rattle.std.specs.Prelude.{List, [], ◌∷◌, ◌++◌, nat_eq}
 use Rattle.message_types.specs.declared.body.Body.TheVariants as body
 use Rattle.protocol_rules.specs.Group.{Group}
 use Rattle.history_rules.specs.Events.{Entry}
 use Rattle.history_rules.specs.Setup.{Setup}
 use Rattle.history_examples.specs.Signing.{setup_of, commands, cries, takes, ticks}
-use Rattle.history_examples.specs.Words.{update, request, ack, certificate, summary, proposal, prepare, report, commit, order}
+use Rattle.history_examples.specs.Words.{update, request, ack, certificate, summary, proposal, prepare, report}
+use Rattle.history_examples.specs.Words.{commit, order}
 
 abbrev pub group : Group
 group = record { n = 4; f = 1; k = 0; q = 3; clients = 1 }

@@ -1,7 +1,7 @@
--- A group that bears one master away besides one intruded, whose bodies of one entry share leaves, up to 32 a leaf: six masters,
--- of which master 0 is intruded, and one screen. A quorum is four. Each actor has five leaves, and each executed update makes
--- 40 orders of the screen. Masters 1, 2 and 3 acknowledge, summarize, prepare and commit, each with a leaf of its own. When
--- master 1 executes, it has one leaf left, and vouches for the first 32 orders.
+-- A group that bears one master away besides one intruded, whose bodies of one entry share leaves, up to 32 a leaf: six
+-- masters, of which master 0 is intruded, and one screen. A quorum is four. Each actor has five leaves, and each
+-- executed update makes 40 orders of the screen. Masters 1, 2 and 3 acknowledge, summarize, prepare and commit, each
+-- with a leaf of its own. When master 1 executes, it has one leaf left, and vouches for the first 32 orders.
 use Rattle.std.specs.Prelude.{ℕ, ◌+◌, true, List, [], ◌∷◌, ◌++◌, map, nat_eq}
 use Rattle.std.specs.List.{flat_map}
 use Rattle.message_types.specs.declared.signed.Signed.{Signed}
@@ -29,14 +29,15 @@ abbrev pub forty_orders : List Update → ℕ → List Order
 forty_orders updates client = flat_map (λ u. map (λ raw. order.Write 0 raw) (numbers_below 40)) updates
 
 abbrev pub setup : Setup
-setup = let plain : Setup = setup_of group (λ m. nat_eq m 0) in record plain { orders = forty_orders; leaves = 5; shared_leaves = true }
+setup = let plain : Setup = setup_of group (λ m. nat_eq m 0) in
+    record plain { orders = forty_orders; leaves = 5; shared_leaves = true }
 
 -- the word of masters 0, 1, 2 and 3
 abbrev pub by_four : {B : Type 0} → (B → Body) → B → List (Signed B)
 by_four kind b = sealed kind 0 b ∷ sealed kind 1 b ∷ sealed kind 2 b ∷ sealed kind 3 b ∷ []
 
--- the request of master 0 and its certificate; a summary; the rows of the four masters, and their digest; and the words about
--- number 1
+-- the request of master 0 and its certificate; a summary; the rows of the four masters, and their digest; and the words
+-- about number 1
 abbrev pub request : PoRequest
 request = record { k = 1; update = sealed body.Update 6 update }
 
@@ -78,7 +79,8 @@ ordered = body.GiveOrdered record { s = 1; v = 0; rows = rows; commits = by_four
 
 -- vouchers for the first orders
 abbrev pub vouchers : ℕ → List Body
-vouchers count = map (λ raw. body.Voucher record { client = 0; number = raw + 1; order = order.Write 0 raw }) (numbers_below count)
+vouchers count = map (λ raw. body.Voucher record { client = 0; number = raw + 1; order = order.Write 0 raw })
+    (numbers_below count)
 
 -- The screen's command; master 0's request, which masters 1, 2 and 3 acknowledge; its certificate; and their summaries.
 abbrev pub introduced : List Entry

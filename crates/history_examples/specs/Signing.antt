@@ -1,7 +1,8 @@
--- How the actors of the examples sign, what their clients say, and which events are of whose role. (This project's own, for
--- these examples alone: a signature that is the signer's number and the text itself. Nothing in the laws of agreement
--- looks into signatures.)
-use Rattle.std.specs.Prelude.{ℕ, zero, suc, ◌+◌, ◌-◌, Bool, true, false, List, [], ◌∷◌, Some, None, length, slice_get, nat_lt, if◌then◌else◌}
+-- How the actors of the examples sign, what their clients say, and which events are of whose role. (This project's own,
+-- for these examples alone: a signature that is the signer's number and the text itself. Nothing in the laws of
+-- agreement looks into signatures.)
+use Rattle.std.specs.Prelude.{ℕ, zero, suc, ◌+◌, ◌-◌, Bool, true, false, List, [], ◌∷◌, Some, None, length, slice_get}
+use Rattle.std.specs.Prelude.{nat_lt, if◌then◌else◌}
 use Rattle.std.specs.List.{flat_map}
 use Rattle.std.specs.Str.{bytes_eq}
 use Rattle.message_types.specs.declared.signed.Signed.{Signed}
@@ -36,7 +37,8 @@ is_seal actor text sig = bytes_eq sig (actor ∷ text)
 -- at each command a screen says its next update; the actor numbers of the clients follow those of the masters
 abbrev pub screen_says : Group → ℕ → List Entry → Event → List Body
 screen_says g actor before event = elim event [
-  | Command op ↦ body.Update record { client = actor - g.n; t = length (flat_map (λ e. e.said) before) + 1; op = op } ∷ []
+  | Command op ↦ body.Update record { client = actor - g.n; t = length (flat_map (λ e. e.said) before) + 1; op = op }
+      ∷ []
   | _ ↦ []
 ]
 
@@ -66,7 +68,8 @@ setup_of g intruded = record {
   intruded = intruded;
   orders = λ updates client. [];
   client_says = screen_says g;
-  fits = λ actor event. if nat_lt actor g.n then (if intruded actor then fits_intruded event else fits_master event) else fits_screen event;
+  fits = λ actor event. if nat_lt actor g.n then (if intruded actor then fits_intruded event else fits_master event)
+      else fits_screen event;
   signature = seal_at;
   signs = is_seal;
   leaves = 1024;
@@ -82,7 +85,8 @@ abbrev pub cries : ℕ → ℕ → Body → Entry
 cries stamp actor b = record { stamp = stamp; actor = actor; event = Cry (frame_text (framed actor b)); said = [] }
 
 abbrev pub takes : ℕ → ℕ → ℕ → ℕ → Body → List Body → Entry
-takes stamp actor from by b said = record { stamp = stamp; actor = actor; event = Took from 0 (framed by b); said = said }
+takes stamp actor from by b said =
+    record { stamp = stamp; actor = actor; event = Took from 0 (framed by b); said = said }
 
 abbrev pub ticks : ℕ → ℕ → List Body → Entry
 ticks stamp actor said = record { stamp = stamp; actor = actor; event = Tick; said = said }

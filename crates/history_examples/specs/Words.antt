@@ -1,6 +1,6 @@
--- The words of the examples: how an update of screen 0 is introduced, certified, proposed, prepared and committed by masters
--- 0, 1 and 2, and how an update of screen 1 is introduced and certified as that same request. (Digests are written out; that
--- they are those of the update and the rows comes out where the examples' entries are computed.)
+-- The words of the examples: how an update of screen 0 is introduced, certified, proposed, prepared and committed by
+-- masters 0, 1 and 2, and how an update of screen 1 is introduced and certified as that same request. (Digests are
+-- written out; that they are those of the update and the rows comes out where the examples' entries are computed.)
 use Rattle.std.specs.Prelude.{ℕ, List, [], ◌∷◌}
 use Rattle.message_types.specs.declared.signed.Signed.{Signed}
 use Rattle.message_types.specs.declared.updates.Op.TheVariants as op
@@ -58,8 +58,8 @@ commit = record { v = 0; s = 1; digest = rows_digest }
 abbrev pub by_three : {B : Type 0} → (B → Body) → B → List (Signed B)
 by_three kind b = sealed kind 0 b ∷ sealed kind 1 b ∷ sealed kind 2 b ∷ []
 
--- the words of master 0: the request, its certificate, the proposal, a report that holds the prepares, the order with the
--- commits
+-- the words of master 0: the request, its certificate, the proposal, a report that holds the prepares, the order with
+-- the commits
 abbrev pub certificate : Body
 certificate = body.Give record { request = sealed body.PoRequest 0 request; acks = by_three body.PoAck ack }
 

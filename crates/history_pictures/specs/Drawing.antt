@@ -1,6 +1,8 @@
--- What a picture shows of a history: for each entry of its range a group with what happened there in words, a sign for what came
--- to the actor, and how much it did. (The group and its title are SVG 1.1's, sections 5.2 and 5.4; the rest is this project's own.)
-use Rattle.std.specs.Prelude.{◌≡◌, ℕ, ◌+◌, ◌-◌, Bool, ◌&&◌, if◌then◌else◌, List, [], ◌++◌, Option, Some, None, codes, decimal, nat_le, nat_lt}
+-- What a picture shows of a history: for each entry of its range a group with what happened there in words, a sign for
+-- what came to the actor, and how much it did. (The group and its title are SVG 1.1's, sections 5.2 and 5.4; the rest
+-- is this project's own.)
+use Rattle.std.specs.Prelude.{◌≡◌, ℕ, ◌+◌, ◌-◌, Bool, ◌&&◌, if◌then◌else◌, List, [], ◌++◌, Option, Some, None, codes}
+use Rattle.std.specs.Prelude.{decimal, nat_le, nat_lt}
 use Rattle.std.specs.List.{flat_map}
 use Rattle.scenario_file.specs.declared.actors.Cast.{Cast}
 use Rattle.scenario_file.specs.Actors.{actor_name}
@@ -42,7 +44,8 @@ what_text what.Restart = codes "restart"
 unfoldable pub title_text : Cast → Mark → List ℕ
 title_text cast m =
     decimal m.stamp ++ codes " " ++ actor_name cast m.actor ++ codes " " ++ what_text m.what
-    ++ count_text (codes "says") m.said ++ count_text (codes "executes") m.executed ++ count_text (codes "writes") m.written ++ count_text (codes "shows") m.shown
+    ++ count_text (codes "says") m.said ++ count_text (codes "executes") m.executed ++ count_text (codes "writes")
+    m.written ++ count_text (codes "shows") m.shown
 
 -- the family of a kind of word
 abbrev pub family_of : Kind → Family
@@ -78,7 +81,8 @@ colour_of family.Marks = codes "#008b8b"
 abbrev pub wrong : List ℕ
 wrong = codes "#c00020"
 
--- the sign of what came to the actor: a frame taken is a dot in its family's colour, a greater one in red where nobody said it
+-- the sign of what came to the actor: a frame taken is a dot in its family's colour, a greater one in red where nobody
+-- said it
 abbrev pub sign_text : What → ℕ → ℕ → List ℕ
 sign_text (what.Took kind (Some stamp)) x y = dot_text x y 3 (colour_of (family_of kind))
 sign_text (what.Took kind None) x y = dot_text x y 5 wrong
@@ -97,13 +101,15 @@ deed_text x y colour count = if nat_lt 0 count then number_text x y colour count
 -- how many updates were executed, below the lane; how many values were written and notices shown, above it
 unfoldable pub deeds_text : Mark → ℕ → ℕ → List ℕ
 deeds_text m x y =
-    deed_text (x - 3) (within (y + 16)) (codes "#2e8b57") m.executed ++ deed_text (x - 3) (y - 8) (codes "#000000") m.written
+    deed_text (x - 3) (within (y + 16)) (codes "#2e8b57") m.executed
+    ++ deed_text (x - 3) (y - 8) (codes "#000000") m.written
     ++ deed_text (x - 3) (y - 8) (codes "#d98200") m.shown
 
 -- the group of an entry, at its stamp on its actor's lane
 unfoldable pub group_text : Cast → Range → Mark → List ℕ
 group_text cast range m =
-    codes "<g><title>" ++ title_text cast m ++ codes "</title>\n" ++ sign_text m.what (across m.stamp range.first) (down m.actor)
+    codes "<g><title>" ++ title_text cast m ++ codes "</title>\n"
+    ++ sign_text m.what (across m.stamp range.first) (down m.actor)
     ++ deeds_text m (across m.stamp range.first) (down m.actor) ++ codes "</g>\n"
 
 abbrev pub shown_text : Cast → Range → Mark → List ℕ
@@ -114,7 +120,8 @@ pub record GoesOn (old new : List ℕ) : Type 0 where
   pub more : List ℕ
   pub all : new ≡ old ++ more
 
--- The document shows each entry of the range once, in order, on a ground of bands, lanes and lines, with a legend below.
+-- The document shows each entry of the range once, in order, on a ground of bands, lanes and lines, with a legend
+-- below.
 pub record IsDrawing (cast : Cast) (range : Range) (marks : List Mark) (text : List ℕ) : Type 0 where
   pub ground : List ℕ
   pub legend : List ℕ

@@ -1,6 +1,7 @@
--- What a plot shows of the updates that a master executed: each reading of the point as a dot, joined with the one before by a line,
--- and each setting as a square, by the numbers of the executions. (This project's own.)
-use Rattle.std.specs.Prelude.{◌≡◌, ℕ, suc, ◌+◌, ◌-◌, ◌*◌, ◌/◌, ◌==◌, min, max, ℤ, ◌-ℤ◌, unsigned_abs, int_lt, if◌then◌else◌, List, [], ◌∷◌, ◌++◌, Option, Some, None, codes}
+-- What a plot shows of the updates that a master executed: each reading of the point as a dot, joined with the one
+-- before by a line, and each setting as a square, by the numbers of the executions. (This project's own.)
+use Rattle.std.specs.Prelude.{◌≡◌, ℕ, suc, ◌+◌, ◌-◌, ◌*◌, ◌/◌, ◌==◌, min, max, ℤ, ◌-ℤ◌, unsigned_abs, int_lt}
+use Rattle.std.specs.Prelude.{if◌then◌else◌, List, [], ◌∷◌, ◌++◌, Option, Some, None, codes}
 use Rattle.std.specs.Option.{option_or}
 use Rattle.message_types.specs.declared.updates.Op.{Op}
 use Rattle.message_types.specs.declared.updates.Op.TheVariants as op

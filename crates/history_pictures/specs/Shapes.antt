@@ -1,4 +1,5 @@
--- Where things stand in a picture, and the shapes that it is made of. Lengths are in pixels. (SVG 1.1, sections 9.2, 9.3 and 10.4;
+-- Where things stand in a picture, and the shapes that it is made of. Lengths are in pixels. (SVG 1.1, sections 9.2,
+-- 9.3 and 10.4;
 -- the places are this project's own.)
 use Rattle.std.specs.Prelude.{ℕ, ◌+◌, ◌-◌, ◌*◌, ◌^◌, min, List, ◌++◌, codes, decimal}
 
@@ -38,8 +39,10 @@ line_text from to colour =
 -- words, and a number, that are written at a place
 unfoldable pub words_text : (x y : ℕ) → List ℕ → List ℕ → List ℕ
 words_text x y colour words =
-    codes "<text x=\"" ++ decimal x ++ codes "\" y=\"" ++ decimal y ++ codes "\" fill=\"" ++ colour ++ codes "\">" ++ words ++ codes "</text>\n"
+    codes "<text x=\"" ++ decimal x ++ codes "\" y=\"" ++ decimal y ++ codes "\" fill=\"" ++ colour ++ codes "\">"
+    ++ words ++ codes "</text>\n"
 
 unfoldable pub number_text : (x y : ℕ) → List ℕ → ℕ → List ℕ
 number_text x y colour number =
-    codes "<text x=\"" ++ decimal x ++ codes "\" y=\"" ++ decimal y ++ codes "\" fill=\"" ++ colour ++ codes "\">" ++ decimal number ++ codes "</text>\n"
+    codes "<text x=\"" ++ decimal x ++ codes "\" y=\"" ++ decimal y ++ codes "\" fill=\"" ++ colour ++ codes "\">"
+    ++ decimal number ++ codes "</text>\n"

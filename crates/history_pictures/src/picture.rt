@@ -5,7 +5,7 @@ ghost use Rattle.history_pictures.specs.Drawing.{has};
 use script_grammar::Kind;
 
 /// What an actor is.
-#[derive(Clone, Copy, Debug, PartialEq, Eq)]
+#[derive(Clone, Copy, PartialEq, Eq)]
 pub enum Role {
     Master,
     Intruded,
@@ -14,7 +14,7 @@ pub enum Role {
 }
 
 /// The lane of an actor.
-#[derive(Clone, Copy, Debug)]
+#[derive(Clone, Copy)]
 pub struct Lane {
     pub actor: u32,
     pub role: Role,
@@ -23,7 +23,7 @@ pub struct Lane {
 }
 
 /// What came to an actor at an entry.
-#[derive(Clone, Copy, Debug)]
+#[derive(Clone, Copy)]
 pub enum What {
     /// A frame of this kind, which was said at that stamp; None where nobody said it there.
     Took { kind: Kind, said_at: Option<u64> },
@@ -37,7 +37,7 @@ pub enum What {
 }
 
 /// An entry of a history.
-#[derive(Clone, Copy, Debug)]
+#[derive(Clone, Copy)]
 pub struct Mark {
     pub stamp: u64,
     pub actor: u32,
@@ -66,7 +66,7 @@ impl Drop for Picture {
 }
 
 /// The entries from one stamp to another, both of them among these.
-#[derive(Clone, Copy, Debug)]
+#[derive(Clone, Copy)]
 pub struct Range {
     pub first: u64,
     pub last: u64,

@@ -5,7 +5,7 @@ ghost use Rattle.history_pictures.specs.Drawing.{colour_of, family_of};
 use script_grammar::Kind;
 
 /// What words are about.
-#[derive(Clone, Copy, Debug, PartialEq, Eq)]
+#[derive(Clone, Copy, PartialEq, Eq)]
 pub enum Family {
     /// Updates, and how masters come to have them.
     Requests,

@@ -1,4 +1,5 @@
--- What an audit looks for: words that their signers never said, and different texts with one digest. (This project's own:
+-- What an audit looks for: words that their signers never said, and different texts with one digest. (This project's
+-- own:
 -- the two stand in place of what can't be proved of signatures and of SHA-256.)
 use Rattle.std.specs.Prelude.{◌≡◌, ℕ, ◌≤◌, true, List, [], ◌∷◌, ◌++◌, length, map}
 use Rattle.std.specs.List.{flat_map}
@@ -62,7 +63,8 @@ history_texts g history = flat_map (λ e. flat_map (texts_of g) (bodies_of e)) h
 
 -- No two different texts of the history have one digest.
 pub record NoSharedDigest (g : Group) (history : List Entry) : Type 0 where
-  pub alike : (a b : List ℕ) → IsIn a (history_texts g history) → IsIn b (history_texts g history) → sha256 a ≡ sha256 b → a ≡ b
+  pub alike : (a b : List ℕ) → IsIn a (history_texts g history) → IsIn b (history_texts g history) →
+      sha256 a ≡ sha256 b → a ≡ b
 
 -- At most f masters are intruded.
 pub record FewIntruded (w : Setup) : Type 0 where

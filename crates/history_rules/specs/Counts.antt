@@ -1,6 +1,6 @@
 -- The counts of an audit, as they are printed: how many parts of the frames taken bear words that their correct signers
--- hadn't said, how many texts share a digest with another text that came before, and how many masters are intruded. And the
--- one list that the actors' own lists make. (This project's own.)
+-- hadn't said, how many texts share a digest with another text that came before, and how many masters are intruded. And
+-- the one list that the actors' own lists make. (This project's own.)
 use Rattle.std.specs.Prelude.{ℕ, ◌+◌, Bool, ◌&&◌, not, List, [], ◌∷◌, ◌++◌, length, filter, nat_eq, if◌then◌else◌}
 use Rattle.std.specs.List.{list_any, flat_map}
 use Rattle.std.specs.Str.{bytes_eq}
@@ -25,7 +25,8 @@ is_forged w before p = is_correct w p.signer && not (has_said before p.signer p.
 -- the forged parts of the frames taken at these entries, at each taking, `before` being the entries before them
 abbrev pub forged_from : Setup → List Entry → List Entry → ℕ
 forged_from w before [] = 0
-forged_from w before (e ∷ rest) = length (filter (is_forged w before) (parts_taken e)) + forged_from w (before ++ e ∷ []) rest
+forged_from w before (e ∷ rest) = length (filter (is_forged w before) (parts_taken e)) + forged_from w
+    (before ++ e ∷ []) rest
 
 -- how many words are forged in a history
 abbrev pub forged : Setup → List Entry → ℕ
@@ -36,7 +37,8 @@ abbrev pub alike_from : List (List ℕ) → List (List ℕ) → ℕ
 alike_from earlier [] = 0
 alike_from earlier (text ∷ rest) =
     if list_any (bytes_eq text) earlier then alike_from earlier rest
-    else (if list_any (λ other. bytes_eq (sha256 text) (sha256 other)) earlier then 1 else 0) + alike_from (earlier ++ text ∷ []) rest
+    else (if list_any (λ other. bytes_eq (sha256 text) (sha256 other)) earlier then 1 else 0) + alike_from
+    (earlier ++ text ∷ []) rest
 
 -- how many different texts of a history share a digest with an earlier one
 abbrev pub alike : Group → List Entry → ℕ

@@ -1,4 +1,5 @@
--- The entries of a history: one event of one actor each, with the bodies that the actor said at it. (This project's own.)
+-- The entries of a history: one event of one actor each, with the bodies that the actor said at it. (This project's
+-- own.)
 use Rattle.std.specs.Prelude.{ℕ, Bool, true, false, List, Option, Some, None}
 use Rattle.message_types.specs.declared.signed.Signed.{Signed}
 use Rattle.message_types.specs.declared.updates.Op.{Op}

@@ -1,6 +1,6 @@
--- What actors say and execute, and which histories are legal. What an actor says goes by its own list of entries alone. A
--- history is legal where each entry is one that its actor, as it then was, could add, and where what was said at it is what
--- the rules make that actor say. (This project's own.)
+-- What actors say and execute, and which histories are legal. What an actor says goes by its own list of entries alone.
+-- A history is legal where each entry is one that its actor, as it then was, could add, and where what was said at it
+-- is what the rules make that actor say. (This project's own.)
 use Rattle.std.specs.Prelude.{◌≡◌, ℕ, ◌+◌, ◌<◌, true, false, List, [], ◌∷◌, ◌++◌, length, take, nat_lt, if◌then◌else◌}
 use Rattle.message_types.specs.declared.signed.Signed.{Signed}
 use Rattle.message_types.specs.declared.updates.Update.{Update}
@@ -24,7 +24,8 @@ intruded_says = []
 -- A correct master says what the rules make it say, at a silent event nothing.
 abbrev pub master_says : Setup → ℕ → List Entry → Event → List Body
 master_says w master own event =
-    if is_silent event then [] else answers w.group w.orders master (heard_in w master own) (frame_taken event) (is_tick event)
+    if is_silent event then [] else answers w.group w.orders master (heard_in w master own)
+    (frame_taken event) (is_tick event)
 
 -- what an actor of whatever kind would say at an event after its own list, with leaves enough
 abbrev pub would_say : Setup → ℕ → List Entry → Event → List Body

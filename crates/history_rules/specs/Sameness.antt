@@ -1,5 +1,5 @@
--- Whether two bodies are one and the same, part by part, frames with their signatures. (That this is equality is a law of
--- the crate audit_counts.)
+-- Whether two bodies are one and the same, part by part, frames with their signatures. (That this is equality is a law
+-- of the crate audit_counts.)
 use Rattle.std.specs.Prelude.{ℕ, Bool, false, ◌&&◌, List, nat_eq}
 use Rattle.std.specs.Cmp.Lexicographic.{pointwise}
 use Rattle.std.specs.Ordering.{int_eq}
@@ -63,7 +63,8 @@ abbrev pub is_same_mark : Mark → Mark → Bool
 is_same_mark a b = nat_eq a.s b.s
 
 abbrev pub is_same_certificate : Certificate → Certificate → Bool
-is_same_certificate a b = nat_eq a.s b.s && nat_eq a.v b.v && are_same_rows a.rows b.rows && are_same_signed is_same_prepare a.prepares b.prepares
+is_same_certificate a b = nat_eq a.s b.s && nat_eq a.v b.v && are_same_rows a.rows b.rows
+    && are_same_signed is_same_prepare a.prepares b.prepares
 
 abbrev pub is_same_report : Report → Report → Bool
 is_same_report a b =
@@ -72,7 +73,8 @@ is_same_report a b =
 
 abbrev pub is_same_order : Order → Order → Bool
 is_same_order (order.Write p x) (order.Write q y) = nat_eq p q && nat_eq x y
-is_same_order (order.Notice a) (order.Notice b) = nat_eq (notice_number a.what) (notice_number b.what) && nat_eq a.t b.t && nat_eq a.number b.number
+is_same_order (order.Notice a) (order.Notice b) = nat_eq (notice_number a.what) (notice_number b.what)
+    && nat_eq a.t b.t && nat_eq a.number b.number
 is_same_order _ _ = false
 
 -- the two bodies are one and the same
@@ -93,10 +95,13 @@ is_same_body (body.Suspect a) (body.Suspect b) = nat_eq a.v b.v
 is_same_body (body.Report a) (body.Report b) = is_same_report a b
 is_same_body (body.NewView a) (body.NewView b) = nat_eq a.v b.v && are_same_signed is_same_report a.reports b.reports
 is_same_body (body.AskUpdate a) (body.AskUpdate b) = nat_eq a.j b.j && nat_eq a.k b.k
-is_same_body (body.Give a) (body.Give b) = is_same_signed is_same_request a.request b.request && are_same_signed is_same_ack a.acks b.acks
+is_same_body (body.Give a) (body.Give b) = is_same_signed is_same_request a.request b.request
+    && are_same_signed is_same_ack a.acks b.acks
 is_same_body (body.AskOrder a) (body.AskOrder b) = nat_eq a.s b.s
 is_same_body (body.GiveOrdered a) (body.GiveOrdered b) =
-    nat_eq a.s b.s && nat_eq a.v b.v && are_same_rows a.rows b.rows && are_same_signed is_same_commit a.commits b.commits
-is_same_body (body.Voucher a) (body.Voucher b) = nat_eq a.client b.client && nat_eq a.number b.number && is_same_order a.order b.order
+    nat_eq a.s b.s && nat_eq a.v b.v && are_same_rows a.rows b.rows
+    && are_same_signed is_same_commit a.commits b.commits
+is_same_body (body.Voucher a) (body.Voucher b) = nat_eq a.client b.client && nat_eq a.number b.number
+    && is_same_order a.order b.order
 is_same_body (body.Mark a) (body.Mark b) = is_same_mark a b
 is_same_body _ _ = false

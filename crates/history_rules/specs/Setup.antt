@@ -1,6 +1,7 @@
 -- What stays the same over a whole history: the group, which masters are intruded, the rules of the plant, the clients'
 -- behaviour, and how words are signed and signatures checked. The theorems hold of every setup whose group is one.
-use Rattle.std.specs.Prelude.{ℕ, ◌+◌, ◌-◌, suc, Bool, ◌&&◌, not, List, [], ◌∷◌, length, map, filter, nat_eq, nat_lt, if◌then◌else◌}
+use Rattle.std.specs.Prelude.{ℕ, ◌+◌, ◌-◌, suc, Bool, ◌&&◌, not, List, [], ◌∷◌, length, map, filter, nat_eq, nat_lt}
+use Rattle.std.specs.Prelude.{if◌then◌else◌}
 use Rattle.std.specs.List.{list_all}
 use Rattle.message_types.specs.declared.signed.Signed.{Signed}
 use Rattle.message_types.specs.declared.updates.Update.{Update}
@@ -29,7 +30,7 @@ pub record Setup : Type 0 where
   pub signature : ℕ → ℕ → List Body → ℕ → List ℕ
   -- whether an actor's key bears out a text's signature
   pub signs : ℕ → List ℕ → List ℕ → Bool
-  -- each actor's leaves, and whether up to 32 bodies of an entry share one
+  -- each actor's leaves, and whether bodies of an entry share one
   pub leaves : ℕ
   pub shared_leaves : Bool
   -- the numbers of an actor's keeper calls that fail
@@ -42,11 +43,13 @@ is_correct w actor = not (nat_lt actor w.group.n && w.intruded actor)
 abbrev pub is_correct_master : Setup → ℕ → Bool
 is_correct_master w actor = nat_lt actor w.group.n && not (w.intruded actor)
 
--- The frame stands: it has a spelling, and each of its parts is of an actor that is there, signed by it, and in its place.
+-- The frame stands: it has a spelling, and each of its parts is of an actor that is there, signed by it, and in its
+-- place.
 unfoldable pub stands : Setup → Signed Body → Bool
 stands w frame =
     has_spelling frame
-    && list_all (λ p. nat_lt p.signer (w.group.n + w.group.clients) && w.signs p.signer (body_text p.body) p.sig && in_place w.group p) (parts frame)
+    && list_all (λ p. nat_lt p.signer (w.group.n + w.group.clients) && w.signs p.signer (body_text p.body) p.sig
+    && in_place w.group p) (parts frame)
 
 -- how many leaves an actor's entries used
 abbrev pub leaves_used : Setup → List Entry → ℕ
@@ -60,7 +63,8 @@ room w own = room_of w.shared_leaves (w.leaves - leaves_used w own)
 abbrev pub signed_from : Setup → ℕ → ℕ → List Body → ℕ → List Body → List (Signed Body)
 signed_from w actor used said place [] = []
 signed_from w actor used said place (b ∷ rest) =
-    record { signer = actor; body = b; sig = w.signature actor used said place } ∷ signed_from w actor used said (suc place) rest
+    record { signer = actor; body = b; sig = w.signature actor used said place }
+    ∷ signed_from w actor used said (suc place) rest
 
 -- a master's entries as what it heard and said, without the silent ones; `used` leaves were used before
 abbrev pub heard_from : Setup → ℕ → ℕ → List Entry → List Heard
@@ -68,7 +72,12 @@ heard_from w actor used [] = []
 heard_from w actor used (e ∷ rest) =
     if is_silent e.event
     then heard_from w actor (used + leaves_for w.shared_leaves (length e.said)) rest
-    else record { took = frame_taken e.event; is_tick = is_tick e.event; said = signed_from w actor used e.said 0 e.said }
+    else record {
+      took = frame_taken e.event;
+      is_tick = is_tick e.event;
+      said =
+          signed_from w actor used e.said 0 e.said;
+    }
     ∷ heard_from w actor (used + leaves_for w.shared_leaves (length e.said)) rest
 
 -- the entries of one actor, in order

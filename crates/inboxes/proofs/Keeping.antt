@@ -1,5 +1,7 @@
 -- Each step keeps the rule of an inbox.
-use Rattle.std.proofs.Common.{◌≡◌, ◌≢◌, ℕ, ◌+◌, ◌-◌, ◌<◌, ◌≤◌, true, true≢false, List, [], ◌∷◌, ◌++◌, length, set, sum_by, nat_lt, if◌then◌else◌, ⊎_elim, refl, sym, ap, ◌∙◌, subst, append_assoc, length-append, arith}
+use Rattle.std.proofs.Common.{◌≡◌, ◌≢◌, ℕ, ◌+◌, ◌-◌, ◌<◌, ◌≤◌, true, true≢false, List, [], ◌∷◌, ◌++◌, length, set}
+use Rattle.std.proofs.Common.{sum_by, nat_lt, if◌then◌else◌, ⊎_elim, refl, sym, ap, ◌∙◌, subst, append_assoc}
+use Rattle.std.proofs.Common.{length-append, arith}
 use Rattle.std.proofs.lemmas.Bool.Decides.{nat_tests}
 use Rattle.std.proofs.lemmas.List.Sums.{sum_by_push}
 use Rattle.crossbeam_queue.specs.Fifo.{Pushes, Pops, Forks, Merges, Learns}
@@ -9,8 +11,10 @@ use Rattle.stamps.proofs.Sums.{sum_changed, part_of_sum, sum_of_one}
 use Rattle.stamps.proofs.Counts.{times_none, once_none, once_more}
 use Rattle.stamps.proofs.Places.{each_changed, each_more, each_of_one}
 use Rattle.inboxes.specs.declared.rule.Known.{Known}
-use Rattle.inboxes.specs.Steps.{all_parts, known_as, first_known, spent, one_less, newcomer, together, places, Stand, IsKept, IsWhole, Seen, Saw, Took, Posted}
-use Rattle.inboxes.proofs.Standing.{stand_longer, stand_both, stand_last, each_last, times_both, times_last, length_places}
+use Rattle.inboxes.specs.Steps.{all_parts, known_as, first_known, spent, one_less, newcomer, together, places, Stand}
+use Rattle.inboxes.specs.Steps.{IsKept, IsWhole, Seen, Saw, Took, Posted}
+use Rattle.inboxes.proofs.Standing.{stand_longer, stand_both, stand_last, each_last, times_both, times_last}
+use Rattle.inboxes.proofs.Standing.{length_places}
 use mathlib.Core.Option.{some}
 use lib.ListN.{get_elem?}
 
@@ -52,13 +56,15 @@ module _ {T : Type 0} (Fits : T → Type 0) where
   }
 
   -- what the rule says to one pass
-  module _ (items : List T) (views : List (Known T)) (port : ℕ) (v : Known T) (h : IsKept Fits items views) (at : get_elem? views port ≡ some v) where
+  module _ (items : List T) (views : List (Known T)) (port : ℕ) (v : Known T) (h : IsKept Fits items views)
+      (at : get_elem? views port ≡ some v) where
     full : IsWhole v → sum_by (λ u. u.parts) views ≡ v.parts
     full whole = omega (arith, part_of_sum (λ (u : Known T). u.parts) views port v at, h.within, whole)
 
     alone : IsWhole v → (f : Known T → ℕ) → f spent ≡ 0 → sum_by f views ≡ f v
     alone whole f nothing =
-        sum_of_one f (λ u. u.parts) views port v at (full whole) (λ j u there none. ap f (h.idle (full whole ∙ whole) j u there none) ∙ nothing)
+        sum_of_one f (λ u. u.parts) views port v at (full whole)
+        (λ j u there none. ap f (h.idle (full whole ∙ whole) j u there none) ∙ nothing)
 
     pub seen : Seen h.taken items v
     seen = record {
@@ -82,7 +88,8 @@ module _ {T : Type 0} (Fits : T → Type 0) where
       let all : List T = h.taken ++ items in
       let w : Known T = known_as v.live v.parts v.took (v.posted ++ (length all, x) ∷ []) in
       let longer : all ++ x ∷ [] ≡ h.taken ++ (items ++ x ∷ []) = append_assoc h.taken items (x ∷ []) in
-      let count : length (h.taken ++ (items ++ x ∷ [])) ≡ length all + 1 = sym (ap length longer) ∙ length-append all (x ∷ []) in
+      let count : length (h.taken ++ (items ++ x ∷ [])) ≡ length all + 1 = sym (ap length longer)
+      ∙ length-append all (x ∷ []) in
       let stands = h.stand port v at in
       let parts = sum_changed (λ (u : Known T). u.parts) views port v w at in (
         w,
@@ -91,10 +98,27 @@ module _ {T : Type 0} (Fits : T → Type 0) where
           taken = h.taken;
           took = λ y. omega (arith, sum_changed (λ (u : Known T). times y (places u.took)) views port v w at, h.took y);
           all_took = omega (arith, sum_changed (λ (u : Known T). length u.took) views port v w at, h.all_took);
-          posted = λ y. omega (arith, sum_changed (λ (u : Known T). times y (places u.posted)) views port v w at, h.posted y, times_last y v.posted (length all) x, once_more (length all) y, ap (λ (m : ℕ). once_below m y) count);
-          all_posted = omega (arith, sum_changed (λ (u : Known T). length u.posted) views port v w at, h.all_posted, length-append v.posted ((length all, x) ∷ []), count);
+          posted = λ y. omega (
+            arith,
+            sum_changed (λ (u : Known T). times y (places u.posted)) views port v w at,
+            h.posted y,
+            times_last y v.posted (length all) x,
+            once_more (length all) y,
+            ap (λ (m : ℕ). once_below m y) count,
+          );
+          all_posted = omega (
+            arith,
+            sum_changed (λ (u : Known T). length u.posted) views port v w at,
+            h.all_posted,
+            length-append v.posted ((length all, x) ∷ []),
+            count,
+          );
           stand = each_changed (Standing h.taken (items ++ x ∷ [])) views port w
-              (λ j u apart there. ((h.stand j u there).0, subst (λ (zs : List T). Stand zs u.posted) longer (stand_longer all (x ∷ []) u.posted (h.stand j u there).1)))
+              (λ j u apart there. (
+                (h.stand j u there).0,
+                subst (λ (zs : List T). Stand zs u.posted) longer
+                    (stand_longer all (x ∷ []) u.posted (h.stand j u there).1),
+              ))
               (stands.0, subst (λ (zs : List T). Stand zs w.posted) longer (stand_last all x v.posted stands.1));
           within = omega (arith, parts, h.within);
           idle = λ whole. each_changed Idle views port w
@@ -115,12 +139,38 @@ module _ {T : Type 0} (Fits : T → Type 0) where
         record {
           fit = h.fit.1;
           taken = h.taken ++ x ∷ [];
-          took = λ y. omega (arith, sum_changed (λ (u : Known T). times y (places u.took)) views port v w at, h.took y, times_last y v.took (length h.taken) x, once_more (length h.taken) y, ap (λ (m : ℕ). once_below m y) count);
-          all_took = omega (arith, sum_changed (λ (u : Known T). length u.took) views port v w at, h.all_took, length-append v.took ((length h.taken, x) ∷ []), count);
-          posted = λ y. omega (arith, sum_changed (λ (u : Known T). times y (places u.posted)) views port v w at, h.posted y, ap (λ (zs : List T). once_below (length zs) y) same);
-          all_posted = omega (arith, sum_changed (λ (u : Known T). length u.posted) views port v w at, h.all_posted, ap length same);
+          took = λ y. omega (
+            arith,
+            sum_changed (λ (u : Known T). times y (places u.took)) views port v w at,
+            h.took y,
+            times_last y v.took (length h.taken) x,
+            once_more (length h.taken) y,
+            ap (λ (m : ℕ). once_below m y) count,
+          );
+          all_took = omega (
+            arith,
+            sum_changed (λ (u : Known T). length u.took) views port v w at,
+            h.all_took,
+            length-append v.took ((length h.taken, x) ∷ []),
+            count,
+          );
+          posted = λ y. omega (
+            arith,
+            sum_changed (λ (u : Known T). times y (places u.posted)) views port v w at,
+            h.posted y,
+            ap (λ (zs : List T). once_below (length zs) y) same,
+          );
+          all_posted = omega (
+            arith,
+            sum_changed (λ (u : Known T). length u.posted) views port v w at,
+            h.all_posted,
+            ap length same,
+          );
           stand = each_changed (Standing (h.taken ++ x ∷ []) items) views port w
-              (λ j u apart there. (stand_longer h.taken (x ∷ []) u.took (h.stand j u there).0, subst (λ (zs : List T). Stand zs u.posted) (sym same) (h.stand j u there).1))
+              (λ j u apart there. (
+                stand_longer h.taken (x ∷ []) u.took (h.stand j u there).0,
+                subst (λ (zs : List T). Stand zs u.posted) (sym same) (h.stand j u there).1,
+              ))
               (stand_last h.taken x v.took stands.0, subst (λ (zs : List T). Stand zs v.posted) (sym same) stands.1);
           within = omega (arith, parts, h.within);
           idle = λ whole. each_changed Idle views port w
@@ -136,45 +186,114 @@ module _ {T : Type 0} (Fits : T → Type 0) where
       let u : Known T = newcomer v in
       let parts = sum_changed (λ (y : Known T). y.parts) views port v w at in
       let pushed = sum_by_push (λ (y : Known T). y.parts) (set views port w) u in
-      let before : sum_by (λ (y : Known T). y.parts) (set views port w ++ u ∷ []) ≡ all_parts → (sum_by (λ (y : Known T). y.parts) views ≡ all_parts) × (w.parts + u.parts ≡ v.parts) =
-      (λ whole. (omega (arith, parts, pushed, h.within, parted v.parts, whole), omega (arith, parts, pushed, h.within, parted v.parts, whole))) in
-      let some_part : sum_by (λ (y : Known T). y.parts) views ≡ all_parts → v.parts ≢ 0 = (λ whole none. in_use v live (h.idle whole port v at none)) in record {
+      let before : sum_by (λ (y : Known T). y.parts) (set views port w ++ u ∷ []) ≡ all_parts →
+      (sum_by (λ (y : Known T). y.parts) views ≡ all_parts) × (w.parts + u.parts ≡ v.parts) =
+      (λ whole. (
+        omega (arith, parts, pushed, h.within, parted v.parts, whole),
+        omega (arith, parts, pushed, h.within, parted v.parts, whole),
+      )) in
+      let some_part : sum_by (λ (y : Known T). y.parts) views ≡ all_parts → v.parts ≢ 0 =
+      (λ whole none. in_use v live (h.idle whole port v at none)) in record {
         fit = h.fit;
         taken = h.taken;
-        took = λ x. omega (arith, sum_changed (λ (y : Known T). times x (places y.took)) views port v w at, sum_by_push (λ (y : Known T). times x (places y.took)) (set views port w) u, h.took x, times_none x);
-        all_took = omega (arith, sum_changed (λ (y : Known T). length y.took) views port v w at, sum_by_push (λ (y : Known T). length y.took) (set views port w) u, h.all_took);
-        posted = λ x. omega (arith, sum_changed (λ (y : Known T). times x (places y.posted)) views port v w at, sum_by_push (λ (y : Known T). times x (places y.posted)) (set views port w) u, h.posted x, times_none x);
-        all_posted = omega (arith, sum_changed (λ (y : Known T). length y.posted) views port v w at, sum_by_push (λ (y : Known T). length y.posted) (set views port w) u, h.all_posted);
-        stand = each_more (Standing h.taken items) (set views port w) u (each_changed (Standing h.taken items) views port w (λ j y apart there. h.stand j y there) (h.stand port v at)) (tt, tt);
+        took = λ x. omega (
+          arith,
+          sum_changed (λ (y : Known T). times x (places y.took)) views port v w at,
+          sum_by_push (λ (y : Known T). times x (places y.took)) (set views port w) u,
+          h.took x,
+          times_none x,
+        );
+        all_took = omega (
+          arith,
+          sum_changed (λ (y : Known T). length y.took) views port v w at,
+          sum_by_push (λ (y : Known T). length y.took) (set views port w) u,
+          h.all_took,
+        );
+        posted = λ x. omega (
+          arith,
+          sum_changed (λ (y : Known T). times x (places y.posted)) views port v w at,
+          sum_by_push (λ (y : Known T). times x (places y.posted)) (set views port w) u,
+          h.posted x,
+          times_none x,
+        );
+        all_posted = omega (
+          arith,
+          sum_changed (λ (y : Known T). length y.posted) views port v w at,
+          sum_by_push (λ (y : Known T). length y.posted) (set views port w) u,
+          h.all_posted,
+        );
+        stand = each_more (Standing h.taken items) (set views port w) u
+            (each_changed (Standing h.taken items) views port w (λ j y apart there. h.stand j y there)
+            (h.stand port v at)) (tt, tt);
         within = omega (arith, parts, pushed, h.within, parted v.parts);
         idle = λ whole. each_more Idle (set views port w) u
             (each_changed Idle views port w
             (λ j y apart there. h.idle (before whole).0 j y there)
-            (λ none. absurd (omega (arith, none, part_left v.parts (omega (arith, some_part (before whole).0)) (before whole).1))))
-            (λ none. absurd (omega (arith, none, part_given v.parts (omega (arith, some_part (before whole).0)) (before whole).1)));
+            (λ none. absurd (omega (
+              arith,
+              none,
+              part_left v.parts (omega (arith, some_part (before whole).0)) (before whole).1,
+            ))))
+            (λ none. absurd (omega (
+              arith,
+              none,
+              part_given v.parts (omega (arith, some_part (before whole).0)) (before whole).1,
+            )));
       }
 
-  pub joins : (port other : ℕ) (v w : Known T) → v.live ≡ true → Merges (IsKept Fits) port v other w (together v w) spent
+  pub joins : (port other : ℕ) (v w : Known T) → v.live ≡ true →
+      Merges (IsKept Fits) port v other w (together v w) spent
   joins port other v w live items views h at apart stays =
       let b : Known T = together v w in
       let there : get_elem? views other ≡ some w =
-      ⊎_elim (λ (t : (other ≡ port) × (b ≡ w)). absurd (apart t.0)) (λ (t : (other ≢ port) × (get_elem? views other ≡ some w)). t.1) (at_set views port other b w stays) in
+      ⊎_elim (λ (t : (other ≡ port) × (b ≡ w)). absurd (apart t.0))
+      (λ (t : (other ≢ port) × (get_elem? views other ≡ some w)). t.1) (at_set views port other b w stays) in
       let one = sum_changed (λ (y : Known T). y.parts) views port v b at in
       let two = sum_changed (λ (y : Known T). y.parts) (set views port b) other w spent stays in record {
         fit = h.fit;
         taken = h.taken;
-        took = λ x. omega (arith, sum_changed (λ (y : Known T). times x (places y.took)) views port v b at, sum_changed (λ (y : Known T). times x (places y.took)) (set views port b) other w spent stays, h.took x, times_none x, times_both x v.took w.took);
-        all_took = omega (arith, sum_changed (λ (y : Known T). length y.took) views port v b at, sum_changed (λ (y : Known T). length y.took) (set views port b) other w spent stays, h.all_took, length-append v.took w.took);
-        posted = λ x. omega (arith, sum_changed (λ (y : Known T). times x (places y.posted)) views port v b at, sum_changed (λ (y : Known T). times x (places y.posted)) (set views port b) other w spent stays, h.posted x, times_none x, times_both x v.posted w.posted);
-        all_posted = omega (arith, sum_changed (λ (y : Known T). length y.posted) views port v b at, sum_changed (λ (y : Known T). length y.posted) (set views port b) other w spent stays, h.all_posted, length-append v.posted w.posted);
+        took = λ x. omega (
+          arith,
+          sum_changed (λ (y : Known T). times x (places y.took)) views port v b at,
+          sum_changed (λ (y : Known T). times x (places y.took)) (set views port b) other w spent stays,
+          h.took x,
+          times_none x,
+          times_both x v.took w.took,
+        );
+        all_took = omega (
+          arith,
+          sum_changed (λ (y : Known T). length y.took) views port v b at,
+          sum_changed (λ (y : Known T). length y.took) (set views port b) other w spent stays,
+          h.all_took,
+          length-append v.took w.took,
+        );
+        posted = λ x. omega (
+          arith,
+          sum_changed (λ (y : Known T). times x (places y.posted)) views port v b at,
+          sum_changed (λ (y : Known T). times x (places y.posted)) (set views port b) other w spent stays,
+          h.posted x,
+          times_none x,
+          times_both x v.posted w.posted,
+        );
+        all_posted = omega (
+          arith,
+          sum_changed (λ (y : Known T). length y.posted) views port v b at,
+          sum_changed (λ (y : Known T). length y.posted) (set views port b) other w spent stays,
+          h.all_posted,
+          length-append v.posted w.posted,
+        );
         stand = each_changed (Standing h.taken items) (set views port b) other spent
-            (λ j y _ found. each_changed (Standing h.taken items) views port b (λ k z _ stands. h.stand k z stands)
-            (stand_both h.taken v.took w.took (h.stand port v at).0 (h.stand other w there).0, stand_both (h.taken ++ items) v.posted w.posted (h.stand port v at).1 (h.stand other w there).1) j y found)
+            (λ j y _ found. each_changed (Standing h.taken items) views port b (λ k z _ stands. h.stand k z stands) (
+              stand_both h.taken v.took w.took (h.stand port v at).0 (h.stand other w there).0,
+              stand_both (h.taken ++ items) v.posted w.posted (h.stand port v at).1 (h.stand other w there).1,
+            )
+            j y found)
             (tt, tt);
         within = omega (arith, one, two, h.within);
         idle = λ whole. each_changed Idle (set views port b) other spent
             (λ j y _ found. each_changed Idle views port b
             (λ k z _ stands. h.idle (omega (arith, one, two, whole)) k z stands)
-            (λ none. absurd (in_use v live (h.idle (omega (arith, one, two, whole)) port v at (omega (arith, none))))) j y found)
+            (λ none. absurd (in_use v live (h.idle (omega (arith, one, two, whole)) port v at (omega (arith, none)))))
+            j y found)
             (λ _. refl);
       }

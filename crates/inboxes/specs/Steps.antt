@@ -1,6 +1,7 @@
--- What an inbox and the knowledge of its passes keep, and what each step changes and tells. An item's place is how many were
--- posted to the inbox before it. (This project's own.)
-use Rattle.std.specs.Prelude.{◌≡◌, ℕ, ◌+◌, ◌-◌, ◌^◌, ◌≤◌, Bool, true, false, List, [], ◌∷◌, ◌++◌, length, map, sum_by, slice_get, Some, nat_lt, if◌then◌else◌, ⊤}
+-- What an inbox and the knowledge of its passes keep, and what each step changes and tells. An item's place is how many
+-- were posted to the inbox before it. (This project's own.)
+use Rattle.std.specs.Prelude.{◌≡◌, ℕ, ◌+◌, ◌-◌, ◌^◌, ◌≤◌, Bool, true, false, List, [], ◌∷◌, ◌++◌, length, map, sum_by}
+use Rattle.std.specs.Prelude.{slice_get, Some, nat_lt, if◌then◌else◌, ⊤}
 use mathlib.Core.Option.{some}
 use lib.ListN.{get_elem?}
 use Rattle.stamps.specs.Seats.{times, once_below, IsEachOnce}
@@ -48,9 +49,9 @@ module _ {T : Type 0} where
   Each Fits [] = ⊤
   Each Fits (x ∷ xs) = Fits x × Each Fits xs
 
-  -- What the inbox holds may be posted. All that was taken so far, in the order of the takes, and then what the inbox holds, is all that was posted, in the order of
-  -- the posts. Each item that was posted, and each that was taken, is known to one pass, at its place. While no part is lost, a
-  -- pass without a part is one that was joined to another.
+  -- What the inbox holds may be posted. All that was taken so far, in the order of the takes, and then what the inbox
+  -- holds, is all that was posted, in the order of the posts. Each item that was posted, and each that was taken, is
+  -- known to one pass, at its place. While no part is lost, a pass without a part is one that was joined to another.
   pub record IsKept (Fits : T → Type 0) (items : List T) (views : List (Known T)) : Type 0 where
     pub fit : Each Fits items
     pub taken : List T
@@ -58,16 +59,18 @@ module _ {T : Type 0} where
     pub all_took : sum_by (λ v. length v.took) views ≡ length taken
     pub posted : (x : ℕ) → sum_by (λ v. times x (places v.posted)) views ≡ once_below (length (taken ++ items)) x
     pub all_posted : sum_by (λ v. length v.posted) views ≡ length (taken ++ items)
-    pub stand : (place : ℕ) (v : Known T) → get_elem? views place ≡ some v → Stand taken v.took × Stand (taken ++ items) v.posted
+    pub stand : (place : ℕ) (v : Known T) → get_elem? views place ≡ some v →
+        Stand taken v.took × Stand (taken ++ items) v.posted
     pub within : sum_by (λ v. v.parts) views ≤ all_parts
-    pub idle : sum_by (λ v. v.parts) views ≡ all_parts → (place : ℕ) (v : Known T) → get_elem? views place ≡ some v → v.parts ≡ 0 → v ≡ spent
+    pub idle : sum_by (λ v. v.parts) views ≡ all_parts → (place : ℕ) (v : Known T) → get_elem? views place ≡ some v →
+        v.parts ≡ 0 → v ≡ spent
 
   -- all passes are in this one
   abbrev pub IsWhole : Known T → Type 0
   IsWhole v = v.parts ≡ all_parts
 
-  -- At a step at which these had been taken, and the inbox held those items, the pass had taken and posted items that stand at
-  -- their places; and if it is whole, each that was taken and each that was posted, once.
+  -- At a step at which these had been taken, and the inbox held those items, the pass had taken and posted items that
+  -- stand at their places; and if it is whole, each that was taken and each that was posted, once.
   pub record Seen (taken items : List T) (v : Known T) : Type 0 where
     pub took : Stand taken v.took
     pub posted : Stand (taken ++ items) v.posted
@@ -80,8 +83,10 @@ module _ {T : Type 0} where
 
   -- at one step, x left at the front, and it is one that may be posted
   abbrev pub Took : (T → Type 0) → Known T → T → Known T → Type 0
-  Took Fits v x w = Fits x × (taken : List T) × (items : List T) × Seen taken (x ∷ items) v × (w ≡ record v { took = v.took ++ (length taken, x) ∷ [] })
+  Took Fits v x w = Fits x × (taken : List T) × (items : List T) × Seen taken (x ∷ items) v
+      × (w ≡ record v { took = v.took ++ (length taken, x) ∷ [] })
 
   -- at one step, x joined at the back
   abbrev pub Posted : Known T → T → Known T → Type 0
-  Posted v x w = (taken : List T) × (items : List T) × Seen taken items v × (w ≡ record v { posted = v.posted ++ (length (taken ++ items), x) ∷ [] })
+  Posted v x w = (taken : List T) × (items : List T) × Seen taken items v
+      × (w ≡ record v { posted = v.posted ++ (length (taken ++ items), x) ∷ [] })

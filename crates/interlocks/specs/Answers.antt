@@ -3,11 +3,11 @@ use Rattle.interlocks.specs.declared.refusal.RuleRefusal.{RuleRefusal}
 use Rattle.interlocks.specs.declared.refusal.RuleRefusal.TheVariants as refusal
 use Rattle.interlocks.specs.declared.tree.Tree.{Tree}
 use Rattle.interlocks.specs.Formula.{Formula, formula}
-use Rattle.interlocks.specs.declared.refusal.Stop.{Stop}
-use Rattle.interlocks.specs.declared.refusal.Stop.TheVariants as stop
+use Rattle.interlocks.specs.declared.refusal.TokenRefusal.{TokenRefusal}
+use Rattle.interlocks.specs.declared.refusal.TokenRefusal.TheVariants as stop
 
 -- an answer is the next value, or says that there is none, unless memory ran out
-abbrev pub Gives : {A : Type 0} → Result A Stop → Option A → Type 0
+abbrev pub Gives : {A : Type 0} → Result A TokenRefusal → Option A → Type 0
 Gives (Ok x) next = next ≡ Some x
 Gives (Err stop.Misplaced) next = next ≡ None
 Gives (Err stop.Want) next = Unit {0}

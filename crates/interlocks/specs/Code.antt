@@ -73,11 +73,14 @@ same_comparison AtMost = refl
 same_comparison Above = refl
 same_comparison AtLeast = refl
 
-abbrev pub put_words : (f : Formula) (ws : List Word) (fs : List Formula) → put_all (words f ++ ws) fs ≡ put_all ws (f ∷ fs)
+abbrev pub put_words : (f : Formula) (ws : List Word) (fs : List Formula) →
+    put_all (words f ++ ws) fs ≡ put_all ws (f ∷ fs)
 put_words (alarm n) ws fs = refl
 put_words (compare p c z) ws fs = ap (λ (d : Comparison). put_all ws (compare p d z ∷ fs)) (same_comparison c)
-put_words (negation f) ws fs = ap (λ (x : List Word). put_all x fs) (append_assoc (words f) (sign 2 ∷ []) ws) ∙ put_words f (sign 2 ∷ ws) fs
-put_words (bracket f) ws fs = ap (λ (x : List Word). put_all x fs) (append_assoc (words f) (sign 3 ∷ []) ws) ∙ put_words f (sign 3 ∷ ws) fs
+put_words (negation f) ws fs = ap (λ (x : List Word). put_all x fs) (append_assoc (words f) (sign 2 ∷ []) ws)
+    ∙ put_words f (sign 2 ∷ ws) fs
+put_words (bracket f) ws fs = ap (λ (x : List Word). put_all x fs) (append_assoc (words f) (sign 3 ∷ []) ws)
+    ∙ put_words f (sign 3 ∷ ws) fs
 put_words (both f g) ws fs =
     ap (λ (x : List Word). put_all x fs) (append_assoc (words f) (words g ++ sign 4 ∷ []) ws)
     ∙ (put_words f ((words g ++ sign 4 ∷ []) ++ ws) fs
@@ -93,4 +96,5 @@ abbrev pub same_formula : (f : Formula) → from_words (words f) ≡ f
 same_formula f = ap from_words (sym (append-nil (words f))) ∙ ap first_of_list (put_words f [] [])
 
 abbrev pub formula_code : Coded Formula
-formula_code = code_by (List Word) (coded_list (coded× coded_ℕ (coded× coded_ℕ (coded× coded_ℕ coded_ℤ)))) words from_words same_formula
+formula_code = code_by (List Word) (coded_list (coded× coded_ℕ (coded× coded_ℕ (coded× coded_ℕ coded_ℤ))))
+    words from_words same_formula

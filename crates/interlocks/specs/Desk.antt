@@ -1,10 +1,10 @@
 use Rattle.std.specs.Prelude.{ℕ, List, Option}
-use Rattle.interlocks.specs.declared.reader.Frame.{Frame}
+use Rattle.interlocks.specs.declared.reader.Scope.{Scope}
 
 -- the brackets that are open, innermost first, what is read within the present ones, the nodes so far, and
 -- the place of the first name that nothing has
 pub record Desk : Type 0 where
-  pub outer : List Frame
-  pub frame : Frame
+  pub outer : List Scope
+  pub scope : Scope
   pub nodes : ℕ
   pub unknown : Option ℕ

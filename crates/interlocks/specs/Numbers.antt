@@ -1,4 +1,5 @@
-use Rattle.std.specs.Prelude.{ℕ, ◌+◌, ◌-◌, ◌*◌, ◌==◌, nat_le, nat_lt, Bool, true, false, not, ◌&&◌, if◌then◌else◌, List, [], ◌∷◌, Option, Some, None, ℤ, pos, neg_ℤ}
+use Rattle.std.specs.Prelude.{ℕ, ◌+◌, ◌-◌, ◌*◌, ◌==◌, nat_le, nat_lt, Bool, true, false, not, ◌&&◌, if◌then◌else◌}
+use Rattle.std.specs.Prelude.{List, [], ◌∷◌, Option, Some, None, ℤ, pos, neg_ℤ}
 use Rattle.std.specs.Option.{option_and_then, option_map}
 use Rattle.std.specs.Char.{is_ascii_digit}
 
@@ -18,7 +19,8 @@ is_empty (c ∷ cs) = false
 -- the number, at most 2^63, that a text of decimal digits spells with no 0 before another digit
 unfoldable pub magnitude : List ℕ → Option ℕ
 magnitude [] = None
-magnitude (d ∷ ds) = if (d == 48) && not (is_empty ds) then None else option_and_then at_most_2_63 (digits_on 0 (d ∷ ds))
+magnitude (d ∷ ds) = if (d == 48) && not (is_empty ds) then None else option_and_then at_most_2_63
+    (digits_on 0 (d ∷ ds))
 
 abbrev pub below_2_63 : ℕ → Option ℤ
 below_2_63 n = if nat_lt n 9223372036854775808 then Some (pos n) else None
@@ -26,4 +28,5 @@ below_2_63 n = if nat_lt n 9223372036854775808 then Some (pos n) else None
 -- the number of 64 bits that a text spells in decimal, behind a `-` or not
 abbrev pub number_of : List ℕ → Option ℤ
 number_of [] = None
-number_of (c ∷ cs) = if c == 45 then option_map (λ n. neg_ℤ (pos n)) (magnitude cs) else option_and_then below_2_63 (magnitude (c ∷ cs))
+number_of (c ∷ cs) = if c == 45 then option_map (λ n. neg_ℤ (pos n)) (magnitude cs) else option_and_then below_2_63
+    (magnitude (c ∷ cs))

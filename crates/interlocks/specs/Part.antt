@@ -10,4 +10,5 @@ pub record Part : Type 0 where
   pub levels : ℕ
 
 abbrev pub part_code : Coded Part
-part_code = code_by (Formula × ℕ) (coded× formula_code coded_ℕ) (λ p. (p.tree, p.levels)) (λ c. record { tree = c.0; levels = c.1 }) (λ _. refl)
+part_code = code_by (Formula × ℕ) (coded× formula_code coded_ℕ) (λ p. (p.tree, p.levels))
+    (λ c. record { tree = c.0; levels = c.1 }) (λ _. refl)

@@ -1,11 +1,12 @@
-use Rattle.std.specs.Prelude.{ℕ, ◌+◌, ◌-◌, max, nat_le, nat_lt, Bool, true, false, ◌&&◌, if◌then◌else◌, List, [], ◌∷◌, length, Option, Some, None, Result, Ok, Err, is_some, is_none, unwrap_or, take, drop}
+use Rattle.std.specs.Prelude.{ℕ, ◌+◌, ◌-◌, max, nat_le, nat_lt, Bool, true, false, ◌&&◌, if◌then◌else◌, List, [], ◌∷◌}
+use Rattle.std.specs.Prelude.{length, Option, Some, None, Result, Ok, Err, is_some, is_none, unwrap_or, take, drop}
 use Rattle.std.specs.Option.{option_map}
 use Rattle.point_table.specs.Table.{Table, point_named}
 use Rattle.alarm_rules.specs.Board.{Board, alarm_named}
 use Rattle.interlocks.specs.declared.tree.Comparison.{Comparison}
 use Rattle.interlocks.specs.declared.token.Token.{Token}
 use Rattle.interlocks.specs.declared.token.Token.TheVariants as token
-use Rattle.interlocks.specs.declared.reader.Frame.{Frame}
+use Rattle.interlocks.specs.declared.reader.Scope.{Scope}
 use Rattle.interlocks.specs.declared.reader.Phase.{Phase}
 use Rattle.interlocks.specs.declared.reader.Phase.TheVariants as phase
 use Rattle.interlocks.specs.declared.reader.State.{State}
@@ -32,7 +33,7 @@ one_if true = 1
 one_if false = 0
 
 -- how many levels stand above the present operand, its `not`s left out
-abbrev pub above : Frame → ℕ
+abbrev pub above : Scope → ℕ
 above f = f.base + one_if (is_some f.any) + one_if (is_some f.all)
 
 -- the levels of a chain that one more part ends: a chain of one part is no node
@@ -53,27 +54,27 @@ abbrev pub any_tree : Option Part → Formula → Formula
 any_tree None f = f
 any_tree (Some a) f = either a.tree f
 
-abbrev pub with_nots : Frame → ℕ → Frame
+abbrev pub with_nots : Scope → ℕ → Scope
 with_nots f n = record { base = f.base; any = f.any; all = f.all; nots = n }
 
-abbrev pub with_frame : Desk → Frame → Desk
-with_frame d f = record { outer = d.outer; frame = f; nodes = d.nodes; unknown = d.unknown }
+abbrev pub with_scope : Desk → Scope → Desk
+with_scope d f = record { outer = d.outer; scope = f; nodes = d.nodes; unknown = d.unknown }
 
 -- one more node below the present operand's place
 abbrev pub begin : Desk → Option Desk
-begin d = if nat_lt d.nodes 64 && nat_lt (above d.frame + d.frame.nots) 16
-    then Some (record { outer = d.outer; frame = d.frame; nodes = d.nodes + 1; unknown = d.unknown }) else None
+begin d = if nat_lt d.nodes 64 && nat_lt (above d.scope + d.scope.nots) 16
+    then Some (record { outer = d.outer; scope = d.scope; nodes = d.nodes + 1; unknown = d.unknown }) else None
 
 abbrev pub at_phase : Phase → Desk → State
 at_phase p d = record { desk = d; phase = p }
 
 abbrev pub noticed : Desk → State
-noticed d = at_phase phase.Operand (with_frame d (with_nots d.frame (d.frame.nots + 1)))
+noticed d = at_phase phase.Operand (with_scope d (with_nots d.scope (d.scope.nots + 1)))
 
 abbrev pub opened : Desk → State
 opened d = at_phase phase.Operand (record {
-  outer = d.frame ∷ d.outer;
-  frame = record { base = above d.frame + d.frame.nots + 1; any = None; all = None; nots = 0 };
+  outer = d.scope ∷ d.outer;
+  scope = record { base = above d.scope + d.scope.nots + 1; any = None; all = None; nots = 0 };
   nodes = d.nodes;
   unknown = d.unknown;
 })
@@ -85,21 +86,30 @@ unknown_after None (Some n) place = None
 unknown_after None None place = Some place
 
 abbrev pub with_name : Desk → Option ℕ → ℕ → Desk
-with_name d found place = record { outer = d.outer; frame = d.frame; nodes = d.nodes; unknown = unknown_after d.unknown found place }
+with_name d found place = record {
+  outer = d.outer;
+  scope = d.scope;
+  nodes = d.nodes;
+  unknown =
+      unknown_after d.unknown found place;
+}
 
 -- a leaf that is whole
 abbrev pub with_leaf : Desk → Formula → State
-with_leaf d f = at_phase (phase.Done (record { tree = negated d.frame.nots f; levels = d.frame.nots + 1 })) (with_frame d (with_nots d.frame 0))
+with_leaf d f = at_phase (phase.Done (record { tree = negated d.scope.nots f; levels = d.scope.nots + 1 }))
+    (with_scope d (with_nots d.scope 0))
 
 abbrev pub operand : Names → Desk → Token → Piece → Option State
 operand names d token.Not t = option_map noticed (begin d)
 operand names d token.Open t = option_map opened (begin d)
 operand names d token.Alarm t = option_map (at_phase phase.AlarmName) (begin d)
-operand names d token.Name t = option_map (λ d. let found = point_named names.points.points t.text in at_phase (phase.Comparison (unwrap_or found 0)) (with_name d found t.place)) (begin d)
+operand names d token.Name t = option_map (λ d. let found = point_named names.points.points t.text in
+    at_phase (phase.Comparison (unwrap_or found 0)) (with_name d found t.place)) (begin d)
 operand names d _ t = None
 
 abbrev pub alarm_name : Names → Desk → Token → Piece → Option State
-alarm_name names d token.Name t = let found = alarm_named names.alarms.rules t.text in Some (with_leaf (with_name d found t.place) (alarm (unwrap_or found 0)))
+alarm_name names d token.Name t = let found = alarm_named names.alarms.rules t.text in
+    Some (with_leaf (with_name d found t.place) (alarm (unwrap_or found 0)))
 alarm_name names d _ t = None
 
 abbrev pub comparison : Desk → ℕ → Token → Option State
@@ -111,49 +121,59 @@ number d point c (token.Number z) = Some (with_leaf d (compare point c z))
 number d point c _ = None
 
 abbrev pub after_and : Desk → Part → Option State
-after_and d p = if nat_le (d.nodes + one_if (is_none d.frame.all)) 64 && nat_le (d.frame.base + one_if (is_some d.frame.any) + 1 + p.levels) 16
+after_and d p = if nat_le (d.nodes + one_if (is_none d.scope.all)) 64
+    && nat_le (d.scope.base + one_if (is_some d.scope.any) + 1 + p.levels) 16
     then Some (at_phase phase.Operand (record {
       outer = d.outer;
-      frame = record {
-        base = d.frame.base;
-        any = d.frame.any;
-        all = Some (record { tree = all_tree d.frame.all p.tree; levels = grown_levels d.frame.all p.levels });
+      scope = record {
+        base = d.scope.base;
+        any = d.scope.any;
+        all = Some (record { tree = all_tree d.scope.all p.tree; levels = grown_levels d.scope.all p.levels });
         nots = 0;
       };
-      nodes = d.nodes + one_if (is_none d.frame.all);
+      nodes = d.nodes + one_if (is_none d.scope.all);
       unknown = d.unknown;
     })) else None
 
 abbrev pub after_or : Desk → Part → Option State
-after_or d p = let levels = chain_levels d.frame.all p.levels in
-    if nat_le (d.nodes + one_if (is_none d.frame.any)) 64 && nat_le (d.frame.base + 1 + levels) 16
+after_or d p = let levels = chain_levels d.scope.all p.levels in
+    if nat_le (d.nodes + one_if (is_none d.scope.any)) 64 && nat_le (d.scope.base + 1 + levels) 16
     then Some (at_phase phase.Operand (record {
       outer = d.outer;
-      frame = record {
-        base = d.frame.base;
-        any = Some (record { tree = any_tree d.frame.any (all_tree d.frame.all p.tree); levels = grown_levels d.frame.any levels });
+      scope = record {
+        base = d.scope.base;
+        any = Some (record {
+          tree = any_tree d.scope.any (all_tree d.scope.all p.tree);
+          levels =
+              grown_levels d.scope.any levels;
+        });
         all = None;
         nots = 0;
       };
-      nodes = d.nodes + one_if (is_none d.frame.any);
+      nodes = d.nodes + one_if (is_none d.scope.any);
       unknown = d.unknown;
     })) else None
 
 -- the whole of a pair of brackets, or of a text, that a part ends
-abbrev pub any_part : Frame → Part → Part
-any_part f p = record { tree = any_tree f.any (all_tree f.all p.tree); levels = chain_levels f.any (chain_levels f.all p.levels) }
+abbrev pub any_part : Scope → Part → Part
+any_part f p = record {
+  tree = any_tree f.any (all_tree f.all p.tree);
+  levels =
+      chain_levels f.any (chain_levels f.all p.levels);
+}
 
-abbrev pub closed : Desk → List Frame → Part → Option State
+abbrev pub closed : Desk → List Scope → Part → Option State
 closed d [] inner = None
 closed d (f ∷ fs) inner = let levels = f.nots + 1 + inner.levels in
     if nat_le (above f + levels) 16
-    then Some (at_phase (phase.Done (record { tree = negated f.nots (bracket inner.tree); levels = levels })) (record { outer = fs; frame = with_nots f 0; nodes = d.nodes; unknown = d.unknown }))
+    then Some (at_phase (phase.Done (record { tree = negated f.nots (bracket inner.tree); levels = levels }))
+    (record { outer = fs; scope = with_nots f 0; nodes = d.nodes; unknown = d.unknown }))
     else None
 
 abbrev pub after_part : Desk → Part → Token → Option State
 after_part d p token.And = after_and d p
 after_part d p token.Or = after_or d p
-after_part d p token.Close = closed d d.outer (any_part d.frame p)
+after_part d p token.Close = closed d d.outer (any_part d.scope p)
 after_part d p _ = None
 
 abbrev pub in_phase : Names → Desk → Phase → Token → Piece → Option State
@@ -167,14 +187,14 @@ in_phase names d (phase.Done p) k t = after_part d p k
 unfoldable pub step : Names → State → Piece → Option State
 step names s t = in_phase names s.desk s.phase (token_of t.text) t
 
-abbrev pub whole_in : List Frame → Frame → Phase → Option Formula
+abbrev pub whole_in : List Scope → Scope → Phase → Option Formula
 whole_in [] f (phase.Done p) = Some (any_part f p).tree
 whole_in [] f _ = None
 whole_in (g ∷ gs) f p = None
 
 -- the rule that is read, where the text may end there
 abbrev pub whole : State → Option Formula
-whole s = whole_in s.desk.outer s.desk.frame s.phase
+whole s = whole_in s.desk.outer s.desk.scope s.phase
 
 abbrev pub or_unknown : Option ℕ → Formula → Result Formula RuleRefusal
 or_unknown None f = Ok f
@@ -194,7 +214,8 @@ or_bad place (Some s) = Ok s
 
 -- the state after a token, which ends within 256 bytes
 unfoldable pub taken : Names → State → Piece → Result State RuleRefusal
-taken names s t = if nat_lt 256 (t.place + length t.text) then Err (BadRule t.place) else or_bad t.place (step names s t)
+taken names s t = if nat_lt 256 (t.place + length t.text) then Err (BadRule t.place)
+    else or_bad t.place (step names s t)
 
 -- goes on after a token that was taken
 abbrev pub go_on : Result State RuleRefusal → (State → Result Formula RuleRefusal) → Result Formula RuleRefusal
@@ -206,7 +227,12 @@ run names len s [] = ended len s
 run names len s (t ∷ ts) = go_on (taken names s t) (λ s'. run names len s' ts)
 
 abbrev pub start : State
-start = at_phase phase.Operand (record { outer = []; frame = record { base = 0; any = None; all = None; nots = 0 }; nodes = 0; unknown = None })
+start = at_phase phase.Operand (record {
+  outer = [];
+  scope = record { base = 0; any = None; all = None; nots = 0 };
+  nodes = 0;
+  unknown = None;
+})
 
 -- the rule that a text spells, or why it spells none: the first token that can't stand there or passes a
 -- limit, else the first name that nothing has
@@ -220,4 +246,5 @@ taken_before names s (c ∷ cs) end = taken names s (record { place = end - leng
 
 -- the answer for a text that is read up to a place, where the present token begins at another
 unfoldable pub here : Names → List ℕ → State → ℕ → ℕ → Result Formula RuleRefusal
-here names text s start place = run names (length text) s (pieces_on (take (place - start) (drop start text)) place (drop place text))
+here names text s start place =
+    run names (length text) s (pieces_on (take (place - start) (drop start text)) place (drop place text))

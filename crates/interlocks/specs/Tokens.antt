@@ -1,11 +1,13 @@
-use Rattle.std.specs.Prelude.{ℕ, suc, ◌-◌, ◌==◌, nat_le, Bool, false, not, ◌&&◌, ◌||◌, if◌then◌else◌, List, [], ◌∷◌, ◌++◌, length, Option, Some, None, ℤ, codes}
+use Rattle.std.specs.Prelude.{ℕ, suc, ◌-◌, ◌==◌, nat_le, Bool, false, not, ◌&&◌, ◌||◌, if◌then◌else◌, List, [], ◌∷◌}
+use Rattle.std.specs.Prelude.{◌++◌, length, Option, Some, None, ℤ, codes}
 use Rattle.std.specs.List.{list_all}
 use Rattle.std.specs.Str.{bytes_eq}
 use Rattle.std.specs.Char.{is_ascii_digit, is_ascii_alphanumeric}
 use Rattle.interlocks.specs.declared.tree.Comparison.{Comparison}
 use Rattle.interlocks.specs.declared.tree.Comparison.TheVariants.{Equal, NotEqual, Below, AtMost, Above, AtLeast}
 use Rattle.interlocks.specs.declared.token.Token.{Token}
-use Rattle.interlocks.specs.declared.token.Token.TheVariants.{Or, And, Not, Alarm, Open, Close, Name, Compare, Number, Other}
+use Rattle.interlocks.specs.declared.token.Token.TheVariants.{Or, And, Not, Alarm, Open, Close, Name, Compare, Number}
+use Rattle.interlocks.specs.declared.token.Token.TheVariants.{Other}
 use Rattle.interlocks.specs.Numbers.{number_of, is_empty}
 
 -- a letter, a digit or `_`, in ASCII
@@ -16,7 +18,8 @@ is_word_byte b = is_ascii_alphanumeric b || (b == 95)
 -- with the bytes of a word; `<`, `>` and `!` go on with `=`
 abbrev pub continues : List ℕ → ℕ → Bool
 continues [] b = false
-continues (c ∷ cs) b = if is_word_byte c || (c == 45) then is_word_byte b else is_empty cs && (b == 61) && ((c == 60) || (c == 62) || (c == 33))
+continues (c ∷ cs) b = if is_word_byte c || (c == 45) then is_word_byte b else is_empty cs && (b == 61)
+    && ((c == 60) || (c == 62) || (c == 33))
 
 -- a token: its bytes, and the place of the first
 pub record Piece : Type 0 where
@@ -35,7 +38,8 @@ begun b = if b == 32 then [] else b ∷ []
 -- the tokens of a text: each is as long as its bytes go on, and spaces stand between
 abbrev pub pieces_on : List ℕ → ℕ → List ℕ → List Piece
 pieces_on begun_text place [] = piece_before begun_text place []
-pieces_on begun_text place (b ∷ bs) = if continues begun_text b then pieces_on (begun_text ++ b ∷ []) (suc place) bs else piece_before begun_text place (pieces_on (begun b) (suc place) bs)
+pieces_on begun_text place (b ∷ bs) = if continues begun_text b then pieces_on (begun_text ++ b ∷ []) (suc place)
+    bs else piece_before begun_text place (pieces_on (begun b) (suc place) bs)
 
 abbrev pub pieces : List ℕ → List Piece
 pieces text = pieces_on [] 0 text

@@ -6,7 +6,7 @@ ghost use Rattle.interlocks.specs.Tokens.{Piece};
 ghost use Rattle.point_table.specs.Table.{Table};
 ghost use Rattle.alarm_rules.specs.Board.{Board};
 
-use crate::refusal::{RuleRefusal, Stop};
+use crate::refusal::{RuleRefusal, TokenRefusal};
 use crate::token::{Token, token_of};
 use crate::tree::{Comparison, Tree, and, group, not, or};
 use alarm_rules::Alarms;
@@ -14,6 +14,7 @@ use plain_lists::Want;
 use point_table::Points;
 use std::alloc::Global;
 use std::marker::Model;
+use std::mem;
 
 /// The most nodes that a rule may have.
 const MOST_NODES: u32 = 64;
@@ -52,7 +53,7 @@ impl Part {
 
 /// What is read within one pair of brackets, or in the text itself.
 #[derive(Drop)]
-pub struct Frame {
+pub struct Scope {
     /// How many levels stand above.
     base: u8,
     /// The parts of `or` so far.
@@ -78,33 +79,50 @@ pub enum Phase {
 }
 
 /// The brackets that are open, and what is read so far.
-#[derive(Drop)]
 pub struct Desk {
     alloc: Global,
-    outer: Vec<Frame, Global>,
-    frame: Frame,
+    outer: Vec<Scope, Global>,
+    scope: Scope,
     nodes: u8,
     unknown: Option<u64>,
+}
+
+// Taken apart here once, since most functions below let go of one at each early return.
+impl Drop for Desk {
+    fn drop(self) {
+        let Desk {
+            alloc: _,
+            outer: _,
+            scope: _,
+            nodes: _,
+            unknown: _,
+        } = self;
+    }
 }
 
 impl Model for Desk {
     ghost use Rattle.std.specs.Prelude.{reverse};
     ghost use Rattle.interlocks.specs.Desk as spec;
-    ghost use Rattle.interlocks.specs.contracts.reader.Frame as frame_type;
+    ghost use Rattle.interlocks.specs.contracts.reader.Scope as scope_type;
     ghost use Rattle.std.specs.Coded.{codes};
 
     ghost Value = { spec.Desk };
 
-    ghost coded = { Prim.hlevel (codes, frame_type.the_row.coded) };
+    ghost coded = { Prim.hlevel (codes, scope_type.the_row.coded) };
 
-    ghost view = { λ desk. record { outer = reverse desk.outer.items; frame = desk.frame; nodes = desk.nodes; unknown = desk.unknown } };
+    ghost view = { λ desk. record { outer = reverse desk.outer.items; scope = desk.scope; nodes = desk.nodes; unknown = desk.unknown } };
 }
 
 /// A rule that is being read.
-#[derive(Drop)]
 pub struct State {
     desk: Desk,
     phase: Phase,
+}
+
+impl Drop for State {
+    fn drop(self) {
+        let State { desk: _, phase: _ } = self;
+    }
 }
 
 impl State {
@@ -116,19 +134,26 @@ impl State {
             desk: Desk {
                 alloc,
                 outer: Vec::new(alloc),
-                frame: empty_frame(0),
+                scope: empty_scope(0),
                 nodes: 0,
                 unknown: None,
             },
             phase: Phase::Operand,
         }
     }
+
+    fn apart(self) -> (Desk, Phase)
+        ensures { result ≡ (self.desk, self.phase) }
+    {
+        let State { desk, phase } = self;
+        (desk, phase)
+    }
 }
 
-fn empty_frame(base: u8) -> Frame
+fn empty_scope(base: u8) -> Scope
     ensures { result ≡ record { base = base; any = None; all = None; nots = 0 } }
 {
-    Frame {
+    Scope {
         base,
         any: None,
         all: None,
@@ -143,11 +168,11 @@ fn one_if(is_there: bool) -> u32
 }
 
 /// How many levels stand above the present operand, its `not`s left out.
-fn above(frame: &Frame) -> u32
-    ensures value { result ≡ above frame.now }
+fn above(scope: &Scope) -> u32
+    ensures value { result ≡ above scope.now }
     ensures bound { result ≤ 257 }
 {
-    u32::from(frame.base) + one_if(frame.any.is_some()) + one_if(frame.all.is_some())
+    u32::from(scope.base) + one_if(scope.any.is_some()) + one_if(scope.all.is_some())
 }
 
 /// The levels of a chain that one more part ends.
@@ -164,24 +189,24 @@ fn chain_levels(parts: &Option<Part>, levels: u32) -> u32
 }
 
 /// One more node below the present operand's place.
-fn begin(desk: Desk) -> Result<Desk, Stop>
+fn begin(desk: Desk) -> Result<Desk, TokenRefusal>
     ensures { Gives result (begin desk) }
 {
     let mut desk = desk;
-    let levels = above(&desk.frame) + u32::from(desk.frame.nots);
+    let levels = above(&desk.scope) + u32::from(desk.scope.nots);
     if u32::from(desk.nodes) >= MOST_NODES || levels >= MOST_LEVELS {
-        return Err(Stop::Misplaced);
+        return Err(TokenRefusal::Misplaced);
     }
     desk.nodes += 1;
     Ok(desk)
 }
 
 /// A `not` before the present operand.
-fn noticed(desk: Desk) -> Result<State, Stop>
+fn noticed(desk: Desk) -> Result<State, TokenRefusal>
     ensures { Gives result (option_map noticed (begin desk)) }
 {
     let mut desk = begin(desk)?;
-    desk.frame.nots += 1;
+    desk.scope.nots += 1;
     Ok(State {
         desk,
         phase: Phase::Operand,
@@ -189,27 +214,15 @@ fn noticed(desk: Desk) -> Result<State, Stop>
 }
 
 /// A bracket that opens.
-fn opened(desk: Desk) -> Result<State, Stop>
+fn opened(desk: Desk) -> Result<State, TokenRefusal>
     ensures { Gives result (option_map opened (begin desk)) }
 {
-    let desk = begin(desk)?;
-    let base = above(&desk.frame) + u32::from(desk.frame.nots) + 1;
-    let Desk {
-        alloc,
-        mut outer,
-        frame,
-        nodes,
-        unknown,
-    } = desk;
-    outer.push(frame).map_err(Want::from)?;
+    let mut desk = begin(desk)?;
+    let base = above(&desk.scope) + u32::from(desk.scope.nots) + 1;
+    let scope = mem::replace(&mut desk.scope, empty_scope(base as u8));
+    desk.outer.push(scope).map_err(Want::from)?;
     Ok(State {
-        desk: Desk {
-            alloc,
-            outer,
-            frame: empty_frame(base as u8),
-            nodes,
-            unknown,
-        },
+        desk,
         phase: Phase::Operand,
     })
 }
@@ -235,13 +248,13 @@ fn with_name(desk: Desk, found: Option<u32>, place: u64) -> Desk
 }
 
 /// A leaf that is whole.
-fn with_leaf(desk: Desk, leaf: Tree) -> Result<State, Stop>
+fn with_leaf(desk: Desk, leaf: Tree) -> Result<State, TokenRefusal>
     ensures { Gives result (Some (with_leaf desk (formula leaf))) }
 {
     let mut desk = desk;
-    let nots = desk.frame.nots;
+    let nots = desk.scope.nots;
     let tree = not(desk.alloc, leaf, nots)?;
-    desk.frame.nots = 0;
+    desk.scope.nots = 0;
     Ok(State {
         desk,
         phase: Phase::Done(Part {
@@ -258,7 +271,7 @@ fn operand(
     text: &[u8],
     place: u64,
     points: &Points,
-) -> Result<State, Stop>
+) -> Result<State, TokenRefusal>
     ensures { (alarms : Board) → Gives result (operand (record { points = points.now; alarms = alarms }) desk token (record { place = place; text = text.now })) }
 {
     match token {
@@ -276,7 +289,7 @@ fn operand(
                 phase: Phase::Comparison(found.unwrap_or(0)),
             })
         }
-        _ => Err(Stop::Misplaced),
+        _ => Err(TokenRefusal::Misplaced),
     }
 }
 
@@ -287,7 +300,7 @@ fn alarm_name(
     text: &[u8],
     place: u64,
     alarms: &Alarms,
-) -> Result<State, Stop>
+) -> Result<State, TokenRefusal>
     ensures { (points : Table) → Gives result (alarm_name (record { points = points; alarms = alarms.now }) desk token (record { place = place; text = text.now })) }
 {
     match token {
@@ -298,12 +311,12 @@ fn alarm_name(
                 Tree::Alarm(found.unwrap_or(0)),
             )
         }
-        _ => Err(Stop::Misplaced),
+        _ => Err(TokenRefusal::Misplaced),
     }
 }
 
 /// How a point is compared.
-fn comparison(desk: Desk, point: u32, token: Token) -> Result<State, Stop>
+fn comparison(desk: Desk, point: u32, token: Token) -> Result<State, TokenRefusal>
     ensures { Gives result (comparison desk point token) }
 {
     match token {
@@ -311,17 +324,22 @@ fn comparison(desk: Desk, point: u32, token: Token) -> Result<State, Stop>
             desk,
             phase: Phase::Number(point, comparison),
         }),
-        _ => Err(Stop::Misplaced),
+        _ => Err(TokenRefusal::Misplaced),
     }
 }
 
 /// With which number a point is compared.
-fn number(desk: Desk, point: u32, comparison: Comparison, token: Token) -> Result<State, Stop>
+fn number(
+    desk: Desk,
+    point: u32,
+    comparison: Comparison,
+    token: Token,
+) -> Result<State, TokenRefusal>
     ensures { Gives result (number desk point comparison token) }
 {
     match token {
         Token::Number(number) => with_leaf(desk, Tree::Compare(point, comparison, number)),
-        _ => Err(Stop::Misplaced),
+        _ => Err(TokenRefusal::Misplaced),
     }
 }
 
@@ -355,6 +373,20 @@ fn joined_any(alloc: Global, parts: Option<Part>, tree: Tree) -> Result<Tree, Wa
     }
 }
 
+/// All that is read within a pair of brackets, as one tree.
+fn joined(alloc: Global, scope: Scope, tree: Tree) -> Result<Tree, Want>
+    ensures { IfOk result (λ joined. formula joined ≡ any_tree scope.any (all_tree scope.all (formula tree))) }
+{
+    let Scope {
+        base: _,
+        any,
+        all,
+        nots: _,
+    } = scope;
+    let tree = joined_all(alloc, all, tree)?;
+    joined_any(alloc, any, tree)
+}
+
 /// The levels of a chain's parts after one more.
 fn grown_levels(parts: &Option<Part>, levels: u16) -> u16
     ensures { result ≡ grown_levels parts.now levels }
@@ -366,140 +398,76 @@ fn grown_levels(parts: &Option<Part>, levels: u16) -> u16
 }
 
 /// An `and` behind a part.
-fn after_and(desk: Desk, part: Part) -> Result<State, Stop>
+fn after_and(desk: Desk, part: Part) -> Result<State, TokenRefusal>
     ensures { Gives result (after_and desk part) }
 {
-    let Desk {
-        alloc,
-        outer,
-        frame: Frame {
-            base,
-            any,
-            all,
-            nots: _,
-        },
-        nodes,
-        unknown,
-    } = desk;
-    let Part { tree, levels } = part;
-    let nodes = u32::from(nodes) + one_if(all.is_none());
+    let mut desk = desk;
+    let nodes = u32::from(desk.nodes) + one_if(desk.scope.all.is_none());
     if nodes > MOST_NODES {
-        return Err(Stop::Misplaced);
+        return Err(TokenRefusal::Misplaced);
     }
-    if u32::from(base) + one_if(any.is_some()) + 1 + u32::from(levels) > MOST_LEVELS {
-        return Err(Stop::Misplaced);
+    let above = u32::from(desk.scope.base) + one_if(desk.scope.any.is_some()) + 1;
+    if above + u32::from(part.levels) > MOST_LEVELS {
+        return Err(TokenRefusal::Misplaced);
     }
+    let Part { tree, levels } = part;
+    let all = desk.scope.all.take();
     let levels = grown_levels(&all, levels);
-    let tree = joined_all(alloc, all, tree)?;
+    let tree = joined_all(desk.alloc, all, tree)?;
+    desk.scope.all = Some(Part { tree, levels });
+    desk.scope.nots = 0;
+    desk.nodes = nodes as u8;
     Ok(State {
-        desk: Desk {
-            alloc,
-            outer,
-            frame: Frame {
-                base,
-                any,
-                all: Some(Part { tree, levels }),
-                nots: 0,
-            },
-            nodes: nodes as u8,
-            unknown,
-        },
+        desk,
         phase: Phase::Operand,
     })
 }
 
 /// An `or` behind a part.
-fn after_or(desk: Desk, part: Part) -> Result<State, Stop>
+fn after_or(desk: Desk, part: Part) -> Result<State, TokenRefusal>
     ensures { Gives result (after_or desk part) }
 {
-    let Desk {
-        alloc,
-        outer,
-        frame: Frame {
-            base,
-            any,
-            all,
-            nots: _,
-        },
-        nodes,
-        unknown,
-    } = desk;
+    let mut desk = desk;
     let Part { tree, levels } = part;
-    let levels = chain_levels(&all, u32::from(levels));
-    let nodes = u32::from(nodes) + one_if(any.is_none());
-    if nodes > MOST_NODES {
-        return Err(Stop::Misplaced);
+    let levels = chain_levels(&desk.scope.all, u32::from(levels));
+    let nodes = u32::from(desk.nodes) + one_if(desk.scope.any.is_none());
+    let base = desk.scope.base;
+    if nodes > MOST_NODES || u32::from(base) + 1 + levels > MOST_LEVELS {
+        return Err(TokenRefusal::Misplaced);
     }
-    if u32::from(base) + 1 + levels > MOST_LEVELS {
-        return Err(Stop::Misplaced);
-    }
-    let levels = grown_levels(&any, levels as u16);
-    let tree = joined_all(alloc, all, tree)?;
-    let tree = joined_any(alloc, any, tree)?;
+    let scope = mem::replace(&mut desk.scope, empty_scope(base));
+    let levels = grown_levels(&scope.any, levels as u16);
+    let tree = joined(desk.alloc, scope, tree)?;
+    desk.scope.any = Some(Part { tree, levels });
+    desk.nodes = nodes as u8;
     Ok(State {
-        desk: Desk {
-            alloc,
-            outer,
-            frame: Frame {
-                base,
-                any: Some(Part { tree, levels }),
-                all: None,
-                nots: 0,
-            },
-            nodes: nodes as u8,
-            unknown,
-        },
+        desk,
         phase: Phase::Operand,
     })
 }
 
 /// A bracket that closes behind a part.
-fn closed(desk: Desk, part: Part) -> Result<State, Stop>
-    ensures { Gives result (closed desk desk.outer (any_part desk.frame part)) }
+fn closed(desk: Desk, part: Part) -> Result<State, TokenRefusal>
+    ensures { Gives result (closed desk desk.outer (any_part desk.scope part)) }
 {
-    let Desk {
-        alloc,
-        mut outer,
-        frame: Frame {
-            base: _,
-            any,
-            all,
-            nots: _,
-        },
-        nodes,
-        unknown,
-    } = desk;
+    let mut desk = desk;
     let Part { tree, levels } = part;
-    let Some(around) = outer.pop() else {
-        return Err(Stop::Misplaced);
+    let Some(around) = desk.outer.pop() else {
+        return Err(TokenRefusal::Misplaced);
     };
-    let inner = chain_levels(&any, chain_levels(&all, u32::from(levels)));
+    let inner = chain_levels(&desk.scope.all, u32::from(levels));
+    let inner = chain_levels(&desk.scope.any, inner);
     let levels = u32::from(around.nots) + 1 + inner;
     if above(&around) + levels > MOST_LEVELS {
-        return Err(Stop::Misplaced);
+        return Err(TokenRefusal::Misplaced);
     }
-    let tree = joined_all(alloc, all, tree)?;
-    let tree = joined_any(alloc, any, tree)?;
-    let Frame {
-        base,
-        any,
-        all,
-        nots,
-    } = around;
-    let tree = not(alloc, group(alloc, tree)?, nots)?;
+    let inside = mem::replace(&mut desk.scope, around);
+    let tree = joined(desk.alloc, inside, tree)?;
+    let tree = group(desk.alloc, tree)?;
+    let tree = not(desk.alloc, tree, desk.scope.nots)?;
+    desk.scope.nots = 0;
     Ok(State {
-        desk: Desk {
-            alloc,
-            outer,
-            frame: Frame {
-                base,
-                any,
-                all,
-                nots: 0,
-            },
-            nodes,
-            unknown,
-        },
+        desk,
         phase: Phase::Done(Part {
             tree,
             levels: levels as u16,
@@ -508,14 +476,14 @@ fn closed(desk: Desk, part: Part) -> Result<State, Stop>
 }
 
 /// What stands behind a part.
-fn after_part(desk: Desk, part: Part, token: Token) -> Result<State, Stop>
+fn after_part(desk: Desk, part: Part, token: Token) -> Result<State, TokenRefusal>
     ensures { Gives result (after_part desk part token) }
 {
     match token {
         Token::And => after_and(desk, part),
         Token::Or => after_or(desk, part),
         Token::Close => closed(desk, part),
-        _ => Err(Stop::Misplaced),
+        _ => Err(TokenRefusal::Misplaced),
     }
 }
 
@@ -527,10 +495,10 @@ pub fn step(
     place: u64,
     points: &Points,
     alarms: &Alarms,
-) -> Result<State, Stop>
+) -> Result<State, TokenRefusal>
     ensures { Gives result (step (record { points = points.now; alarms = alarms.now }) state (record { place = place; text = text.now })) }
 {
-    let State { desk, phase } = state;
+    let (desk, phase) = state.apart();
     let token = token_of(text);
     match phase {
         Phase::Operand => operand(desk, token, text, place, points),
@@ -546,32 +514,17 @@ pub fn step(
 pub fn finish(state: State, len: usize) -> Result<Tree, RuleRefusal>
     ensures { AnswersTree result (ended len state) }
 {
-    if len > MOST_BYTES {
-        return Err(RuleRefusal::BadRule { place: len as u64 });
-    }
-    let State { desk, phase } = state;
-    let Desk {
-        alloc,
-        outer,
-        frame: Frame {
-            base: _,
-            any,
-            all,
-            nots: _,
-        },
-        nodes: _,
-        unknown,
-    } = desk;
-    if !outer.is_empty() {
+    let (desk, phase) = state.apart();
+    if len > MOST_BYTES || !desk.outer.is_empty() {
         return Err(RuleRefusal::BadRule { place: len as u64 });
     }
     let Phase::Done(Part { tree, levels: _ }) = phase else {
         return Err(RuleRefusal::BadRule { place: len as u64 });
     };
-    if let Some(place) = unknown {
+    if let Some(place) = desk.unknown {
         return Err(RuleRefusal::NoName { place });
     }
-    let tree = joined_all(alloc, all, tree)?;
-    let tree = joined_any(alloc, any, tree)?;
-    Ok(tree)
+    let mut desk = desk;
+    let scope = mem::replace(&mut desk.scope, empty_scope(0));
+    Ok(joined(desk.alloc, scope, tree)?)
 }

@@ -27,19 +27,19 @@ impl From<Want> for RuleRefusal {
 
 /// Why a token is not taken.
 #[derive(Clone, Copy, Debug, PartialEq, Eq)]
-pub enum Stop {
+pub enum TokenRefusal {
     /// It can't stand there, or passes the limit of nodes or levels.
     Misplaced,
     Want,
 }
 
-impl From<Want> for Stop {
+impl From<Want> for TokenRefusal {
     ghost use Rattle.std.specs.Prelude.{◌≡◌};
-    ghost use Rattle.interlocks.specs.declared.refusal.Stop.TheVariants.{Want};
+    ghost use Rattle.interlocks.specs.declared.refusal.TokenRefusal.TheVariants.{Want};
 
     ghost from_gives = { λ _ e. e ≡ Want };
 
-    fn from(_refused: plain_lists::Want) -> Stop {
-        Stop::Want
+    fn from(_refused: plain_lists::Want) -> TokenRefusal {
+        TokenRefusal::Want
     }
 }

@@ -4,7 +4,7 @@ ghost use Rattle.interlocks.specs.Reading.{Names, read_rule, taken, taken_before
 ghost use Rattle.interlocks.specs.Tokens.{Piece};
 
 use crate::reader::{MOST_BYTES, State, finish, step};
-use crate::refusal::{RuleRefusal, Stop};
+use crate::refusal::{RuleRefusal, TokenRefusal};
 use crate::token::continues;
 use crate::tree::Tree;
 use alarm_rules::Alarms;
@@ -30,10 +30,10 @@ fn take(
     }
     match step(state, text, place as u64, points, alarms) {
         Ok(next) => Ok(next),
-        Err(Stop::Misplaced) => Err(RuleRefusal::BadRule {
+        Err(TokenRefusal::Misplaced) => Err(RuleRefusal::BadRule {
             place: place as u64,
         }),
-        Err(Stop::Want) => Err(RuleRefusal::Want),
+        Err(TokenRefusal::Want) => Err(RuleRefusal::Want),
     }
 }
 

@@ -76,14 +76,8 @@ pub fn tree_copy(alloc: Global, tree: &Tree) -> Result<Tree, Want>
         Tree::Compare(point, comparison, number) => {
             Ok(Tree::Compare(*point, *comparison, *number))
         }
-        Tree::Not(part) => {
-            let part = tree_copy(alloc, part)?;
-            Ok(Tree::Not(Box::new(alloc, part)?))
-        }
-        Tree::Group(part) => {
-            let part = tree_copy(alloc, part)?;
-            Ok(Tree::Group(Box::new(alloc, part)?))
-        }
+        Tree::Not(part) => not(alloc, tree_copy(alloc, part)?, 1),
+        Tree::Group(part) => group(alloc, tree_copy(alloc, part)?),
         Tree::And(left, right) => {
             let left = tree_copy(alloc, left)?;
             let right = tree_copy(alloc, right)?;

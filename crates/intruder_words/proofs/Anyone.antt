@@ -13,7 +13,8 @@ use Rattle.play_words.specs.declared.words.Word.{Word}
 use Rattle.play_words.specs.declared.words.Word.TheVariants as word
 use Rattle.intruder_words.specs.Speaking.{body_of}
 
-pub any_clients : (sizes : Sizes) (clients other : ℕ) (known : List (Signed Body)) (w : Word) → body_of (group_of sizes clients) known w ≡ body_of (group_of sizes other) known w
+pub any_clients : (sizes : Sizes) (clients other : ℕ) (known : List (Signed Body)) (w : Word) →
+    body_of (group_of sizes clients) known w ≡ body_of (group_of sizes other) known w
 unfolding body_of facts_of rows_of_frames plan_of certified is_voted prepared ordered stable
 any_clients sizes clients other known (word.PoRequest k update) = refl
 any_clients sizes clients other known (word.PoAck j k digest) = refl

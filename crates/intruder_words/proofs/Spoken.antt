@@ -14,28 +14,41 @@ use Rattle.play_words.specs.declared.words.Word.TheVariants as word
 use Rattle.intruder_words.specs.Speaking.{all_of, summary_named, report_named, plain_body, body_of}
 
 -- equal words are one body
-pub as-word : (g : Group) (known : List (Signed Body)) (v w : Word) → v ≡ w → (r : Result (Option Body) Want) → IfOk r (λ b. b ≡ body_of g known w) → IfOk r (λ b. b ≡ body_of g known v)
+pub as-word : (g : Group) (known : List (Signed Body)) (v w : Word) → v ≡ w → (r : Result (Option Body) Want) →
+    IfOk r (λ b. b ≡ body_of g known w) → IfOk r (λ b. b ≡ body_of g known v)
 as-word g known v w same r is = subst (λ (x : Word). IfOk r (λ b. b ≡ body_of g known x)) (sym same) is
 
 -- so are equal lists of names
-pub proposal-of : (known : List (Signed Body)) (v s : ℕ) (r : Result (Option Body) Want) (names others : List Ref) → names ≡ others
-    → IfOk r (λ b. b ≡ option_map (λ fs. body.PrePrepare record { v = v; s = s; frames = fs }) (all_of (map (summary_named known) names)))
-    → IfOk r (λ b. b ≡ option_map (λ fs. body.PrePrepare record { v = v; s = s; frames = fs }) (all_of (map (summary_named known) others)))
+pub proposal-of : (known : List (Signed Body)) (v s : ℕ) (r : Result (Option Body) Want) (names others : List Ref) →
+    names ≡ others
+    → IfOk r (λ b. b ≡ option_map (λ fs. body.PrePrepare record { v = v; s = s; frames = fs })
+    (all_of (map (summary_named known) names)))
+    → IfOk r (λ b. b ≡ option_map (λ fs. body.PrePrepare record { v = v; s = s; frames = fs })
+    (all_of (map (summary_named known) others)))
 proposal-of known v s r names others same is =
-    subst (λ (xs : List Ref). IfOk r (λ b. b ≡ option_map (λ fs. body.PrePrepare record { v = v; s = s; frames = fs }) (all_of (map (summary_named known) xs)))) same is
+    subst (λ (xs : List Ref). IfOk r (λ b. b ≡ option_map (λ fs. body.PrePrepare record { v = v; s = s; frames = fs })
+    (all_of (map (summary_named known) xs)))) same is
 
-pub new-view-of : (known : List (Signed Body)) (v : ℕ) (r : Result (Option Body) Want) (names others : List Ref) → names ≡ others
-    → IfOk r (λ b. b ≡ option_map (λ rs. body.NewView record { v = v; reports = rs }) (all_of (map (report_named known) names)))
-    → IfOk r (λ b. b ≡ option_map (λ rs. body.NewView record { v = v; reports = rs }) (all_of (map (report_named known) others)))
+pub new-view-of : (known : List (Signed Body)) (v : ℕ) (r : Result (Option Body) Want) (names others : List Ref) →
+    names ≡ others
+    → IfOk r (λ b. b ≡ option_map (λ rs. body.NewView record { v = v; reports = rs })
+    (all_of (map (report_named known) names)))
+    → IfOk r (λ b. b ≡ option_map (λ rs. body.NewView record { v = v; reports = rs })
+    (all_of (map (report_named known) others)))
 new-view-of known v r names others same is =
-    subst (λ (xs : List Ref). IfOk r (λ b. b ≡ option_map (λ rs. body.NewView record { v = v; reports = rs }) (all_of (map (report_named known) xs)))) same is
+    subst (λ (xs : List Ref). IfOk r (λ b. b ≡ option_map (λ rs. body.NewView record { v = v; reports = rs })
+    (all_of (map (report_named known) xs)))) same is
 
 -- the kinds beside these nine need no frame
 pub others-plain : (g : Group) (known : List (Signed Body)) (w : Word)
-    → ((k : ℕ) (update : Ref) → w ≡ word.PoRequest k update → ⊥) → ((j k : ℕ) (digest : Ref) → w ≡ word.PoAck j k digest → ⊥)
-    → ((v s : ℕ) (frames : List Ref) → w ≡ word.PrePrepare v s frames → ⊥) → ((v s : ℕ) (digest : Ref) → w ≡ word.Prepare v s digest → ⊥)
-    → ((v s : ℕ) (digest : Ref) → w ≡ word.Commit v s digest → ⊥) → ((v : ℕ) (base : Option ℕ) (items : List Item) → w ≡ word.Report v base items → ⊥)
-    → ((v : ℕ) (reports : List Ref) → w ≡ word.NewView v reports → ⊥) → ((j k : ℕ) → w ≡ word.Give j k → ⊥) → ((s : ℕ) → w ≡ word.GiveOrdered s → ⊥)
+    → ((k : ℕ) (update : Ref) → w ≡ word.PoRequest k update → ⊥) →
+    ((j k : ℕ) (digest : Ref) → w ≡ word.PoAck j k digest → ⊥)
+    → ((v s : ℕ) (frames : List Ref) → w ≡ word.PrePrepare v s frames → ⊥) →
+    ((v s : ℕ) (digest : Ref) → w ≡ word.Prepare v s digest → ⊥)
+    → ((v s : ℕ) (digest : Ref) → w ≡ word.Commit v s digest → ⊥) →
+    ((v : ℕ) (base : Option ℕ) (items : List Item) → w ≡ word.Report v base items → ⊥)
+    → ((v : ℕ) (reports : List Ref) → w ≡ word.NewView v reports → ⊥) → ((j k : ℕ) → w ≡ word.Give j k → ⊥) →
+    ((s : ℕ) → w ≡ word.GiveOrdered s → ⊥)
     → plain_body w ≡ body_of g known w
 unfolding body_of
 others-plain g known (word.PoRequest k update) a b c d e f h i j = absurd (a k update refl)

@@ -4,4 +4,4 @@ pub mod Telling
 pub mod Marking
 pub mod Certifying
 pub mod Speaking
-pub mod Kept
+pub mod Overheard

@@ -30,6 +30,10 @@ shown_by g marks mark = if is_marked g marks mark.s then Some mark.s else None
 -- the frame as the master's mark of the number
 abbrev pub mark_of : ℕ → ℕ → Signed Body → Option (Signed Mark)
 mark_of s master f = elim f.body [
-  | body.Mark b ↦ if nat_eq f.signer master && nat_eq b.s s then Some record { signer = f.signer; body = b; sig = f.sig } else None
+  | body.Mark b ↦ if nat_eq f.signer master && nat_eq b.s s then Some record {
+    signer = f.signer;
+    body = b;
+    sig = f.sig;
+  } else None
   | _ ↦ None
 ]

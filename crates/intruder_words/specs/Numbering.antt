@@ -12,4 +12,5 @@ lesser at (Some least) s = if nat_le s at || nat_le least s then Some least else
 abbrev pub IsNextNumber : List Certificate → ℕ → Option ℕ → Type 0
 IsNextNumber all at None = (c : Certificate) → IsIn c all → c.s ≤ at
 IsNextNumber all at (Some next) =
-    (at < next) × ((c : Certificate) × IsIn c all × (c.s ≡ next)) × ((c : Certificate) → IsIn c all → (c.s ≤ at) ⊎ (next ≤ c.s))
+    (at < next) × ((c : Certificate) × IsIn c all × (c.s ≡ next))
+    × ((c : Certificate) → IsIn c all → (c.s ≤ at) ⊎ (next ≤ c.s))

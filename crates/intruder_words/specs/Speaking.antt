@@ -82,7 +82,9 @@ abbrev pub report_with : ℕ → ℕ → List (Signed Mark) → List Certificate
 report_with v base marks certificates = record { v = v; base = base; marks = marks; certificates = certificates }
 
 abbrev pub report_of : Group → List OrderFact → ℕ → ℕ → List Item → Option Report
-report_of g facts v base items = option_and_then (λ marks. option_map (report_with v base marks) (certificates_known g facts items)) (marks_at g facts base)
+report_of g facts v base items =
+    option_and_then (λ marks. option_map (report_with v base marks) (certificates_known g facts items))
+    (marks_at g facts base)
 
 -- the base of a report for which none is told is the stable number
 abbrev pub base_or_stable : Group → List OrderFact → Option ℕ → ℕ
@@ -92,7 +94,8 @@ base_or_stable g facts (Some base) = base
 -- a certified request: the first with its update, and a quorum's acknowledgements
 abbrev pub give_with : Group → List (Signed Body) → ℕ → ℕ → Update → Option Give
 give_with g known j k u =
-    option_map (λ request. record { request = request; acks = quorum_of_acks g known j k (digest_of_update u) }) (first_of_list (filter_map (request_of j k u) known))
+    option_map (λ request. record { request = request; acks = quorum_of_acks g known j k (digest_of_update u) })
+    (first_of_list (filter_map (request_of j k u) known))
 
 abbrev pub give_of : Group → List (Signed Body) → ℕ → ℕ → Option Give
 give_of g known j k = option_and_then (give_with g known j k) (certified g known j k)
@@ -108,21 +111,29 @@ plain_body (word.TatBound v ticks) = Some (body.TatBound record { v = v; ticks =
 plain_body (word.Suspect v) = Some (body.Suspect record { v = v })
 plain_body (word.AskUpdate j k) = Some (body.AskUpdate record { j = j; k = k })
 plain_body (word.AskOrder s) = Some (body.AskOrder record { s = s })
-plain_body (word.Voucher client number order) = Some (body.Voucher record { client = client; number = number; order = order })
+plain_body (word.Voucher client number order) =
+    Some (body.Voucher record { client = client; number = number; order = order })
 plain_body (word.Mark s) = Some (body.Mark record { s = s })
 plain_body _ = None
 
--- The body that a word is where these frames are known; none where a frame or certificate that it needs isn't known, and
--- for a raw word.
+-- The body that a word is where these frames are known; none where a frame or certificate that it needs isn't known,
+-- and for a raw word.
 unfoldable pub body_of : Group → List (Signed Body) → Word → Option Body
-body_of g known (word.PoRequest k update) = option_map (λ u. body.PoRequest record { k = k; update = u }) (update_named known update)
-body_of g known (word.PoAck j k digest) = option_map (λ d. body.PoAck record { j = j; k = k; digest = d }) (digest_named g known digest)
-body_of g known (word.PrePrepare v s frames) = option_map (λ fs. body.PrePrepare record { v = v; s = s; frames = fs }) (all_of (map (summary_named known) frames))
-body_of g known (word.Prepare v s digest) = option_map (λ d. body.Prepare record { v = v; s = s; digest = d }) (digest_named g known digest)
-body_of g known (word.Commit v s digest) = option_map (λ d. body.Commit record { v = v; s = s; digest = d }) (digest_named g known digest)
+body_of g known (word.PoRequest k update) = option_map (λ u. body.PoRequest record { k = k; update = u })
+    (update_named known update)
+body_of g known (word.PoAck j k digest) = option_map (λ d. body.PoAck record { j = j; k = k; digest = d })
+    (digest_named g known digest)
+body_of g known (word.PrePrepare v s frames) = option_map (λ fs. body.PrePrepare record { v = v; s = s; frames = fs })
+    (all_of (map (summary_named known) frames))
+body_of g known (word.Prepare v s digest) = option_map (λ d. body.Prepare record { v = v; s = s; digest = d })
+    (digest_named g known digest)
+body_of g known (word.Commit v s digest) = option_map (λ d. body.Commit record { v = v; s = s; digest = d })
+    (digest_named g known digest)
 body_of g known (word.Report v base items) =
-    let facts = facts_of g known in option_map (λ report. body.Report report) (report_of g facts v (base_or_stable g facts base) items)
-body_of g known (word.NewView v reports) = option_map (λ rs. body.NewView record { v = v; reports = rs }) (all_of (map (report_named known) reports))
+    let facts = facts_of g known in
+    option_map (λ report. body.Report report) (report_of g facts v (base_or_stable g facts base) items)
+body_of g known (word.NewView v reports) = option_map (λ rs. body.NewView record { v = v; reports = rs })
+    (all_of (map (report_named known) reports))
 body_of g known (word.Give j k) = option_map (λ gift. body.Give gift) (give_of g known j k)
 body_of g known (word.GiveOrdered s) = option_map (λ gift. body.GiveOrdered gift) (given_order g (facts_of g known) s)
 body_of g known other = plain_body other

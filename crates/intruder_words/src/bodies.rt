@@ -27,11 +27,7 @@ fn update_named(known: &[Frame], which: Ref) -> Result<Option<Signed<Update>>, W
         return Ok(None);
     };
     match &frame.body {
-        Body::Update(update) => Ok(Some(Signed {
-            signer: frame.signer,
-            body: *update,
-            sig: frame.sig.copy()?,
-        })),
+        Body::Update(update) => Ok(Some(frame.with_body(*update)?)),
         _ => Ok(None),
     }
 }
@@ -44,11 +40,7 @@ fn summary_named(known: &[Frame], which: Ref) -> Result<Option<Signed<PoSummary>
         return Ok(None);
     };
     match &frame.body {
-        Body::PoSummary(summary) => Ok(Some(Signed {
-            signer: frame.signer,
-            body: summary.copy()?,
-            sig: frame.sig.copy()?,
-        })),
+        Body::PoSummary(summary) => Ok(Some(frame.with_body(summary.copy()?)?)),
         _ => Ok(None),
     }
 }
@@ -61,11 +53,7 @@ fn report_named(known: &[Frame], which: Ref) -> Result<Option<Signed<Report>>, W
         return Ok(None);
     };
     match &frame.body {
-        Body::Report(report) => Ok(Some(Signed {
-            signer: frame.signer,
-            body: report.copy()?,
-            sig: frame.sig.copy()?,
-        })),
+        Body::Report(report) => Ok(Some(frame.with_body(report.copy()?)?)),
         _ => Ok(None),
     }
 }

@@ -4,11 +4,10 @@ ghost use Rattle.protocol_rules.specs.Group.{group_of};
 ghost use Rattle.intruder_words.specs.Speaking.{are_spelled, digest_in, digest_named};
 
 use crate::naming::named;
-use crate::telling::rows_of;
-use message_digests::{rows_digest, update_digest};
-use message_types::{Body, Frame};
+use message_types::{Body, Frame, rows_digest, update_digest};
 use plain_lists::Want;
 use play_words::Ref;
+use protocol_rules::rows_of;
 use quorum_sets::Sizes;
 use std::alloc::Global;
 

@@ -15,4 +15,5 @@ mod reports;
 mod requests;
 mod telling;
 
+pub use naming::kind_of;
 pub use overheard::Overheard;

@@ -9,7 +9,7 @@ ghost use Rattle.protocol_rules.specs.Words.{first_of_list, greatest_of};
 ghost use Rattle.intruder_words.specs.Marking.{marked_in, all_marked, is_marked_by, is_marked, shown_by, mark_of};
 
 use message_types::{Body, Frame, Mark, Signed};
-use plain_lists::{Copied, Items, Want};
+use plain_lists::{Items, Want, extend_option};
 use quorum_sets::Sizes;
 use std::alloc::Global;
 
@@ -55,7 +55,7 @@ fn all_marked(alloc: Global, known: &[Frame]) -> Result<Vec<Marked>, Want>
 {
     let mut marks = Vec::new(alloc);
     for frame in known {
-        push_marked(&mut marks, marked_in(frame))?;
+        extend_option(&mut marks, marked_in(frame))?;
     }
     Ok(marks)
 }
@@ -70,15 +70,6 @@ fn marked_in(frame: &Frame) -> Option<Marked>
         }),
         _ => None,
     }
-}
-
-fn push_marked(marks: &mut Vec<Marked>, mark: Option<Marked>) -> Result<(), Want>
-    ensures { OnOk result (marks.new.items ≡ marks.old.items ++ option_to_list mark) }
-{
-    if let Some(mark) = mark {
-        marks.push(mark)?;
-    }
-    Ok(())
 }
 
 /// The greatest number that a quorum marked, 0 where there is none.
@@ -133,7 +124,7 @@ fn first_marks(
     let mut marks = Vec::new(alloc);
     for master in 0..sizes.n {
         let mark = first_mark(known, s, master)?;
-        push_mark(&mut marks, mark)?;
+        extend_option(&mut marks, mark)?;
     }
     Ok(marks)
 }
@@ -155,20 +146,9 @@ fn mark_of(frame: &Frame, s: u64, master: u32) -> Result<Option<Signed<Mark>>, W
     ensures { IfOk result (λ mark. mark ≡ mark_of s master frame.now) }
 {
     match &frame.body {
-        Body::Mark(mark) if frame.signer == master && mark.s == s => Ok(Some(Signed {
-            signer: frame.signer,
-            body: *mark,
-            sig: frame.sig.copy()?,
-        })),
+        Body::Mark(mark) if frame.signer == master && mark.s == s => {
+            Ok(Some(frame.with_body(*mark)?))
+        }
         _ => Ok(None),
     }
-}
-
-fn push_mark(marks: &mut Vec<Signed<Mark>>, mark: Option<Signed<Mark>>) -> Result<(), Want>
-    ensures { OnOk result (marks.new.items ≡ marks.old.items ++ option_to_list mark) }
-{
-    if let Some(mark) = mark {
-        marks.push(mark)?;
-    }
-    Ok(())
 }

@@ -1,14 +1,15 @@
 ghost use Rattle.std.specs.Prelude.{◌≡◌, ◌&&◌, not, option_copied};
 ghost use Rattle.std.specs.List.{list_any};
+ghost use Rattle.message_types.specs.Kinds.{kind_number};
 ghost use Rattle.history_rules.specs.Sameness.{is_same_body};
-ghost use Rattle.intruder_words.specs.Naming.{kind_number, bears, named};
+ghost use Rattle.intruder_words.specs.Naming.{bears, named};
 
 use message_types::{Body, Frame};
 use plain_lists::Same;
 use play_words::Ref;
 
 /// The number of a body's kind, by which its text begins.
-fn kind_of(body: &Body) -> u16
+pub fn kind_of(body: &Body) -> u16
     ensures { result ≡ kind_number body.now }
 {
     match body {

@@ -10,9 +10,8 @@ ghost use Rattle.play_words.specs.Accepted.{is_accepted};
 ghost use Rattle.intruder_words.specs.Speaking.{body_of};
 
 use crate::bodies::body_of;
-use frame_parts::parts_of;
 use message_forms::{FormRefusal, read_frame};
-use message_types::{Body, Frame};
+use message_types::{Body, Frame, parts_of};
 use plain_lists::Want;
 use play_words::Word;
 use quorum_sets::Sizes;
@@ -41,7 +40,7 @@ impl Model for Overheard {
 
     ghost view = { λ a. a.known.items };
 
-    ghost use Rattle.intruder_words.specs.Kept.{IsHeld};
+    ghost use Rattle.intruder_words.specs.Overheard.{IsHeld};
 
     ghost invariant = { IsHeld };
 }

@@ -1,7 +1,7 @@
 ghost use Rattle.std.specs.Prelude.{◌≡◌, IfOk, IsTrue, []};
 ghost use Rattle.protocol_rules.specs.Group.{group_of};
 ghost use Rattle.protocol_rules.specs.Facts.{facts_of};
-ghost use Rattle.global_order.specs.Taken.{IsOrderOf};
+ghost use Rattle.global_order.specs.OrderState.{IsOrderOf, Where};
 ghost use Rattle.global_order.specs.Giving.{given_order};
 ghost use Rattle.intruder_words.specs.declared.asked.Asked.TheVariants as asked;
 ghost use Rattle.intruder_words.specs.Speaking.{are_spelled, certificates_known, report_of, base_or_stable};
@@ -35,11 +35,9 @@ fn base_or_stable(
 fn certificates_in(
     alloc: Global,
     order: &Order,
-    sizes: &Sizes,
     items: &[Item],
 ) -> Result<Option<Items<Certificate>>, Want>
-    requires { IsOrderOf (group_of sizes.now 0) order.now }
-    ensures { IfOk result (λ certificates. certificates ≡ certificates_known (group_of sizes.now 0) order.now.facts items.now) }
+    ensures { IfOk result (λ certificates. Where order.now (λ g facts said. certificates ≡ certificates_known g facts items.now)) }
 {
     let mut known = Items::new(alloc);
     for item in items {
@@ -61,14 +59,13 @@ fn certificates_by(
     question: &Asked,
     items: &[Item],
 ) -> Result<Option<Items<Certificate>>, Want>
-    requires order { IsOrderOf (group_of sizes.now 0) order.old }
-    requires new { order.old.facts ≡ [] }
+    requires new { IsOrderOf (group_of sizes.now 0) order.old [] [] }
     requires spelled { IsTrue (are_spelled known.now) }
     requires question { question.now ≡ asked.Prepares items.now }
     ensures { IfOk result (λ certificates. certificates ≡ certificates_known (group_of sizes.now 0) (facts_of (group_of sizes.now 0) known.now) items.now) }
 {
     tell_all(alloc, sizes, order, question, known)?;
-    certificates_in(alloc, order, sizes, items)
+    certificates_in(alloc, order, items)
 }
 
 /// All of these certificates. None exactly where one isn't known.
@@ -127,8 +124,7 @@ fn order_by(
     known: &[Frame],
     s: u64,
 ) -> Result<Option<GiveOrdered>, Want>
-    requires order { IsOrderOf (group_of sizes.now 0) order.old }
-    requires new { order.old.facts ≡ [] }
+    requires new { IsOrderOf (group_of sizes.now 0) order.old [] [] }
     requires spelled { IsTrue (are_spelled known.now) }
     ensures { IfOk result (λ gift. gift ≡ given_order (group_of sizes.now 0) (facts_of (group_of sizes.now 0) known.now) s) }
 {

@@ -5,13 +5,12 @@ ghost use Rattle.protocol_rules.specs.Words.{first_of_list};
 ghost use Rattle.protocol_rules.specs.Group.{group_of};
 ghost use Rattle.protocol_rules.specs.Preorder.{certified, update_requested, is_ack, is_acked};
 ghost use Rattle.protocol_rules.specs.Reconcile.{ack_of, quorum_of_acks};
-ghost use Rattle.gifts.specs.Kept.{request_with};
+ghost use Rattle.reconcile.specs.GiftState.{request_with};
 ghost use Rattle.intruder_words.specs.Certifying.{is_about, first_acked};
 ghost use Rattle.intruder_words.specs.Speaking.{give_with, give_of};
 
-use message_digests::update_digest;
-use message_types::{Body, Frame, Give, PoAck, PoRequest, Signed, Update};
-use plain_lists::{Copied, Items, Want};
+use message_types::{Body, Frame, Give, PoAck, PoRequest, Signed, Update, update_digest};
+use plain_lists::{Copied, Items, Want, extend_option};
 use quorum_sets::Sizes;
 use std::alloc::Global;
 
@@ -139,11 +138,7 @@ fn request_with(
             if frame.signer == j
                 && request.k == k
                 && update_digest(&request.update.body) == digest => {
-            Ok(Some(Signed {
-                signer: frame.signer,
-                body: request.copy()?,
-                sig: frame.sig.copy()?,
-            }))
+            Ok(Some(frame.with_body(request.copy()?)?))
         }
         _ => Ok(None),
     }
@@ -178,11 +173,9 @@ fn ack_of(
     ensures { IfOk result (λ ack. ack ≡ ack_of j k digest master frame.now) }
 {
     match &frame.body {
-        Body::PoAck(ack) if is_ack(frame, j, k, digest, master) => Ok(Some(Signed {
-            signer: frame.signer,
-            body: *ack,
-            sig: frame.sig.copy()?,
-        })),
+        Body::PoAck(ack) if is_ack(frame, j, k, digest, master) => {
+            Ok(Some(frame.with_body(*ack)?))
+        }
         _ => Ok(None),
     }
 }
@@ -206,15 +199,6 @@ fn first_ack(
     Ok(None)
 }
 
-fn push_ack(acks: &mut Vec<Signed<PoAck>>, ack: Option<Signed<PoAck>>) -> Result<(), Want>
-    ensures { OnOk result (acks.new.items ≡ acks.old.items ++ option_to_list ack) }
-{
-    if let Some(ack) = ack {
-        acks.push(ack)?;
-    }
-    Ok(())
-}
-
 /// The first acknowledgements of the `q` lowest masters that acknowledged the request with this digest.
 fn quorum_of_acks(
     alloc: Global,
@@ -229,7 +213,7 @@ fn quorum_of_acks(
     let mut acks = Vec::new(alloc);
     for master in 0..sizes.n {
         let ack = first_ack(known, j, k, digest, master)?;
-        push_ack(&mut acks, ack)?;
+        extend_option(&mut acks, ack)?;
     }
     acks.truncate(sizes.q as usize);
     Ok(Items::from_vec(alloc, acks))

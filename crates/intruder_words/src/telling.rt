@@ -1,5 +1,5 @@
-ghost use Rattle.std.specs.Prelude.{◌≡◌, ◌++◌, ◌∷◌, [], OnOk, IfOk, IsTrue, map, nat_eq, option_copied};
-ghost use Rattle.std.specs.List.{find, list_all, list_any};
+ghost use Rattle.std.specs.Prelude.{◌≡◌, ◌∷◌, [], OnOk, IsTrue, map};
+ghost use Rattle.std.specs.List.{list_all, list_any};
 ghost use Rattle.message_types.specs.Spelling.{rows_fit, summary_fits, frames_fit, body_fits};
 ghost use Rattle.protocol_rules.specs.declared.facts.OrderFact.TheVariants as fact;
 ghost use Rattle.protocol_rules.specs.Group.{group_of};
@@ -7,19 +7,18 @@ ghost use Rattle.protocol_rules.specs.Facts.{facts_of, tells};
 ghost use Rattle.protocol_rules.specs.Matrix.{rows_of_frames};
 ghost use Rattle.protocol_rules.specs.Plans.{plan_of};
 ghost use Rattle.view_change.specs.Planning.{is_spelled, are_spelled as certificates_spelled};
-ghost use Rattle.global_order.specs.Taken.{IsOrderOf};
+ghost use Rattle.global_order.specs.OrderState.{IsOrderOf, Learns};
 ghost use Rattle.intruder_words.specs.declared.asked.Asked.{Asked};
-ghost use Rattle.intruder_words.specs.Telling.{is_item, asks_prepare, asks_commit, IsTold, IsAlike, row_of};
+ghost use Rattle.intruder_words.specs.Telling.{is_item, asks_prepare, asks_commit, IsTold, KnowsAlike};
 ghost use Rattle.intruder_words.specs.Speaking.{are_spelled};
 
 use crate::asked::Asked;
 use crate::plans::plan_rows;
 use global_order::Order;
-use message_types::{
-    Body, Certificate, Commit, Frame, NewView, PoSummary, PrePrepare, Prepare, Rows, Signed,
-};
-use plain_lists::{Bytes, Copied, Items, Vector, Want};
+use message_types::{Body, Certificate, Commit, Frame, NewView, PrePrepare, Prepare, Rows, Signed};
+use plain_lists::{Bytes, Copied, Want};
 use play_words::Item;
+use protocol_rules::rows_of;
 use quorum_sets::Sizes;
 use std::alloc::Global;
 
@@ -31,11 +30,9 @@ pub fn tell_all(
     question: &Asked,
     known: &[Frame],
 ) -> Result<(), Want>
-    requires sizes { IsOrderOf (group_of sizes.now 0) order.old }
-    requires new { order.old.facts ≡ [] }
+    requires new { IsOrderOf (group_of sizes.now 0) order.old [] [] }
     requires spelled { IsTrue (are_spelled known.now) }
-    ensures sizes { OnOk result (IsOrderOf (group_of sizes.now 0) order.new) }
-    ensures alike { OnOk result (IsAlike question.now order.new.facts (facts_of (group_of sizes.now 0) known.now)) }
+    ensures { OnOk result (KnowsAlike question.now (group_of sizes.now 0) order.new (facts_of (group_of sizes.now 0) known.now)) }
 {
     for frame in known {
         tell(alloc, sizes, order, question, frame)?;
@@ -186,42 +183,12 @@ fn tell_plan(
 /// Hands it rows.
 fn tell_rows(order: &mut Order, all: &[Rows]) -> Result<(), Want>
     requires { IsTrue (list_all rows_fit all.now) }
-    ensures { OnOk result (order.new ≡ record order.old { facts = order.old.facts ++ map fact.Rows all.now }) }
+    ensures { OnOk result (Learns order.old order.new (map fact.Rows all.now)) }
 {
     for rows in all {
         order.take_rows(rows)?;
     }
     Ok(())
-}
-
-/// The rows of summaries: at each master's place those that it signed, an empty row where it signed none.
-pub fn rows_of(alloc: Global, sizes: &Sizes, frames: &[Signed<PoSummary>]) -> Result<Rows, Want>
-    requires { IsTrue (frames_fit summary_fits frames.now) }
-    ensures rows { IfOk result (λ rows. rows ≡ rows_of_frames (group_of sizes.now 0) frames.now) }
-    ensures fit { IfOk result (λ rows. IsTrue (rows_fit rows)) }
-{
-    let mut rows = Items::new(alloc);
-    for master in 0..sizes.n {
-        rows.push(row_of(alloc, frames, master)?)?;
-    }
-    Ok(rows)
-}
-
-/// The numbers of the first summary that the master signed, none where it signed none.
-fn row_of(alloc: Global, frames: &[Signed<PoSummary>], master: u32) -> Result<Vector, Want>
-    ensures { IfOk result (λ row. row ≡ row_of frames.now master) }
-{
-    match first_signed(frames, master) {
-        Some(frame) => frame.body.numbers.copy(),
-        None => Ok(Items::new(alloc)),
-    }
-}
-
-/// The first summary that the master signed.
-fn first_signed(frames: &[Signed<PoSummary>], master: u32) -> Option<&Signed<PoSummary>>
-    ensures { option_copied result ≡ find (λ f. nat_eq f.signer master) frames.now }
-{
-    frames.iter().find(|frame| frame.signer == master)
 }
 
 /// Drops an order.

@@ -1,10 +1,11 @@
 -- An actor before its first event, with the keeper that its scenario gives it.
-use Rattle.std.proofs.Common.{◌≡◌, ℕ, ◌+◌, ◌<◌, ◌≤◌, Bool, true, false, cond, ◌&&◌, ◌||◌, not, List, [], ◌∷◌, length, nat_lt, nat_le, refl, sym, ◌∙◌, ap, subst, arith}
+use Rattle.std.proofs.Common.{◌≡◌, ℕ, ◌+◌, ◌<◌, ◌≤◌, Bool, true, false, cond, ◌&&◌, ◌||◌, not, List, [], ◌∷◌, length}
+use Rattle.std.proofs.Common.{nat_lt, nat_le, refl, sym, ◌∙◌, ap, subst, arith}
 use Rattle.std.specs.Prelude.{Option, Some, None, slice_get}
-use Rattle.std.proofs.lemmas.Bool.{false≢true, lt-ltb, le-ltb}
+use Rattle.std.proofs.lemmas.Bool.{false≢true, lt-ltb, le-ltb, and_right}
 use Rattle.std.proofs.lemmas.Bool.Decides.{nat_tests}
 use Rattle.std.proofs.lemmas.Option.{slice_get-get_or, get_or_from_slice_get}
-use Rattle.outside.specs.Kept.{Binder}
+use Rattle.outside.specs.Keepers.{Binder}
 use Rattle.quorum_sets.specs.Masters.{has_master}
 use Rattle.scenario_file.specs.Reading.{Contents}
 use Rattle.scenario_file.specs.Valid.{IsScenario}
@@ -28,34 +29,39 @@ abbrev keeper_if : Setup → ℕ → Bool → Option Binder
 keeper_if w actor correct = cond correct (fresh (w.failing actor)) None
 
 -- an intruded master has no keeper
-pub begins_with_none : (c : Contents) (actor : ℕ) → actor < masters_in c → has_master c.settings.intruded actor ≡ true → None ≡ first_keeper (setup_of c) actor
+pub begins_with_none : (c : Contents) (actor : ℕ) → actor < masters_in c →
+    has_master c.settings.intruded actor ≡ true → None ≡ first_keeper (setup_of c) actor
 begins_with_none c actor low intruded =
     sym (ap (keeper_if (setup_of c) actor)
-    (correct_is c actor ∙ both_not (nat_lt actor (masters_in c)) (has_master c.settings.intruded actor) (lt-ltb actor (masters_in c) low) intruded))
-
-both_false : (low intruded : Bool) → intruded ≡ false → (low && intruded) ≡ false
-both_false true intruded is = is
-both_false false intruded is = refl
+    (correct_is c actor ∙ both_not (nat_lt actor (masters_in c)) (has_master c.settings.intruded actor)
+    (lt-ltb actor (masters_in c) low) intruded))
 
 low_false : (low intruded : Bool) → low ≡ false → (low && intruded) ≡ false
 low_false true intruded is = absurd (false≢true (sym is))
 low_false false intruded is = refl
 
-pub not_intruded : (c : Contents) (actor : ℕ) → has_master c.settings.intruded actor ≡ false → (nat_lt actor (masters_in c) && has_master c.settings.intruded actor) ≡ false
-not_intruded c actor is = both_false (nat_lt actor (masters_in c)) (has_master c.settings.intruded actor) is
+pub not_intruded : (c : Contents) (actor : ℕ) → has_master c.settings.intruded actor ≡ false →
+    (nat_lt actor (masters_in c) && has_master c.settings.intruded actor) ≡ false
+not_intruded c actor is = and_right (nat_lt actor (masters_in c)) (has_master c.settings.intruded actor) is
 
-pub no_master : (c : Contents) (actor : ℕ) → masters_in c ≤ actor → (nat_lt actor (masters_in c) && has_master c.settings.intruded actor) ≡ false
-no_master c actor high = low_false (nat_lt actor (masters_in c)) (has_master c.settings.intruded actor) (le-ltb actor (masters_in c) high)
+pub no_master : (c : Contents) (actor : ℕ) → masters_in c ≤ actor →
+    (nat_lt actor (masters_in c) && has_master c.settings.intruded actor) ≡ false
+no_master c actor high = low_false (nat_lt actor (masters_in c)) (has_master c.settings.intruded actor)
+    (le-ltb actor (masters_in c) high)
 
 -- every other actor has one, with the failing calls that the scenario lists for it
-pub begins_with_some : (c : Contents) (actor : ℕ) (failing : List ℕ) → (nat_lt actor (masters_in c) && has_master c.settings.intruded actor) ≡ false
-    → Some failing ≡ slice_get c.failing actor → Some (record { entries = []; failing = failing; calls = 0; faults = 0 }) ≡ first_keeper (setup_of c) actor
+pub begins_with_some : (c : Contents) (actor : ℕ) (failing : List ℕ) →
+    (nat_lt actor (masters_in c) && has_master c.settings.intruded actor) ≡ false
+    → Some failing ≡ slice_get c.failing actor →
+    Some (record { entries = []; failing = failing; calls = 0; faults = 0 }) ≡ first_keeper (setup_of c) actor
 begins_with_some c actor failing other listed =
-    ap fresh (sym (get_or_from_slice_get c.failing actor failing [] (sym listed)) ∙ sym ((setup_goes_by c).failing actor))
+    ap fresh (sym (get_or_from_slice_get c.failing actor failing [] (sym listed))
+    ∙ sym ((setup_goes_by c).failing actor))
     ∙ sym (ap (keeper_if (setup_of c) actor) (correct_is c actor ∙ ap not other))
 
 -- there is a list of failing calls for each actor
-pub is_listed : (c : Contents) (actor : ℕ) → IsScenario c → actor < (group_in c).n + (group_in c).clients → None ≡ slice_get c.failing actor → ⊥
+pub is_listed : (c : Contents) (actor : ℕ) → IsScenario c → actor < (group_in c).n + (group_in c).clients →
+    None ≡ slice_get c.failing actor → ⊥
 is_listed c actor valid there none =
     let many = valid.failing in
     let low : actor < length c.failing = omega arith in
@@ -78,13 +84,16 @@ intruded_of true false is = absurd (false≢true (sym is))
 intruded_of false intruded is = absurd (false≢true (sym is))
 
 -- the two go together at the start
-pub begins_together : (c : Contents) (actor : ℕ) (b : BenchState) (k : Option Binder) → IsScenario c → actor < (group_in c).n + (group_in c).clients
+pub begins_together : (c : Contents) (actor : ℕ) (b : BenchState) (k : Option Binder) → IsScenario c →
+    actor < (group_in c).n + (group_in c).clients
     → b ≡ replayed c actor [] → k ≡ first_keeper (setup_of c) actor → Keeps b k false
 begins_together c actor b k valid there begun kept =
     subst (λ (x : BenchState). Keeps x k false) (sym begun)
-    (subst (λ (o : Option Binder). Keeps (replayed c actor []) o false) (sym kept) (by (is_correct (setup_of c) actor) refl))
+    (subst (λ (o : Option Binder). Keeps (replayed c actor []) o false) (sym kept)
+    (by (is_correct (setup_of c) actor) refl))
   where
-    by : (correct : Bool) → is_correct (setup_of c) actor ≡ correct → Keeps (replayed c actor []) (keeper_if (setup_of c) actor correct) false
+    by : (correct : Bool) → is_correct (setup_of c) actor ≡ correct →
+        Keeps (replayed c actor []) (keeper_if (setup_of c) actor correct) false
     by true is = record {
       works = refl;
       scenario = valid;
@@ -100,10 +109,14 @@ begins_together c actor b k valid there begun kept =
       works = refl;
       intruded = is;
       failing = (setup_goes_by c).failing actor
-          ∙ valid.intruded_keep_all actor (intruded_of (nat_lt actor (masters_in c)) (has_master c.settings.intruded actor) (sym (correct_is c actor) ∙ is));
+          ∙ valid.intruded_keep_all actor
+          (intruded_of (nat_lt actor (masters_in c)) (has_master c.settings.intruded actor)
+          (sym (correct_is c actor) ∙ is));
       running = refl;
     }
 
-pub begun_state : (c : Contents) (actor : ℕ) (b : BenchState) (k : Option Binder) → b ≡ replayed c actor [] → k ≡ first_keeper (setup_of c) actor
+pub begun_state : (c : Contents) (actor : ℕ) (b : BenchState) (k : Option Binder) → b ≡ replayed c actor [] →
+    k ≡ first_keeper (setup_of c) actor
     → made b k false ≡ first_state c actor
-begun_state c actor b k begun kept = ap (λ (x : BenchState). made x k false) begun ∙ ap (λ (o : Option Binder). made (replayed c actor []) o false) kept
+begun_state c actor b k begun kept = ap (λ (x : BenchState). made x k false) begun
+    ∙ ap (λ (o : Option Binder). made (replayed c actor []) o false) kept

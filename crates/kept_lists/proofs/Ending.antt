@@ -20,10 +20,12 @@ last_grown before e = ap (slice_get (before ++ e ∷ [])) (one_less before e) �
 pub before_grown : (before : List Entry) (e : Entry) → before_last (before ++ e ∷ []) ≡ before
 before_grown before e = ap (λ n. take n (before ++ e ∷ [])) (one_less before e) ∙ take-append_seam before (e ∷ [])
 
-pub frames_grown : (w : Setup) (actor : ℕ) (before : List Entry) (e : Entry) → frames_of_last w actor (before ++ e ∷ []) ≡ frames_after w actor before e
+pub frames_grown : (w : Setup) (actor : ℕ) (before : List Entry) (e : Entry) →
+    frames_of_last w actor (before ++ e ∷ []) ≡ frames_after w actor before e
 unfolding frames_of_last
 frames_grown w actor before e =
-    ap (λ b. frames_at w actor b (last_of (before ++ e ∷ []))) (before_grown before e) ∙ ap (frames_at w actor before) (last_grown before e)
+    ap (λ b. frames_at w actor b (last_of (before ++ e ∷ []))) (before_grown before e)
+    ∙ ap (frames_at w actor before) (last_grown before e)
 
 pub frames_nothing : (w : Setup) (actor : ℕ) → frames_of_last w actor [] ≡ []
 unfolding frames_of_last

@@ -1,4 +1,3 @@
-pub mod Answering
 pub mod Ending
 pub mod Replaying
 pub mod Calls
@@ -6,3 +5,4 @@ pub mod Acting
 pub mod Rereading
 pub mod Together
 pub mod Beginning
+pub mod TakenOut

@@ -1,9 +1,10 @@
--- What an actor's keeper has had and has. (This project's own: each entry is kept before its words are posted, and the first
--- call that fails is the last.)
-use Rattle.std.specs.Prelude.{◌≡◌, ℕ, zero, suc, Bool, true, false, ◌&&◌, List, length, nat_le, if◌then◌else◌, Ok, Err}
+-- What an actor's keeper has had and has. (This project's own: each entry is kept before its words are posted, and the
+-- first call that fails is the last.)
+use Rattle.std.specs.Prelude.{◌≡◌, ℕ, zero, suc, Bool, true, false, ◌&&◌, List, length, nat_le, if◌then◌else◌, Ok}
+use Rattle.std.specs.Prelude.{Err}
 use Rattle.std.specs.List.{list_any}
 use Rattle.outside.specs.declared.keepers.KeepAnswer.TheVariants as answer
-use Rattle.outside.specs.Kept.{Binder, BinderAppends, call_fails, after_call, after_fault}
+use Rattle.outside.specs.Keepers.{Binder, BinderAppends, call_fails, after_call, after_fault}
 use Rattle.history_rules.specs.Events.{Entry}
 use Rattle.history_rules.specs.Setup.{Setup}
 use Rattle.history_rules.specs.Keeping.{keeper_calls, is_halted}
@@ -22,8 +23,8 @@ calls_made failing (suc many) = if fails_within failing many then calls_made fai
 abbrev pub entries_kept : Setup → ℕ → List Entry → List Entry
 entries_kept w actor list = if is_halted w actor list then before_last list else list
 
--- The keeper was made with the actor's failing calls, had just the calls that its entries make, up to the first that fails,
--- and has the bytes of its entries, without one that halted the actor.
+-- The keeper was made with the actor's failing calls, had just the calls that its entries make, up to the first that
+-- fails, and has the bytes of its entries, without one that halted the actor.
 pub record GoesWith (w : Setup) (actor : ℕ) (list : List Entry) (k : Binder) : Type 0 where
   pub failing : k.failing ≡ w.failing actor
   pub calls : k.calls ≡ calls_made (w.failing actor) (length (keeper_calls list))

@@ -1,5 +1,6 @@
 -- Lists of entries as a keeper has them, and what an actor is that is made anew from them. (This project's own.)
-use Rattle.std.specs.Prelude.{◌≡◌, ℕ, ◌-◌, ◌^◌, ◌<◌, ◌≤◌, false, List, [], map, take, length, slice_get, Option, Some, None}
+use Rattle.std.specs.Prelude.{◌≡◌, ℕ, ◌-◌, ◌^◌, ◌<◌, ◌≤◌, false, List, [], map, take, length, slice_get, Option, Some}
+use Rattle.std.specs.Prelude.{None}
 use Rattle.message_types.specs.declared.signed.Signed.{Signed}
 use Rattle.message_types.specs.declared.body.Body.{Body}
 use Rattle.scenario_file.specs.Reading.{Contents}

@@ -1,10 +1,11 @@
 -- What contracts see of an actor with its keeper. (This project's own.)
-use Rattle.std.specs.Prelude.{◌≡◌, ℕ, ◌+◌, ◌<◌, Bool, true, false, List, [], ◌∷◌, ◌++◌, Option, Some, None, if◌then◌else◌}
+use Rattle.std.specs.Prelude.{◌≡◌, ℕ, ◌+◌, ◌<◌, Bool, true, false, List, [], ◌∷◌, ◌++◌, Option, Some, None}
+use Rattle.std.specs.Prelude.{if◌then◌else◌}
 use Rattle.std.specs.declared.vec.Vec.{Vec}
 use Rattle.std.specs.declared.alloc.Global.{Global}
 use Rattle.message_types.specs.declared.signed.Signed.{Signed}
 use Rattle.message_types.specs.declared.body.Body.{Body}
-use Rattle.outside.specs.Kept.{Binder}
+use Rattle.outside.specs.Keepers.{Binder}
 use Rattle.scenario_file.specs.Reading.{Contents}
 use Rattle.scenario_file.specs.Valid.{IsScenario}
 use Rattle.history_rules.specs.Events.{Event, is_restart}
@@ -54,13 +55,14 @@ Keeps b None halted = HasNone b halted
 
 -- an actor before its first event, with its keeper
 abbrev pub first_keeper : Setup → ℕ → Option Binder
-first_keeper w actor = if is_correct w actor then Some (record { entries = []; failing = w.failing actor; calls = 0; faults = 0 }) else None
+first_keeper w actor = if is_correct w actor then Some
+    (record { entries = []; failing = w.failing actor; calls = 0; faults = 0 }) else None
 
 abbrev pub first_state : Contents → ℕ → KeptState
 first_state c actor = record { bench = replayed c actor []; keeper = first_keeper (setup_of c) actor; is_spent = false }
 
--- The frames to post of an event: none where the actor is halted at it, at a restart those of the entry before again, since a
--- stop may have come before they went out, and else those of what it says.
+-- The frames to post of an event: none where the actor is halted at it, at a restart those of the entry before again,
+-- since a stop may have come before they went out, and else those of what it says.
 abbrev pub frames_kept : BenchState → ℕ → Event → List (Signed Body)
 frames_kept b stamp event =
     if is_halted (setup_in b) b.actor (b.list ++ entry_at b stamp event ∷ [])

@@ -1,6 +1,6 @@
 ghost use Rattle.std.specs.Prelude.{◌≡◌, ◌≤◌, IfOk, OnOk, IfSome, IsErrOf, IsSomeAnd};
 ghost use Rattle.outside.specs.Faults.{HasRisen};
-ghost use Rattle.outside.specs.Kept.{AppendGives, KeepCounts};
+ghost use Rattle.outside.specs.Keepers.{AppendGives, KeepCounts};
 ghost use Rattle.entry_texts.specs.Texts.{kept_text};
 ghost use Rattle.entry_texts.specs.Fits.{FitsEntry, HasCount};
 ghost use Rattle.kept_lists.specs.Lists.{last_of};

@@ -1,4 +1,5 @@
--- The public keys of a scenario's actors, as a text. (This project's own; the bytes of a key are those of RFC 8554, section 6.1.)
+-- The public keys of a scenario's actors, as a text. (This project's own; the bytes of a key are those of RFC 8554,
+-- section 6.1.)
 use Rattle.std.specs.Prelude.{ℕ, List, ◌++◌, codes}
 use Rattle.std.specs.List.{flat_map}
 use Rattle.hex.specs.Hex.{encode_lower}

@@ -1,4 +1,5 @@
--- Whether a signature of a message is verified, as a text. (What verifies is RFC 8554, section 6.3; the words are this project's own.)
+-- Whether a signature of a message is verified, as a text. (What verifies is RFC 8554, section 6.3; the words are this
+-- project's own.)
 use Rattle.std.specs.Prelude.{◌≡◌, ℕ, List, Option, None, Some, Result, Ok, Err, codes, string_bytes}
 use Rattle.std.specs.declared.string.String.{String}
 use Rattle.std.specs.declared.alloc.Global.{Global}

@@ -1,5 +1,6 @@
 -- Lanes that are chosen, and chains that grow in some lanes.
-use Rattle.std.proofs.Common.{◌≡◌, ℕ, ◌<◌, ◌≤◌, ◌+◌, ◌-◌, ◌%◌, ◌^◌, List, [], ◌∷◌, ◌++◌, length, slice_index, arith, refl, sym, ap, ◌∙◌, inl, inr, true, false, w32}
+use Rattle.std.proofs.Common.{◌≡◌, ℕ, ◌<◌, ◌≤◌, ◌+◌, ◌-◌, ◌%◌, ◌^◌, List, [], ◌∷◌, ◌++◌, length, slice_index, arith}
+use Rattle.std.proofs.Common.{refl, sym, ap, ◌∙◌, inl, inr, true, false, w32}
 use Rattle.std.specs.Prelude.{cond, ltb, map}
 use Rattle.std.specs.Simd.Lanes.{zip2}
 use Rattle.std.proofs.lemmas.Bool.{cases_lt, lt-ltb, le-ltb}
@@ -28,10 +29,12 @@ chosen_is s t a b j ls lt la lb below =
     let z : length (zip2 ltb s t) ≡ 8 = length-zip2 ltb s t (omega arith) ∙ ls in
     rw (tops_compared w32 ltb s t)
     (get_or-sel_l (zip2 ltb s t) a b j 0 (omega arith) (omega arith) (omega arith)
-    ∙ ap (λ m. cond m (slice_index a j) (slice_index b j)) (get_or-zip2 ltb s t j 0 0 false (omega arith) (omega arith)))
+    ∙ ap (λ m. cond m (slice_index a j) (slice_index b j))
+    (get_or-zip2 ltb s t j 0 0 false (omega arith) (omega arith)))
 
 pub zero_lane : (j : ℕ) → j < 8 → slice_index (0 ∷ 0 ∷ 0 ∷ 0 ∷ 0 ∷ 0 ∷ 0 ∷ 0 ∷ []) j ≡ 0
-zero_lane = below_eight (λ j. slice_index (0 ∷ 0 ∷ 0 ∷ 0 ∷ 0 ∷ 0 ∷ 0 ∷ 0 ∷ []) j ≡ 0) refl refl refl refl refl refl refl refl
+zero_lane = below_eight (λ j. slice_index (0 ∷ 0 ∷ 0 ∷ 0 ∷ 0 ∷ 0 ∷ 0 ∷ 0 ∷ []) j ≡ 0)
+    refl refl refl refl refl refl refl refl
 
 -- the number of a step is one byte, also where no step is left
 pub step_fits : (steps to now : ℕ) → to ≤ 2 ^ 8 → now ≡ cond (ltb steps to) steps 0 → now < 2 ^ 8
@@ -55,36 +58,38 @@ pub lane_more : (id : List ℕ) (q c from to left later_left steps now : ℕ) (s
     → kept ≡ cond (ltb steps to) next v
     → later ≡ cond (ltb steps to) ((steps + 1) % 2 ^ 32) steps
     → Lane (digest_bytes id 4) q c from to later_left later start kept
-lane_more id q c from to left later_left steps now start v next kept later l top count e_now e_next e_kept e_later = elim (cases_lt steps to) [
-  | inl lt ↦
-      let yes : ltb steps to ≡ true = lt-ltb steps to lt in
-      let n : now ≡ steps = rw yes at e_now in
-      let k : kept ≡ next = rw yes at e_kept in
-      let s : later ≡ (steps + 1) % 2 ^ 32 = rw yes at e_later in
-      let s1 : later ≡ steps + 1 = omega (arith, l.high, l.low) in
-      record {
-        low = omega (arith, l.low);
-        high = omega arith;
-        room = omega (arith, l.room);
-        value =
-            ap (λ x. digest_bytes x 8) k ∙ e_next ∙ ap (λ (x : ℕ). sha256 (step_text id q c x v)) n ∙ step_is_hash id q c steps v
-            ∙ ap (λ x. hash_under (digest_bytes id 4) q c (u8_bytes steps ++ x)) l.value
-            ∙ sym (chain-more (digest_bytes id 4) q c from steps (digest_bytes start 8) l.low)
-            ∙ ap (λ n. chain (digest_bytes id 4) q c from (n - from) (digest_bytes start 8)) (sym s1);
-      }
-  | inr ge ↦
-      let no : ltb steps to ≡ false = le-ltb steps to ge in
-      let k : kept ≡ v = rw no at e_kept in
-      let s : later ≡ steps = rw no at e_later in
-      record {
-        low = omega (arith, l.low);
-        high = omega (arith, l.high);
-        room = omega (arith, l.room);
-        value =
-            ap (λ x. digest_bytes x 8) k ∙ l.value
-            ∙ ap (λ n. chain (digest_bytes id 4) q c from (n - from) (digest_bytes start 8)) (sym s);
-      }
-]
+lane_more id q c from to left later_left steps now start v next kept later l top count e_now e_next e_kept e_later =
+    elim (cases_lt steps to) [
+      | inl lt ↦
+          let yes : ltb steps to ≡ true = lt-ltb steps to lt in
+          let n : now ≡ steps = rw yes at e_now in
+          let k : kept ≡ next = rw yes at e_kept in
+          let s : later ≡ (steps + 1) % 2 ^ 32 = rw yes at e_later in
+          let s1 : later ≡ steps + 1 = omega (arith, l.high, l.low) in
+          record {
+            low = omega (arith, l.low);
+            high = omega arith;
+            room = omega (arith, l.room);
+            value =
+                ap (λ x. digest_bytes x 8) k ∙ e_next ∙ ap (λ (x : ℕ). sha256 (step_text id q c x v)) n
+                ∙ step_is_hash id q c steps v
+                ∙ ap (λ x. hash_under (digest_bytes id 4) q c (u8_bytes steps ++ x)) l.value
+                ∙ sym (chain-more (digest_bytes id 4) q c from steps (digest_bytes start 8) l.low)
+                ∙ ap (λ n. chain (digest_bytes id 4) q c from (n - from) (digest_bytes start 8)) (sym s1);
+          }
+      | inr ge ↦
+          let no : ltb steps to ≡ false = le-ltb steps to ge in
+          let k : kept ≡ v = rw no at e_kept in
+          let s : later ≡ steps = rw no at e_later in
+          record {
+            low = omega (arith, l.low);
+            high = omega (arith, l.high);
+            room = omega (arith, l.room);
+            value =
+                ap (λ x. digest_bytes x 8) k ∙ l.value
+                ∙ ap (λ n. chain (digest_bytes id 4) q c from (n - from) (digest_bytes start 8)) (sym s);
+          }
+    ]
 
 -- before the first turn
 pub lane_none : (id : List ℕ) (q c from to left : ℕ) (start : List ℕ) → from ≤ to → to ≤ from + left
@@ -99,7 +104,8 @@ lane_none id q c from to left start order room =
     }
 
 -- after the last
-pub lane_done : (id : List ℕ) (q c from to left steps : ℕ) (start v : List ℕ) → Lane id q c from to left steps start v → left ≡ 0
+pub lane_done : (id : List ℕ) (q c from to left steps : ℕ) (start v : List ℕ) →
+    Lane id q c from to left steps start v → left ≡ 0
     → digest_bytes v 8 ≡ chain id q c from (to - from) (digest_bytes start 8)
 lane_done id q c from to left steps start v l none =
     let all : steps ≡ to = omega (arith, l.high, l.room) in

@@ -1,5 +1,7 @@
 -- Bytes as words of four, and lists of eight that are written one by one.
-use Rattle.std.proofs.Common.{◌≡◌, ◌≢◌, ◌≤◌, ◌<◌, ◌+◌, ◌*◌, ◌^◌, ℕ, zero, suc, List, [], ◌∷◌, ◌++◌, length, take, drop, slice_index, slice_set, w32, refl, sym, ap, ◌∙◌, arith, below_more, get_or-set_same, get_or-set_other}
+use Rattle.std.proofs.Common.{◌≡◌, ◌≢◌, ◌≤◌, ◌<◌, ◌+◌, ◌*◌, ◌^◌, ℕ, zero, suc, List, [], ◌∷◌, ◌++◌, length, take}
+use Rattle.std.proofs.Common.{drop, slice_index, slice_set, w32, refl, sym, ap, ◌∙◌, arith, below_more}
+use Rattle.std.proofs.Common.{get_or-set_same, get_or-set_other}
 use Rattle.std.proofs.lemmas.List.{drop-drop, get_or-drop, length-drop}
 use Rattle.std.proofs.lemmas.Nat.{be_bytes_4}
 use Rattle.std.proofs.Math.Seq.{take-add}
@@ -27,10 +29,13 @@ word_bytes : (v : List ℕ) (p : ℕ) → p + 4 ≤ length v → ((i : ℕ) → 
 word_bytes v p room bytes =
     let inside : 4 ≤ length (drop p v) = omega (arith, length-drop p v) in
     let none : p + 0 ≡ p = omega arith in
-    let first : slice_index (drop p v) 0 ≡ slice_index v p = get_or-drop p v 0 0 ∙ ap (λ (i : ℕ). slice_index v i) none in
-    let parts : take 4 (drop p v) ≡ slice_index v p ∷ slice_index v (p + 1) ∷ slice_index v (p + 2) ∷ slice_index v (p + 3) ∷ [] =
+    let first : slice_index (drop p v) 0 ≡ slice_index v p = get_or-drop p v 0 0
+    ∙ ap (λ (i : ℕ). slice_index v i) none in
+    let parts : take 4 (drop p v) ≡ slice_index v p ∷ slice_index v (p + 1) ∷ slice_index v (p + 2)
+    ∷ slice_index v (p + 3) ∷ [] =
     rw (first_four (drop p v) inside, first, get_or-drop p v 1 0, get_or-drop p v 2 0, get_or-drop p v 3 0) refl in
-    be_bytes_4 (slice_index v p ∷ slice_index v (p + 1) ∷ slice_index v (p + 2) ∷ slice_index v (p + 3) ∷ []) (word_at v p) refl
+    be_bytes_4 (slice_index v p ∷ slice_index v (p + 1) ∷ slice_index v (p + 2) ∷ slice_index v (p + 3) ∷ [])
+    (word_at v p) refl
     (four_below _ _ _ _ (bytes p) (bytes (p + 1)) (bytes (p + 2)) (bytes (p + 3))) refl
     ∙ sym parts
 
@@ -42,7 +47,8 @@ words_bytes v words at zero room bytes same = refl
 words_bytes v words at (suc n) room bytes same =
     let more : 4 * suc n ≡ 4 * n + 4 = omega arith in
     let word = ap (to_be_bytes w32) (same n (omega arith)) ∙ word_bytes v (at + 4 * n) (omega arith) bytes in
-    ap (λ x. x ++ to_be_bytes w32 (slice_index words n)) (words_bytes v words at n (omega arith) bytes (λ k lt. same k (omega arith)))
+    ap (λ x. x ++ to_be_bytes w32 (slice_index words n))
+    (words_bytes v words at n (omega arith) bytes (λ k lt. same k (omega arith)))
     ∙ ap (λ x. take (4 * n) (drop at v) ++ x) (word ∙ ap (take 4) (sym (drop-drop (4 * n) at v)))
     ∙ sym (ap (λ (m : ℕ). take m (drop at v)) more ∙ take-add (4 * n) 4 (drop at v))
 

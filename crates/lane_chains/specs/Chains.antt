@@ -1,6 +1,7 @@
 -- The chains of RFC 8554, section 4, many at a time. A chain's value has 32 bytes, and the values of
 -- chains 0 to n - 1 stand one behind the other.
-use Rattle.std.specs.Prelude.{◌≡◌, ◌≤◌, ◌<◌, ℕ, zero, suc, ◌+◌, ◌-◌, ◌*◌, List, [], ◌++◌, length, take, drop, slice_index}
+use Rattle.std.specs.Prelude.{◌≡◌, ◌≤◌, ◌<◌, ℕ, zero, suc, ◌+◌, ◌-◌, ◌*◌, List, [], ◌++◌, length, take, drop}
+use Rattle.std.specs.Prelude.{slice_index}
 use Rattle.wire_parts.specs.Fields.{u8_bytes}
 use Rattle.lane_chains.specs.Hash.{hash_under}
 
@@ -21,7 +22,8 @@ value_at values i = take 32 (drop (32 * i) values)
 
 -- chain i from value i of the starts, from step `from i` up to `to i`
 abbrev pub end_of : List ℕ → ℕ → List ℕ → List ℕ → List ℕ → ℕ → List ℕ
-end_of id q from to starts i = chain id q i (slice_index from i) (slice_index to i - slice_index from i) (value_at starts i)
+end_of id q from to starts i =
+    chain id q i (slice_index from i) (slice_index to i - slice_index from i) (value_at starts i)
 
 -- the first and the last steps of some chains, at most 265, which are those of digits of one bit
 -- (RFC 8554, section 4.1); no step's number is above 255

@@ -1,5 +1,6 @@
 -- One round more of the script, and one line more of the summary.
-use Rattle.std.proofs.Common.{◌≡◌, ◌+◌, ◌*◌, ◌%◌, ◌<◌, ◌≤◌, ℕ, suc, List, [], ◌∷◌, ◌++◌, map, drop, length, get_or, refl, sym, ◌∙◌, ap, arith, append_assoc, append-nil, drop-cons}
+use Rattle.std.proofs.Common.{◌≡◌, ◌+◌, ◌*◌, ◌%◌, ◌<◌, ◌≤◌, ℕ, suc, List, [], ◌∷◌, ◌++◌, map, drop, length, get_or}
+use Rattle.std.proofs.Common.{refl, sym, ◌∙◌, ap, arith, append_assoc, append-nil, drop-cons}
 use Rattle.std.specs.Borrow.{Bor}
 use Rattle.std.specs.List.{flat_map}
 use Rattle.std.proofs.lemmas.List.{drop_all}
@@ -22,24 +23,29 @@ rounds-next : (number rounds : ℕ) → rounds_text number (rounds + 1)
 unfolding rounds_text
 rounds-next number rounds = let later : rounds + 1 ≡ suc rounds = omega arith in ap (rounds_text number) later
 
-first-draw : (number i last current : ℕ) → last ≡ draw number (2 * i) → current ≡ next_draw last → current ≡ draw number (2 * i + 1)
+first-draw : (number i last current : ℕ) → last ≡ draw number (2 * i) → current ≡ next_draw last →
+    current ≡ draw number (2 * i + 1)
 first-draw number i last current before next = next ∙ ap next_draw before ∙ sym (draw-next number (2 * i))
 
-second-draw : (number i current next : ℕ) → current ≡ draw number (2 * i + 1) → next ≡ next_draw current → next ≡ draw number (2 * i + 2)
+second-draw : (number i current next : ℕ) → current ≡ draw number (2 * i + 1) → next ≡ next_draw current →
+    next ≡ draw number (2 * i + 2)
 second-draw number i current next before is =
     let two : 2 * i + 1 + 1 ≡ 2 * i + 2 = omega arith in
     is ∙ ap next_draw before ∙ sym (draw-next number (2 * i + 1)) ∙ ap (draw number) two
 
 -- the last draw after one round more
-pub last-more : (number i last current next : ℕ) → last ≡ draw number (2 * i) → current ≡ next_draw last → next ≡ next_draw current
+pub last-more : (number i last current next : ℕ) → last ≡ draw number (2 * i) → current ≡ next_draw last →
+    next ≡ next_draw current
     → next ≡ draw number (2 * (i + 1))
 last-more number i last current next before first second =
     let two : 2 * i + 2 ≡ 2 * (i + 1) = omega arith in
     second-draw number i current next (first-draw number i last current before first) second ∙ ap (draw number) two
 
 -- the script with one round more
-pub round-more : (number i last current next : ℕ) (old new : List ℕ) → last ≡ draw number (2 * i) → current ≡ next_draw last → next ≡ next_draw current
-    → old ≡ rounds_text number i → new ≡ old ++ round_text (current % 2001) (next % 2) → new ≡ rounds_text number (i + 1)
+pub round-more : (number i last current next : ℕ) (old new : List ℕ) → last ≡ draw number (2 * i) →
+    current ≡ next_draw last → next ≡ next_draw current
+    → old ≡ rounds_text number i → new ≡ old ++ round_text (current % 2001) (next % 2) →
+    new ≡ rounds_text number (i + 1)
 round-more number i last current next old new before first second made put =
     let one = first-draw number i last current before first in
     let two = second-draw number i current next one second in
@@ -52,13 +58,15 @@ round-more number i last current next old new before first second made put =
 abbrev pub shown : List (Bor (List ℕ)) → List (List ℕ)
 shown = map (λ line. line.now)
 
-next-drop : {X : Type 0} (xs : List X) (i : ℕ) (other : X) → i < length xs → drop i xs ≡ get_or xs i other ∷ drop (i + 1) xs
+next-drop : {X : Type 0} (xs : List X) (i : ℕ) (other : X) → i < length xs →
+    drop i xs ≡ get_or xs i other ∷ drop (i + 1) xs
 next-drop xs i other inside =
     let later : suc i ≡ i + 1 = omega arith in
     drop-cons xs i other inside ∙ ap (λ k. get_or xs i other ∷ drop k xs) later
 
 -- the text of one line more
-pub line-more : (f : List ℕ → List ℕ) (i : ℕ) (lines : List (Bor (List ℕ))) (other : Bor (List ℕ)) (old new all : List ℕ)
+pub line-more : (f : List ℕ → List ℕ) (i : ℕ) (lines : List (Bor (List ℕ))) (other : Bor (List ℕ))
+    (old new all : List ℕ)
     → i < length lines → old ++ flat_map f (shown (drop i lines)) ≡ all → new ≡ old ++ f (get_or lines i other).now
     → new ++ flat_map f (shown (drop (i + 1) lines)) ≡ all
 line-more f i lines other old new all inside made next =

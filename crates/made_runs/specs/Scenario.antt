@@ -22,4 +22,5 @@ made_seed number = replicate 28 0 ++ u32_bytes number
 -- four masters, this plant and one screen
 unfoldable pub made_scenario : ℕ → List ℕ
 made_scenario number =
-    codes "f = 1\nseed = \"" ++ encode_lower (made_seed number) ++ codes "\"\nscreens = 1\n" ++ proxies ++ points ++ rules
+    codes "f = 1\nseed = \"" ++ encode_lower (made_seed number) ++ codes "\"\nscreens = 1\n"
+    ++ proxies ++ points ++ rules

@@ -1,10 +1,12 @@
--- The summary of a run: the lines of its printed text that tell of a whole actor or of the whole run. (This project's own.)
+-- The summary of a run: the lines of its printed text that tell of a whole actor or of the whole run. (This project's
+-- own.)
 use Rattle.std.specs.Prelude.{ℕ, ◌==◌, nat_eq, Bool, List, [], ◌∷◌, ◌++◌, codes, if◌then◌else◌}
 use Rattle.std.specs.List.{flat_map, list_any, slice_split, starts_with}
 
 -- the words that such lines begin with
 abbrev pub heads : List (List ℕ)
-heads = codes "spire" ∷ codes "master" ∷ codes "proxy" ∷ codes "screen" ∷ codes "audit" ∷ codes "agree" ∷ codes "history" ∷ []
+heads = codes "spire" ∷ codes "master" ∷ codes "proxy" ∷ codes "screen" ∷ codes "audit"
+    ∷ codes "agree" ∷ codes "history" ∷ []
 
 abbrev pub sums_up : List ℕ → Bool
 sums_up line = list_any (λ head. starts_with nat_eq line head) heads

@@ -1,5 +1,5 @@
 -- What a master keeps in order to speak, before anything is known, and as more becomes known.
-use Rattle.std.proofs.Common.{◌≡◌, ℕ, ◌≤◌, List, [], ◌++◌, refl, sym, ◌∙◌, ap, subst, arith}
+use Rattle.std.proofs.Common.{◌≡◌, ℕ, ◌≤◌, List, [], ◌++◌, sym, ◌∙◌, ap, subst, arith}
 use Rattle.message_types.specs.declared.signed.Signed.{Signed}
 use Rattle.message_types.specs.declared.body.Body.{Body}
 use Rattle.protocol_rules.specs.declared.facts.OrderFact.{OrderFact}
@@ -9,17 +9,13 @@ use Rattle.protocol_rules.specs.Measures.{Told}
 use Rattle.protocol_rules.specs.Views.{view}
 use Rattle.agreement.proofs.Lists.{in_left}
 use Rattle.agreement.proofs.Grows.{view_more}
-use Rattle.leader_offers.specs.Offering.{Offered, AreOffersOf}
-use Rattle.leader_offers.proofs.Offering.{offers-facts}
+use Rattle.leader_proposals.specs.Offering.{Offered, AreOffersOf}
+use Rattle.leader_proposals.proofs.Offering.{offers-facts}
 use Rattle.master_knowledge.specs.declared.knowledge.Knowledge.{Knowledge}
 use Rattle.master_knowledge.specs.Knows.{Knows}
-use Rattle.master_knowledge.proofs.Growing.{facts_more}
-use Rattle.master_answers.specs.declared.speaker.Speaker.{Speaker}
-use Rattle.master_answers.specs.Speaks.{Speaks}
-
-none_told : (g : Group) → facts_of g [] ≡ []
-unfolding facts_of
-none_told g = refl
+use Rattle.master_answers.specs.declared.replica_state.ReplicaState.{ReplicaState}
+use Rattle.master_answers.specs.Replica.{IsReplicaOf}
+use Rattle.protocol_rules.proofs.Told.{told_more, none_told}
 
 pub starts_offers : (g : Group) (kept : Offered) → AreOffersOf g kept [] [] → AreOffersOf g kept (facts_of g []) []
 starts_offers g kept is = subst (λ (facts : List OrderFact). AreOffersOf g kept facts []) (sym (none_told g)) is
@@ -28,31 +24,36 @@ pub from_zero : (v w : ℕ) → v ≡ 0 → v ≤ w
 from_zero v w e = omega arith
 
 pub view_grows : (g : Group) (known more : List (Signed Body)) (v : ℕ) → v ≤ view g known → v ≤ view g (known ++ more)
-view_grows g known more v le = let grown : view g known ≤ view g (known ++ more) = view_more g known (known ++ more) (λ x h. in_left more h) in omega arith
+view_grows g known more v le = let grown : view g known ≤ view g (known ++ more) =
+    view_more g known (known ++ more) (λ x h. in_left more h) in omega arith
 
-pub offers_grow : (g : Group) (kept : Offered) (known more : List (Signed Body)) (said : List Body) → AreOffersOf g kept (facts_of g known) said → AreOffersOf g kept (facts_of g (known ++ more)) said
-offers_grow g kept known more said is = subst (λ (facts : List OrderFact). AreOffersOf g kept facts said) (sym (facts_more g known more)) (offers-facts g kept (facts_of g known) (facts_of g more) said is)
+pub offers_grow : (g : Group) (kept : Offered) (known more : List (Signed Body)) (said : List Body) →
+    AreOffersOf g kept (facts_of g known) said → AreOffersOf g kept (facts_of g (known ++ more)) said
+offers_grow g kept known more said is = subst (λ (facts : List OrderFact). AreOffersOf g kept facts said)
+    (sym (told_more g known more)) (offers-facts kept (facts_of g more) g (facts_of g known) said is)
 
-pub knowledge_may_grow : (g : Group) (me : ℕ) (kept : Speaker) (knowledge : Knowledge) (taken then_taken known more : List (Signed Body)) (told then_told : List Told) (said : List Body)
-    → Knows g me knowledge then_taken (known ++ more) then_told said → Speaks g me kept taken known told said
-    → Speaks g me (record kept { knowledge = knowledge }) then_taken (known ++ more) then_told said
-knowledge_may_grow g me kept knowledge taken then_taken known more told then_told said knows speaks = record {
-  own = speaks.own;
+pub knowledge_may_grow : (g : Group) (me : ℕ) (kept : ReplicaState) (knowledge : Knowledge)
+    (taken then_taken known more : List (Signed Body)) (told then_told : List Told) (said : List Body)
+    → Knows g me knowledge then_taken (known ++ more) then_told said → IsReplicaOf g me kept taken known told said
+    → IsReplicaOf g me (record kept { knowledge = knowledge }) then_taken (known ++ more) then_told said
+knowledge_may_grow g me kept knowledge taken then_taken known more told then_told said knows is_replica = record {
+  own = is_replica.own;
   knows = knows;
-  summary = speaks.summary;
-  offers = offers_grow g kept.offers known more said speaks.offers;
-  view = view_grows g known more kept.offers.progress.view speaks.view;
-  vouchers = speaks.vouchers;
+  summary = is_replica.summary;
+  proposer = offers_grow g kept.proposer known more said is_replica.proposer;
+  view = view_grows g known more kept.proposer.progress.view is_replica.view;
+  vouchers = is_replica.vouchers;
 }
 
-pub events_may_grow : (g : Group) (me : ℕ) (kept : Speaker) (knowledge : Knowledge) (taken known : List (Signed Body)) (told then_told : List Told) (said : List Body)
-    → Knows g me knowledge taken known then_told said → Speaks g me kept taken known told said
-    → Speaks g me (record kept { knowledge = knowledge }) taken known then_told said
-events_may_grow g me kept knowledge taken known told then_told said knows speaks = record {
-  own = speaks.own;
+pub events_may_grow : (g : Group) (me : ℕ) (kept : ReplicaState) (knowledge : Knowledge)
+    (taken known : List (Signed Body)) (told then_told : List Told) (said : List Body)
+    → Knows g me knowledge taken known then_told said → IsReplicaOf g me kept taken known told said
+    → IsReplicaOf g me (record kept { knowledge = knowledge }) taken known then_told said
+events_may_grow g me kept knowledge taken known told then_told said knows is_replica = record {
+  own = is_replica.own;
   knows = knows;
-  summary = speaks.summary;
-  offers = speaks.offers;
-  view = speaks.view;
-  vouchers = speaks.vouchers;
+  summary = is_replica.summary;
+  proposer = is_replica.proposer;
+  view = is_replica.view;
+  vouchers = is_replica.vouchers;
 }

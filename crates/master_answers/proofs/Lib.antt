@@ -9,3 +9,5 @@ pub mod Splitting
 pub mod Asking
 pub mod Reporting
 pub mod Speaking
+pub mod Ordered
+pub mod Vouched

@@ -9,17 +9,25 @@ use Rattle.protocol_rules.specs.Group.{Group}
 use Rattle.protocol_rules.specs.Order.{stable, marks_for, certificates_below}
 use Rattle.protocol_rules.specs.Views.{report_due, new_view_due}
 
-pub words_alike : (g : Group) (me : ℕ) (known : List (Signed Body)) (said : List Body) (base other : ℕ) (marks others : List (Signed Mark)) (certificates rest : List Certificate)
-    → base ≡ other → marks ≡ others → certificates ≡ rest
-    → report_due g known said base marks certificates ++ new_view_due g me known said ≡ report_due g known said other others rest ++ new_view_due g me known said
-words_alike g me known said base other marks others certificates rest e m c =
-    ap (λ b. report_due g known said b marks certificates ++ new_view_due g me known said) e
-    ∙ ap (λ ms. report_due g known said other ms certificates ++ new_view_due g me known said) m
-    ∙ ap (λ cs. report_due g known said other others cs ++ new_view_due g me known said) c
+pub view_alike : (g : Group) (me : ℕ) (known : List (Signed Body)) (said : List Body)
+    (facts : List OrderFact) (v w : ℕ) → v ≡ w
+    → report_due g known said (stable g facts) (marks_for g facts (stable g facts)) (certificates_below g facts v)
+    ++ new_view_due g me known said
+    ≡ report_due g known said (stable g facts) (marks_for g facts (stable g facts)) (certificates_below g facts w)
+    ++ new_view_due g me known said
+view_alike g me known said facts v w same =
+    ap (λ x. report_due g known said (stable g facts) (marks_for g facts (stable g facts))
+    (certificates_below g facts x) ++ new_view_due g me known said) same
 
-pub facts_alike : (g : Group) (me : ℕ) (known : List (Signed Body)) (said : List Body) (facts others : List OrderFact) (v w : ℕ) → facts ≡ others → v ≡ w
-    → report_due g known said (stable g facts) (marks_for g facts (stable g facts)) (certificates_below g facts v) ++ new_view_due g me known said
-    ≡ report_due g known said (stable g others) (marks_for g others (stable g others)) (certificates_below g others w) ++ new_view_due g me known said
-facts_alike g me known said facts others v w e h =
-    ap (λ fs. report_due g known said (stable g fs) (marks_for g fs (stable g fs)) (certificates_below g fs v) ++ new_view_due g me known said) e
-    ∙ ap (λ x. report_due g known said (stable g others) (marks_for g others (stable g others)) (certificates_below g others x) ++ new_view_due g me known said) h
+-- so do a base, marks and certificates that are those of the rules
+pub report_alike : (g : Group) (me : ℕ) (known : List (Signed Body)) (said : List Body) (facts : List OrderFact)
+    (v base : ℕ) (marks : List (Signed Mark)) (certificates : List Certificate)
+    → base ≡ stable g facts → marks ≡ marks_for g facts (stable g facts) → certificates ≡ certificates_below g facts v
+    → report_due g known said base marks certificates ++ new_view_due g me known said
+    ≡ report_due g known said (stable g facts) (marks_for g facts (stable g facts)) (certificates_below g facts v)
+    ++ new_view_due g me known said
+report_alike g me known said facts v base marks certificates from shown brought =
+    ap (λ b. report_due g known said b marks certificates ++ new_view_due g me known said) from
+    ∙ ap (λ ms. report_due g known said (stable g facts) ms certificates ++ new_view_due g me known said) shown
+    ∙ ap (λ cs. report_due g known said (stable g facts) (marks_for g facts (stable g facts)) cs
+    ++ new_view_due g me known said) brought

@@ -1,1 +1,2 @@
-pub mod Speaks
+pub mod Replica
+pub mod Late

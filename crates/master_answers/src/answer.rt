@@ -8,37 +8,38 @@ ghost use Rattle.protocol_rules.specs.Group.{Group};
 ghost use Rattle.protocol_rules.specs.Master.{Heard, known_at, taken_at, said_before, answers};
 ghost use Rattle.words_by_part.specs.Laws.{told_at};
 ghost use Rattle.master_knowledge.specs.Knows.{IsCaughtUp};
-ghost use Rattle.master_answers.specs.Speaks.{Speaks, IsSpeaker, HoldsOrders, clients_of};
+ghost use Rattle.master_answers.specs.Replica.{IsReplicaOf, IsReplicaState, HoldsOrders, clients_of};
 
 use crate::ask_words::say_asks;
 use crate::join::{join_first, join_last};
 use crate::order_words::say_orders;
-use crate::speaker::Speaker;
+use crate::replica_state::ReplicaState;
 use crate::tick_words::say_at_a_tick;
 use crate::view_words::say_views;
+use crate::{say_gifts, say_vouchers};
 use master_points::Master;
 use message_types::Body;
-use owed_words::{say_gifts, say_vouchers};
 use plain_lists::Want;
+use quorum_sets::MOST_CLIENTS;
 
-impl Speaker {
+impl ReplicaState {
     /// All that the master says at an event where it is free to, in the order of the kinds. Its parts must know the
     /// frame taken, be told of the event and have caught up, and `points` must be the plant after all updates executed.
     /// The words count as said from then on. After want of memory nothing more can be said of the state.
     pub fn answer(&mut self, points: &Master, at_tick: bool) -> Result<Vec<Body>, Want>
-        requires speaker { IsSpeaker self.old }
-        requires few { clients_of points.now ≤ 12 }
+        requires replica { IsReplicaState self.old }
+        requires few { clients_of points.now ≤ MOST_CLIENTS }
         requires counts { (c : ℕ) → c < clients_of points.now → slice_index self.old.vouchers.counts c ≤ length (slice_index_or points.now.lists c []) }
         ensures answers { IfOk result (λ bodies. (g : Group) (orders : List Change → ℕ → List ClientOrder) (me : ℕ) (before : List Heard) (took : Option (SignedWord Word))
-            → Speaks g me self.old (taken_at before took) (known_at before took) (told_at g before took at_tick) (said_before before)
+            → IsReplicaOf g me self.old (taken_at before took) (known_at before took) (told_at g before took at_tick) (said_before before)
             → IsCaughtUp g self.old.knowledge (known_at before took)
             → HoldsOrders g orders (known_at before took) points.now
             → bodies.items ≡ answers g orders me before took at_tick) }
-        ensures speaks { IfOk result (λ bodies. (g : Group) (orders : List Change → ℕ → List ClientOrder) (me : ℕ) (before : List Heard) (took : Option (SignedWord Word))
-            → Speaks g me self.old (taken_at before took) (known_at before took) (told_at g before took at_tick) (said_before before)
+        ensures is_replica { IfOk result (λ bodies. (g : Group) (orders : List Change → ℕ → List ClientOrder) (me : ℕ) (before : List Heard) (took : Option (SignedWord Word))
+            → IsReplicaOf g me self.old (taken_at before took) (known_at before took) (told_at g before took at_tick) (said_before before)
             → IsCaughtUp g self.old.knowledge (known_at before took)
             → HoldsOrders g orders (known_at before took) points.now
-            → Speaks g me self.new (taken_at before took) (known_at before took) (told_at g before took at_tick) (said_before before ++ bodies.items)) }
+            → IsReplicaOf g me self.new (taken_at before took) (known_at before took) (told_at g before took at_tick) (said_before before ++ bodies.items)) }
         ensures counts { OnOk result ((c : ℕ) → c < clients_of points.now → slice_index self.new.vouchers.counts c ≡ length (slice_index_or points.now.lists c [])) }
         ensures run { OnOk result (self.new.knowledge.run ≡ self.old.knowledge.run) }
     {
@@ -48,7 +49,7 @@ impl Speaker {
         let at_a_tick = say_at_a_tick(
             &self.knowledge,
             &mut self.summary,
-            &mut self.offers,
+            &mut self.proposer,
             self.me,
             at_tick,
         )?;

@@ -1,18 +1,19 @@
 ghost use Rattle.std.specs.Prelude.{◌≡◌, ◌++◌, ℕ, List, IfOk};
 ghost use Rattle.message_types.specs.declared.signed.Signed.{Signed as SignedWord};
 ghost use Rattle.message_types.specs.declared.body.Body.{Body as Word};
+ghost use Rattle.protocol_rules.specs.declared.facts.OrderFact.{OrderFact as Fact};
 ghost use Rattle.protocol_rules.specs.Group.{Group};
 ghost use Rattle.protocol_rules.specs.Facts.{facts_of};
 ghost use Rattle.protocol_rules.specs.Order.{ordered_run};
 ghost use Rattle.protocol_rules.specs.Reconcile.{ask_update_due, ask_order_due};
 ghost use Rattle.protocol_rules.specs.Master.{certified_requests, waiting_for, gap_of};
-ghost use Rattle.global_order.specs.Taken.{IsOrderOf};
+ghost use Rattle.global_order.specs.OrderState.{IsOrderOf};
 ghost use Rattle.execution.specs.Ran.{IsRunOf};
-ghost use Rattle.reconcile.specs.Kept.{AreAsksOf};
+ghost use Rattle.reconcile.specs.AskState.{AreAsksOf};
 
+use crate::{Split, split_words};
 use execution::Run;
 use global_order::Order;
-use owed_words::{Split, split_words};
 use plain_lists::Want;
 use reconcile::Asks;
 use std::alloc::Global;
@@ -26,14 +27,14 @@ pub(crate) fn say_asks(
     order: &Order,
     at_tick: bool,
 ) -> Result<Split, Want>
-    ensures early { IfOk result (λ words. (g : Group) (me : ℕ) (known : List (SignedWord Word)) (said : List Word)
-        → IsRunOf g run.now (certified_requests g known) (ordered_run g (facts_of g known)) → IsOrderOf g order.now → AreAsksOf g me asks.old known said
+    ensures early { IfOk result (λ words. (g : Group) (me : ℕ) (known : List (SignedWord Word)) (facts : List Fact) (ordered said : List Word)
+        → IsRunOf g run.now (certified_requests g known) (ordered_run g (facts_of g known)) → IsOrderOf g order.now facts ordered → AreAsksOf g me asks.old known said
         → words.early.items ≡ ask_update_due said at_tick (waiting_for g known)) }
-    ensures late { IfOk result (λ words. (g : Group) (me : ℕ) (known : List (SignedWord Word)) (said : List Word)
-        → IsRunOf g run.now (certified_requests g known) (ordered_run g (facts_of g known)) → IsOrderOf g order.now → AreAsksOf g me asks.old known said
-        → words.late.items ≡ ask_order_due said at_tick (gap_of g order.now.facts)) }
-    ensures said { IfOk result (λ words. (g : Group) (me : ℕ) (known : List (SignedWord Word)) (said : List Word)
-        → IsRunOf g run.now (certified_requests g known) (ordered_run g (facts_of g known)) → IsOrderOf g order.now → AreAsksOf g me asks.old known said
+    ensures late { IfOk result (λ words. (g : Group) (me : ℕ) (known : List (SignedWord Word)) (facts : List Fact) (ordered said : List Word)
+        → IsRunOf g run.now (certified_requests g known) (ordered_run g (facts_of g known)) → IsOrderOf g order.now facts ordered → AreAsksOf g me asks.old known said
+        → words.late.items ≡ ask_order_due said at_tick (gap_of g facts)) }
+    ensures said { IfOk result (λ words. (g : Group) (me : ℕ) (known : List (SignedWord Word)) (facts : List Fact) (ordered said : List Word)
+        → IsRunOf g run.now (certified_requests g known) (ordered_run g (facts_of g known)) → IsOrderOf g order.now facts ordered → AreAsksOf g me asks.old known said
         → AreAsksOf g me asks.new known (said ++ (words.early.items ++ words.late.items))) }
 {
     let words = asks.due(at_tick, run.waiting_for(), order.gap())?;

@@ -2,7 +2,7 @@ ghost use Rattle.std.specs.Prelude.{◌≡◌, ◌++◌, IfOk, OnOk};
 ghost use Rattle.std.specs.Option.{option_to_list};
 
 use message_types::Body;
-use plain_lists::Want;
+use plain_lists::{Want, extend_option};
 use std::alloc::Global;
 
 /// The words first, then those of the other lists in turn.
@@ -54,18 +54,9 @@ pub(crate) fn both(
     ensures { IfOk result (λ words. words.items ≡ option_to_list first ++ option_to_list second) }
 {
     let mut words = Vec::new(alloc);
-    push_if(&mut words, first)?;
-    push_if(&mut words, second)?;
+    extend_option(&mut words, first)?;
+    extend_option(&mut words, second)?;
     Ok(words)
-}
-
-fn push_if(words: &mut Vec<Body>, word: Option<Body>) -> Result<(), Want>
-    ensures { OnOk result (words.new.items ≡ words.old.items ++ option_to_list word) }
-{
-    if let Some(word) = word {
-        words.push(word)?;
-    }
-    Ok(())
 }
 
 fn add(words: &mut Vec<Body>, more: Vec<Body>) -> Result<(), Want>

@@ -3,49 +3,61 @@ use Rattle.std.proofs.Common.{◌≡◌, ℕ, ◌+◌, List, [], ◌++◌, lengt
 use Rattle.std.proofs.lemmas.List.{append-nil}
 use Rattle.message_types.specs.declared.signed.Signed.{Signed}
 use Rattle.message_types.specs.declared.body.Body.{Body}
-use Rattle.protocol_rules.specs.declared.facts.OrderFact.{OrderFact}
 use Rattle.protocol_rules.specs.Group.{Group}
 use Rattle.protocol_rules.specs.Places.{are_rows}
 use Rattle.protocol_rules.specs.Facts.{facts_of}
 use Rattle.protocol_rules.specs.Order.{ordered, ordered_run, gapless}
 use Rattle.protocol_rules.specs.Measures.{Told}
 use Rattle.protocol_rules.specs.Master.{certified_requests}
-use Rattle.global_order.specs.Taken.{IsOrderOf}
+use Rattle.global_order.specs.OrderState.{IsOrderOf}
 use Rattle.execution.specs.Ran.{Ran, IsRunOf}
 use Rattle.master_knowledge.specs.Knows.{Knows}
 use Rattle.master_knowledge.specs.Numbers.{IsBehind}
 use Rattle.master_knowledge.specs.declared.knowledge.Knowledge.{Knowledge}
 use Rattle.master_knowledge.proofs.Placed.{ordered_placed}
 
-pub is_behind : (g : Group) (me : ℕ) (kept : Knowledge) (taken known : List (Signed Body)) (told : List Told) (said : List Body) → Knows g me kept taken known told said → IsBehind kept.run kept.order
+pub is_behind : (g : Group) (me : ℕ) (kept : Knowledge) (taken known : List (Signed Body)) (told : List Told)
+    (said : List Body) → Knows g me kept taken known told said → IsBehind kept.run kept.order
 is_behind g me kept taken known told said k = record {
-  group = subst (λ (h : Group). IsOrderOf h kept.order) (sym k.run.run.group) k.order.sizes;
+  facts = facts_of g known;
+  said = said;
+  is = subst (λ (h : Group). IsOrderOf h kept.order (facts_of g known) said) (sym k.run.run.group) k.order;
   numbers =
-      let many : gapless kept.run.group kept.order.facts ≡ length (k.run.before ++ k.run.after) =
-      ap (λ (h : Group). gapless h kept.order.facts) k.run.run.group ∙ ap (λ (f : List OrderFact). gapless g f) k.order.facts ∙ ap length k.run.all in
-      let parts : length (k.run.before ++ k.run.after) ≡ length k.run.before + length k.run.after = length-append k.run.before k.run.after in
+      let many : gapless kept.run.group (facts_of g known) ≡ length (k.run.before ++ k.run.after) =
+      ap (λ (h : Group). gapless h (facts_of g known)) k.run.run.group ∙ ap length k.run.all in
+      let parts : length (k.run.before ++ k.run.after) ≡ length k.run.before + length k.run.after =
+      length-append k.run.before k.run.after in
       let taken_so_far : kept.run.numbers ≡ length k.run.before = k.run.run.numbers in
       omega arith;
   rows = λ s rows e. ap (λ (h : Group). are_rows h rows) k.run.run.group ∙ ordered_placed g known k.whole s rows
-      (ap (λ (f : List OrderFact). ordered g f s) (sym k.order.facts) ∙ ap (λ (h : Group). ordered h kept.order.facts s) (sym k.run.run.group) ∙ e);
+      (ap (λ (h : Group). ordered h (facts_of g known) s) (sym k.run.run.group) ∙ e);
 }
 
-pub caught_run : (g : Group) (me : ℕ) (kept : Knowledge) (now : Ran) (taken known : List (Signed Body)) (told : List Told) (said : List Body) → (k : Knows g me kept taken known told said)
-    → ((before after : List (List (List ℕ))) → ordered_run g kept.order.facts ≡ before ++ after → IsRunOf g kept.run (certified_requests g known) before → IsRunOf g now (certified_requests g known) (ordered_run g kept.order.facts))
+pub caught_run : (g : Group) (me : ℕ) (kept : Knowledge) (now : Ran) (taken known : List (Signed Body))
+    (told : List Told) (said : List Body) → (k : Knows g me kept taken known told said)
+    → ((before after : List (List (List ℕ))) → ordered_run g (facts_of g known) ≡ before ++ after →
+    IsRunOf g kept.run (certified_requests g known) before →
+    IsRunOf g now (certified_requests g known) (ordered_run g (facts_of g known)))
     → IsRunOf g now (certified_requests g known) (ordered_run g (facts_of g known))
-caught_run g me kept now taken known told said k step =
-    subst (λ (f : List OrderFact). IsRunOf g now (certified_requests g known) (ordered_run g f)) k.order.facts
-    (step k.run.before k.run.after (ap (λ (f : List OrderFact). ordered_run g f) k.order.facts ∙ k.run.all) k.run.run)
+caught_run g me kept now taken known told said k step = step k.run.before k.run.after k.run.all k.run.run
 
-pub knows_caught : (g : Group) (me : ℕ) (kept : Knowledge) (now : Ran) (taken known : List (Signed Body)) (told : List Told) (said : List Body) → Knows g me kept taken known told said
-    → IsRunOf g now (certified_requests g known) (ordered_run g (facts_of g known)) → Knows g me (record kept { run = now }) taken known told said
+pub knows_caught : (g : Group) (me : ℕ) (kept : Knowledge) (now : Ran) (taken known : List (Signed Body))
+    (told : List Told) (said : List Body) → Knows g me kept taken known told said
+    → IsRunOf g now (certified_requests g known) (ordered_run g (facts_of g known)) →
+    Knows g me (record kept { run = now }) taken known told said
 knows_caught g me kept now taken known told said k run = record {
   masters = k.masters;
   whole = k.whole;
   preorder = k.preorder;
   matrix = k.matrix;
   order = k.order;
-  run = record { before = ordered_run g (facts_of g known); after = []; all = sym (append-nil (ordered_run g (facts_of g known))); run = run };
+  run = record {
+    before = ordered_run g (facts_of g known);
+    after = [];
+    all =
+        sym (append-nil (ordered_run g (facts_of g known)));
+    run = run;
+  };
   views = k.views;
   measure = k.measure;
   asks = k.asks;

@@ -15,31 +15,39 @@ use Rattle.history_rules.specs.Audit.{IsIn, here, rows_held}
 use Rattle.agreement.proofs.Lists.{none_in, in_left, in_map_from, in_flat_map, in_map, all_at}
 use Rattle.agreement.proofs.Inside.{parts_closed, rows_from}
 use Rattle.agreement.proofs.Good.{ordered_from}
-use Rattle.own_words.proofs.Speaking.{rows_are_in_place}
+use Rattle.words_in_place.proofs.Speaking.{rows_are_in_place}
 use Rattle.master_knowledge.specs.Whole.{is_whole}
 
 -- rows that a word holds are among those that it tells
-held_told : (g : Group) (signer : ℕ) (word : Body) (sig : List ℕ) (rows : List (List ℕ)) → IsIn rows (rows_held g word) → IsIn rows (flat_map rows_in (tells g record { signer = signer; body = word; sig = sig }))
+held_told : (g : Group) (signer : ℕ) (word : Body) (sig : List ℕ) (rows : List (List ℕ)) →
+    IsIn rows (rows_held g word) →
+    IsIn rows (flat_map rows_in (tells g record { signer = signer; body = word; sig = sig }))
 held_told g signer (body.PrePrepare b) sig rows h = in_left [] h
 held_told g signer (body.Report b) sig rows h =
     let found = in_map_from (λ (c : Certificate). c.rows) b.certificates h in
-    in_flat_map rows_in (in_map (λ (c : Certificate). fact.Rows c.rows) found.1) (subst (λ (r : List (List ℕ)). IsIn rows (r ∷ [])) found.2 (here []))
+    in_flat_map rows_in (in_map (λ (c : Certificate). fact.Rows c.rows) found.1)
+    (subst (λ (r : List (List ℕ)). IsIn rows (r ∷ [])) found.2 (here []))
 held_told g signer (body.GiveOrdered b) sig rows h = in_left [] h
 held_told g signer (body.NewView b) sig rows h = in_left [] h
 held_told g signer _ sig rows h = absurd (none_in h)
 
-in_known : (g : Group) (known : List (Signed Body)) (p : Signed Body) (rows : List (List ℕ)) → IsIn p known → IsIn rows (rows_held g p.body) → IsIn rows (rows_known (facts_of g known))
+in_known : (g : Group) (known : List (Signed Body)) (p : Signed Body) (rows : List (List ℕ)) → IsIn p known →
+    IsIn rows (rows_held g p.body) → IsIn rows (rows_known (facts_of g known))
 unfolding rows_known facts_of
 in_known g known p rows h k = in_facts known h
   where
     in_facts : (known : List (Signed Body)) → IsIn p known → IsIn rows (flat_map rows_in (flat_map (tells g) known))
-    in_facts known h = subst (λ (xs : List (List (List ℕ))). IsIn rows xs) (nested known) (in_flat_map (λ (f : Signed Body). flat_map rows_in (tells g f)) h (held_told g p.signer p.body p.sig rows k))
+    in_facts known h = subst (λ (xs : List (List (List ℕ))). IsIn rows xs) (nested known)
+        (in_flat_map (λ (f : Signed Body). flat_map rows_in (tells g f)) h (held_told g p.signer p.body p.sig rows k))
       where
-        nested : (known : List (Signed Body)) → flat_map (λ (f : Signed Body). flat_map rows_in (tells g f)) known ≡ flat_map rows_in (flat_map (tells g) known)
+        nested : (known : List (Signed Body)) → flat_map (λ (f : Signed Body). flat_map rows_in (tells g f))
+            known ≡ flat_map rows_in (flat_map (tells g) known)
         nested [] = refl
-        nested (f ∷ rest) = ap (λ xs. flat_map rows_in (tells g f) ++ xs) (nested rest) ∙ sym (Rattle.std.proofs.lemmas.Grind.flat_map-append rows_in (tells g f) (flat_map (tells g) rest))
+        nested (f ∷ rest) = ap (λ xs. flat_map rows_in (tells g f) ++ xs) (nested rest)
+            ∙ sym (Rattle.std.proofs.lemmas.Grind.flat_map-append rows_in (tells g f) (flat_map (tells g) rest))
 
-pub ordered_placed : (g : Group) (known : List (Signed Body)) → list_all (is_whole g) known ≡ true → (s : ℕ) (rows : List (List ℕ)) → ordered g (facts_of g known) s ≡ Some rows → are_rows g rows ≡ true
+pub ordered_placed : (g : Group) (known : List (Signed Body)) → list_all (is_whole g) known ≡ true →
+    (s : ℕ) (rows : List (List ℕ)) → ordered g (facts_of g known) s ≡ Some rows → are_rows g rows ≡ true
 ordered_placed g known whole s rows e =
     let met = ordered_from g (facts_of g known) s rows e in
     let found = rows_from g known rows met.0 in

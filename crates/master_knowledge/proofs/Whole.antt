@@ -1,6 +1,7 @@
 -- What is in its place with all that is inside it.
-use Rattle.std.proofs.Common.{◌≡◌, ℕ, ◌≤◌, ◌<◌, Bool, true, ◌&&◌, List, [], ◌∷◌, ◌++◌, nat_eq, nat_le, nat_lt, length, zero, suc, take, get_or, refl, sym, ◌∙◌, ap, subst, inl, inr, arith}
-use Rattle.std.proofs.lemmas.Bool.{and_from, and_parts, leb-true, ltb-true}
+use Rattle.std.proofs.Common.{◌≡◌, ℕ, ◌≤◌, ◌<◌, true, ◌&&◌, List, [], ◌∷◌, ◌++◌, nat_eq, nat_le, nat_lt, length, zero}
+use Rattle.std.proofs.Common.{suc, take, get_or, sym, ◌∙◌, ap, inl, inr, arith}
+use Rattle.std.proofs.lemmas.Bool.{and_parts, leb-true, ltb-true}
 use Rattle.std.specs.List.{list_all}
 use Rattle.message_types.specs.declared.signed.Signed.{Signed}
 use Rattle.message_types.specs.declared.updates.Update.{Update}
@@ -13,17 +14,11 @@ use Rattle.message_types.specs.declared.body.Body.TheVariants as body
 use Rattle.message_types.specs.Parts.{parts, inside, as_frame}
 use Rattle.protocol_rules.specs.Group.{Group, most_number, most_view}
 use Rattle.protocol_rules.specs.Places.{in_place, word_in_place}
-use Rattle.history_rules.specs.Audit.{IsIn, here, there}
+use Rattle.history_rules.specs.Audit.{IsIn}
 use Rattle.agreement.proofs.Lists.{in_cons_cases, all_at}
 use Rattle.agreement.proofs.Inside.{parts_closed}
-use Rattle.quorum_sets.specs.declared.sizes.Sizes.{Sizes}
-use Rattle.summary_matrix.proofs.Loops.{masters_few}
 use Rattle.master_knowledge.specs.Whole.{is_whole, IsWhole}
-
--- a test that each of a list passes
-pub all_from : {X : Type 0} (t : X → Bool) (xs : List X) → ((x : X) → IsIn x xs → t x ≡ true) → list_all t xs ≡ true
-all_from t [] each = refl
-all_from t (x ∷ xs) each = and_from (t x) (list_all t xs) (each x (here xs)) (all_from t xs (λ y h. each y (there x xs h)))
+use Rattle.history_rules.proofs.Entries.{all_from}
 
 pub first_in_place : (g : Group) (f : Signed Body) → is_whole g f ≡ true → in_place g f ≡ true
 first_in_place g f whole = (and_parts (in_place g f) (list_all (in_place g) (inside f.body)) whole).0
@@ -38,11 +33,13 @@ part_whole g f p whole h = all_from (in_place g) (parts p) (λ r k. elim (in_con
 pub parts_whole : (g : Group) (f : Signed Body) → is_whole g f ≡ true → list_all (is_whole g) (parts f) ≡ true
 parts_whole g f whole = all_from (is_whole g) (parts f) (λ p h. part_whole g f p whole h)
 
-pub whole_of : (g : Group) (masters : ℕ) (f : Signed Body) → g.n ≡ masters → masters ≤ 14 → is_whole g f ≡ true → IsWhole masters f
+pub whole_of : (g : Group) (masters : ℕ) (f : Signed Body) → g.n ≡ masters → masters ≤ 14 →
+    is_whole g f ≡ true → IsWhole masters f
 whole_of g masters f same few whole = record { group = g; same = same; few = few; whole = whole }
 
 -- the client of an update in its place is there
-pub client_there : (g : Group) (s : Signed Update) → in_place g (as_frame body.Update s) ≡ true → s.body.client < g.clients
+pub client_there : (g : Group) (s : Signed Update) → in_place g (as_frame body.Update s) ≡ true →
+    s.body.client < g.clients
 client_there g s placed =
     let times = and_parts _ _ placed in
     let own = and_parts _ _ times.0 in
@@ -57,7 +54,8 @@ mark_low g f placed =
     leb-true f.body.s most_number (and_parts _ _ (and_parts _ _ word).0).1
 
 pub suspect_low : (g : Group) (f : Signed Suspect) → in_place g (as_frame body.Suspect f) ≡ true → f.body.v < most_view
-suspect_low g f placed = ltb-true f.body.v most_view (and_parts (nat_lt f.signer g.n) (nat_lt f.body.v most_view) placed).1
+suspect_low g f placed = ltb-true f.body.v most_view
+    (and_parts (nat_lt f.signer g.n) (nat_lt f.body.v most_view) placed).1
 
 pub new_view_low : (g : Group) (f : Signed NewView) → in_place g (as_frame body.NewView f) ≡ true → f.body.v ≤ most_view
 new_view_low g f placed =
@@ -68,34 +66,24 @@ new_view_low g f placed =
 pub mark_within : (g : Group) (f : Signed Mark) → is_whole g (as_frame body.Mark f) ≡ true → f.body.s ≤ most_number
 mark_within g f whole = mark_low g f (first_in_place g (as_frame body.Mark f) whole)
 
-pub suspect_within : (g : Group) (f : Signed Suspect) → is_whole g (as_frame body.Suspect f) ≡ true → f.body.v < most_view
+pub suspect_within : (g : Group) (f : Signed Suspect) → is_whole g (as_frame body.Suspect f) ≡ true →
+    f.body.v < most_view
 suspect_within g f whole = suspect_low g f (first_in_place g (as_frame body.Suspect f) whole)
 
-pub new_view_within : (g : Group) (f : Signed NewView) → is_whole g (as_frame body.NewView f) ≡ true → f.body.v ≤ most_view
+pub new_view_within : (g : Group) (f : Signed NewView) → is_whole g (as_frame body.NewView f) ≡ true →
+    f.body.v ≤ most_view
 new_view_within g f whole = new_view_low g f (first_in_place g (as_frame body.NewView f) whole)
 
 -- a summary's place goes by the number of masters alone
-pub summary_placed : (g h : Group) (signer : ℕ) (word : PoSummary) (sig : List ℕ) → g.n ≡ h.n → in_place g record { signer = signer; body = body.PoSummary word; sig = sig } ≡ true
+pub summary_placed : (g h : Group) (signer : ℕ) (word : PoSummary) (sig : List ℕ) → g.n ≡ h.n →
+    in_place g record { signer = signer; body = body.PoSummary word; sig = sig } ≡ true
     → in_place h record { signer = signer; body = body.PoSummary word; sig = sig } ≡ true
 summary_placed g h signer word sig same placed =
-    ap (λ n. nat_lt signer n && (nat_eq (length word.numbers) n && list_all (λ x. nat_le x most_number) word.numbers)) (sym same) ∙ placed
+    ap (λ n. nat_lt signer n && (nat_eq (length word.numbers) n && list_all (λ x. nat_le x most_number) word.numbers))
+    (sym same) ∙ placed
 
-pub sizes_few : (sizes : Sizes) → sizes.n ≤ 14
-sizes_few sizes = masters_few sizes
-
--- the element at a place is one of the list, and the list up to it has one more
-pub in_at : {X : Type 0} (xs : List X) (i : ℕ) (x : X) → i < length xs → x ≡ get_or xs i x → IsIn x xs
-in_at [] i x below is = absurd (omega arith)
-in_at {X} (y ∷ xs) zero x below is = subst (λ (z : X). IsIn z (y ∷ xs)) (sym is) (here xs)
-in_at (y ∷ xs) (suc i) x below is = there y xs (in_at xs i x (omega arith) is)
-
-pub take_next : {X : Type 0} (xs : List X) (i : ℕ) (x : X) → i < length xs → x ≡ get_or xs i x → take i xs ++ x ∷ [] ≡ take (suc i) xs
+pub take_next : {X : Type 0} (xs : List X) (i : ℕ) (x : X) → i < length xs → x ≡ get_or xs i x →
+    take i xs ++ x ∷ [] ≡ take (suc i) xs
 take_next [] i x below is = absurd (omega arith)
 take_next {X} (y ∷ xs) zero x below is = ap (λ (z : X). z ∷ []) is
 take_next {X} (y ∷ xs) (suc i) x below is = ap (λ (zs : List X). y ∷ zs) (take_next xs i x (omega arith) is)
-
-pub take_whole : {X : Type 0} (xs : List X) (i : ℕ) → length xs ≤ i → take i xs ≡ xs
-take_whole [] zero less = refl
-take_whole [] (suc i) less = refl
-take_whole (y ∷ xs) zero less = absurd (omega arith)
-take_whole {X} (y ∷ xs) (suc i) less = ap (λ (zs : List X). y ∷ zs) (take_whole xs i (omega arith))

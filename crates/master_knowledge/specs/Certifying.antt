@@ -2,7 +2,7 @@
 use Rattle.std.specs.Prelude.{◌≡◌, ℕ, Option, Some, if◌then◌else◌}
 use Rattle.message_types.specs.declared.updates.Update.{Update}
 use Rattle.protocol_rules.specs.Execution.{Request}
-use Rattle.execution.specs.Ran.{same_pair}
+use Rattle.protocol_rules.specs.Keys.{same_pair}
 
 -- Of all requests only (j, k) may be certified now where it wasn't before, and this is what it is certified as now.
 pub record IsCertifiedAt (j k : ℕ) (here : Option Update) (before now : Request → Option Update) : Type 0 where

@@ -11,35 +11,20 @@ use Rattle.protocol_rules.specs.Facts.{facts_of}
 use Rattle.protocol_rules.specs.Order.{ordered_run}
 use Rattle.protocol_rules.specs.Measures.{Told}
 use Rattle.protocol_rules.specs.Master.{certified_requests}
-use Rattle.preorder.specs.Composed.{is_preordering, is_preordering_word, is_update}
-use Rattle.preorder.specs.Taken.{Taken as Preordered}
+use Rattle.preorder.specs.PreorderState.{IsPreorderOf}
 use Rattle.summary_matrix.specs.Held.{IsMatrixOf}
 use Rattle.execution.specs.Ran.{Ran, IsRunOf}
-use Rattle.global_order.specs.Taken.{Taken as Ordering, IsOrderOf}
-use Rattle.view_change.specs.Kept.{AreViewsOf}
-use Rattle.suspect_leader.specs.Kept.{IsMeasureOf}
-use Rattle.reconcile.specs.Kept.{AreAsksOf}
-use Rattle.gifts.specs.Kept.{AreGiftsOf}
+use Rattle.global_order.specs.OrderState.{IsOrderOf}
+use Rattle.view_change.specs.ViewState.{AreViewsOf}
+use Rattle.suspect_leader.specs.MeasureState.{IsMeasureOf}
+use Rattle.reconcile.specs.AskState.{AreAsksOf}
+use Rattle.reconcile.specs.GiftState.{AreGiftsOf}
 use Rattle.master_knowledge.specs.Whole.{is_whole}
 use Rattle.master_knowledge.specs.declared.knowledge.Knowledge.{Knowledge}
 
 -- the word is one that the global order counts as said
 abbrev pub is_order_word : Body → Bool
 is_order_word word = elim word [ body.Prepare b ↦ true | body.Commit b ↦ true | body.Mark b ↦ true | _ ↦ false ]
-
--- What pre-ordering took are the requests and acknowledgements known and the updates taken, and what it said those said.
-pub record IsPreorderOf (g : Group) (me : ℕ) (t : Preordered) (taken known : List (Signed Body)) (said : List Body) : Type 0 where
-  pub group : t.group ≡ g
-  pub own : t.me ≡ me
-  pub requests : filter is_preordering t.took ≡ filter is_preordering known
-  pub updates : filter is_update t.took ≡ filter is_update taken
-  pub words_said : filter is_preordering_word t.said ≡ filter is_preordering_word said
-
--- What the global order was handed is what all words known tell, and what it said are its words among those said.
-pub record IsOrderingOf (g : Group) (t : Ordering) (known : List (Signed Body)) (said : List Body) : Type 0 where
-  pub sizes : IsOrderOf g t
-  pub facts : t.facts ≡ facts_of g known
-  pub words_said : filter is_order_word t.said ≡ filter is_order_word said
 
 -- each update that is certified is of a client that is there
 abbrev pub HasClients : Group → List (Signed Body) → Type 0
@@ -53,17 +38,31 @@ pub record IsExecutionOf (g : Group) (m : Ran) (known : List (Signed Body)) : Ty
   pub run : IsRunOf g m (certified_requests g known) before
 
 -- What a master keeps where it took these frames, knows these words, was told of these events, and said these bodies.
-pub record Knows (g : Group) (me : ℕ) (kept : Knowledge) (taken known : List (Signed Body)) (told : List Told) (said : List Body) : Type 0 where
+pub record Knows (g : Group) (me : ℕ) (kept : Knowledge) (taken known : List (Signed Body)) (told : List Told)
+    (said : List Body) : Type 0 where
   pub masters : kept.sizes.n ≡ g.n
   pub whole : list_all (is_whole g) known ≡ true
   pub preorder : IsPreorderOf g me kept.preorder taken known said
   pub matrix : IsMatrixOf g kept.matrix known
-  pub order : IsOrderingOf g kept.order known said
+  pub order : IsOrderOf g kept.order (facts_of g known) said
   pub run : IsExecutionOf g kept.run known
   pub views : AreViewsOf g me kept.views known said
   pub measure : IsMeasureOf g me kept.measure told known said
   pub asks : AreAsksOf g me kept.asks known said
   pub gifts : AreGiftsOf g kept.gifts known
+
+-- The knowledge learns words: whatever was taken, known, told and said, it is the knowledge where these are known too.
+abbrev pub Learns : Knowledge → Knowledge → List (Signed Body) → Type 0
+Learns old new words =
+    (g : Group) (me : ℕ) (taken known : List (Signed Body)) (told : List Told) (said : List Body) →
+    Knows g me old taken known told said → Knows g me new taken (known ++ words) told said
+
+-- what holds of all that may be taken, known, told and said where this is the knowledge
+abbrev pub Where : Knowledge →
+    (Group → ℕ → List (Signed Body) → List (Signed Body) → List Told → List Body → Type 0) → Type 0
+Where kept Holds =
+    (g : Group) (me : ℕ) (taken known : List (Signed Body)) (told : List Told) (said : List Body) →
+    Knows g me kept taken known told said → Holds g me taken known told said
 
 -- What is kept is the knowledge of some master.
 pub record IsKnowledge (kept : Knowledge) : Type 0 where

@@ -1,12 +1,9 @@
-ghost use Rattle.std.specs.Prelude.{◌≡◌, ◌++◌, ◌∷◌, ◌≤◌, [], OnOk, List, ℕ, true, map};
-ghost use Rattle.message_types.specs.declared.signed.Signed.{Signed as SignedWord};
-ghost use Rattle.message_types.specs.declared.body.Body.{Body as Word};
+ghost use Rattle.std.specs.Prelude.{◌≡◌, ◌++◌, ◌∷◌, ◌≤◌, [], OnOk, true, map};
 ghost use Rattle.message_types.specs.Parts.{parts};
-ghost use Rattle.protocol_rules.specs.Group.{Group, group_of};
-ghost use Rattle.protocol_rules.specs.Measures.{Told};
+ghost use Rattle.protocol_rules.specs.Group.{group_of};
 ghost use Rattle.protocol_rules.specs.Master.{waits};
 ghost use Rattle.master_knowledge.specs.Whole.{is_whole};
-ghost use Rattle.master_knowledge.specs.Knows.{Knows, IsKnowledge, IsCaughtUp};
+ghost use Rattle.master_knowledge.specs.Knows.{Knows, Learns, Where, IsKnowledge, IsCaughtUp};
 
 use crate::certificate::take_certificate_part;
 use crate::gift_words::take_gift_part;
@@ -16,21 +13,18 @@ use crate::requests::{take_request_part, take_update};
 use crate::summaries::take_summary_part;
 use crate::view_words::take_view_part;
 use execution::Run;
-use frame_parts::parts_of;
-use gifts::Gifts;
 use global_order::Order;
-use message_types::Frame;
+use message_types::{Frame, parts_of};
 use plain_lists::Want;
 use preorder::Preorder;
-use quorum_sets::Sizes;
-use reconcile::Asks;
+use quorum_sets::{MOST_CLIENTS, Sizes};
+use reconcile::{Asks, Gifts};
 use std::alloc::Global;
 use summary_matrix::Matrix;
 use suspect_leader::Measure;
 use view_change::Views;
 
 /// All that one master keeps of what it knows.
-#[derive(Drop)]
 pub struct Knowledge {
     pub alloc: Global,
     pub sizes: Sizes,
@@ -44,10 +38,28 @@ pub struct Knowledge {
     pub gifts: Gifts,
 }
 
+// Taken apart here once: what holds it lets go of it by one call.
+impl Drop for Knowledge {
+    fn drop(self) {
+        let Knowledge {
+            alloc: _,
+            sizes: _,
+            preorder: _,
+            matrix: _,
+            order: _,
+            run: _,
+            views: _,
+            measure: _,
+            asks: _,
+            gifts: _,
+        } = self;
+    }
+}
+
 impl Knowledge {
     /// The knowledge of master `me` that heard and said nothing yet.
     pub fn new(alloc: Global, sizes: Sizes, clients: u32, me: u32) -> Knowledge
-        requires { clients ≤ 12 }
+        requires { clients ≤ MOST_CLIENTS }
         ensures { Knows (group_of sizes clients) me result [] [] [] [] }
     {
         Knowledge {
@@ -68,8 +80,8 @@ impl Knowledge {
     pub fn hear(&mut self, frame: &Frame) -> Result<(), Want>
         requires known { IsKnowledge self.old }
         requires whole { is_whole self.old.preorder.group frame.now ≡ true }
-        ensures { OnOk result ((g : Group) (me : ℕ) (taken known : List (SignedWord Word)) (told : List Told) (said : List Word)
-            → Knows g me self.old taken known told said → Knows g me self.new (taken ++ frame.now ∷ []) (known ++ parts frame.now) told said) }
+        ensures { OnOk result (Where self.old (λ g me taken known told said.
+            Knows g me self.new (taken ++ frame.now ∷ []) (known ++ parts frame.now) told said)) }
     {
         take_update(&mut self.preorder, frame)?;
         self.recall(frame)
@@ -79,8 +91,7 @@ impl Knowledge {
     pub fn recall(&mut self, frame: &Frame) -> Result<(), Want>
         requires known { IsKnowledge self.old }
         requires whole { is_whole self.old.preorder.group frame.now ≡ true }
-        ensures { OnOk result ((g : Group) (me : ℕ) (taken known : List (SignedWord Word)) (told : List Told) (said : List Word)
-            → Knows g me self.old taken known told said → Knows g me self.new taken (known ++ parts frame.now) told said) }
+        ensures { OnOk result (Learns self.old self.new (parts frame.now)) }
     {
         let parts = parts_of(self.alloc, frame)?;
         for part in &parts {
@@ -92,10 +103,8 @@ impl Knowledge {
     /// Has the execution take the rows of all numbers that are ordered without a gap.
     pub fn catch_up(&mut self) -> Result<(), Want>
         requires { IsKnowledge self.old }
-        ensures knows { OnOk result ((g : Group) (me : ℕ) (taken known : List (SignedWord Word)) (told : List Told) (said : List Word)
-            → Knows g me self.old taken known told said → Knows g me self.new taken known told said) }
-        ensures caught { OnOk result ((g : Group) (me : ℕ) (taken known : List (SignedWord Word)) (told : List Told) (said : List Word)
-            → Knows g me self.old taken known told said → IsCaughtUp g self.new known) }
+        ensures knows { OnOk result (Where self.old (λ g me taken known told said. Knows g me self.new taken known told said)) }
+        ensures caught { OnOk result (Where self.old (λ g me taken known told said. IsCaughtUp g self.new known)) }
     {
         take_numbers(&mut self.run, &self.order)
     }
@@ -103,8 +112,7 @@ impl Knowledge {
     /// Whether the master waits for its leader: its view isn't open, or its summaries make more eligible than is
     /// ordered without a gap.
     pub fn waits(&self) -> bool
-        ensures { (g : Group) (me : ℕ) (taken known : List (SignedWord Word)) (told : List Told) (said : List Word)
-            → Knows g me self.now taken known told said → IsCaughtUp g self.now known → result ≡ waits g known }
+        ensures { Where self.now (λ g me taken known told said. IsCaughtUp g self.now known → result ≡ waits g known) }
     {
         !self.views.is_open() || self.matrix.exceeds(&self.run.reach())
     }
@@ -113,8 +121,7 @@ impl Knowledge {
     fn learn(&mut self, part: &Frame) -> Result<(), Want>
         requires known { IsKnowledge self.old }
         requires whole { is_whole self.old.preorder.group part.now ≡ true }
-        ensures { OnOk result ((g : Group) (me : ℕ) (taken known : List (SignedWord Word)) (told : List Told) (said : List Word)
-            → Knows g me self.old taken known told said → Knows g me self.new taken (known ++ part.now ∷ []) told said) }
+        ensures { OnOk result (Learns self.old self.new (part.now ∷ [])) }
     {
         take_request_part(&mut self.preorder, part)?;
         take_certificate_part(&mut self.run, &self.preorder, part)?;

@@ -1,17 +1,19 @@
-ghost use Rattle.std.specs.Prelude.{◌≡◌, ◌++◌, ◌∷◌, ◌≤◌, [], OnOk, IfOk, List, ℕ, Some, None, map, nat_eq, IsTrue};
-ghost use Rattle.std.specs.List.{find, list_all};
-ghost use Rattle.message_types.specs.Spelling.{row_fits, rows_fit, summary_fits};
+ghost use Rattle.std.specs.Prelude.{◌≡◌, ◌∷◌, [], OnOk, map, IsTrue};
+ghost use Rattle.std.specs.List.{list_all};
+ghost use Rattle.message_types.specs.Spelling.{summary_fits};
 ghost use Rattle.protocol_rules.specs.declared.facts.OrderFact.TheVariants as fact;
 ghost use Rattle.protocol_rules.specs.Group.{Group};
 ghost use Rattle.protocol_rules.specs.Facts.{tells};
 ghost use Rattle.protocol_rules.specs.Matrix.{rows_of_frames};
 ghost use Rattle.protocol_rules.specs.Plans.{plan_of};
+ghost use Rattle.global_order.specs.OrderState.{Learns};
 ghost use Rattle.view_change.specs.Planning.{is_spelled, are_spelled};
-ghost use Rattle.master_knowledge.specs.Whole.{IsWhole, row_of};
+ghost use Rattle.master_knowledge.specs.Whole.{IsWhole};
 
 use global_order::Order;
-use message_types::{Body, Certificate, Frame, NewView, PoSummary, PrePrepare, Rows, Signed};
-use plain_lists::{Copied, Items, Vector, Want};
+use message_types::{Body, Certificate, Frame, NewView, PrePrepare, Rows, Signed};
+use plain_lists::{Copied, Want};
+use protocol_rules::rows_of;
 use quorum_sets::Sizes;
 use std::alloc::Global;
 use view_change::plan_of_new_view;
@@ -24,7 +26,7 @@ pub fn take_order_part(
     part: &Frame,
 ) -> Result<(), Want>
     requires { IsWhole sizes.now.n part.now }
-    ensures { OnOk result ((g : Group) → sizes.now.n ≡ g.n → order.new ≡ record order.old { facts = order.old.facts ++ tells g part.now }) }
+    ensures { OnOk result ((g : Group) → sizes.now.n ≡ g.n → Learns order.old order.new (tells g part.now)) }
 {
     match &part.body {
         Body::PrePrepare(proposal) => take_proposal(alloc, sizes, order, proposal),
@@ -59,41 +61,16 @@ fn take_proposal(
 ) -> Result<(), Want>
     requires { IsTrue (list_all (λ f. summary_fits f.body) proposal.now.frames) }
     ensures { OnOk result ((g : Group) → sizes.now.n ≡ g.n
-        → order.new ≡ record order.old { facts = order.old.facts ++ fact.Proposal proposal.now.v proposal.now.s (rows_of_frames g proposal.now.frames) ∷ [] }) }
+        → Learns order.old order.new (fact.Proposal proposal.now.v proposal.now.s (rows_of_frames g proposal.now.frames) ∷ [])) }
 {
     let rows = rows_of(alloc, sizes, proposal.frames.as_slice())?;
     order.take_preprepare(proposal.v, proposal.s, &rows)
 }
 
-/// Rows from summaries: each master's numbers at its place, none where it signed none.
-fn rows_of(alloc: Global, sizes: &Sizes, frames: &[Signed<PoSummary>]) -> Result<Rows, Want>
-    requires { IsTrue (list_all (λ f. summary_fits f.body) frames.now) }
-    ensures rows { IfOk result (λ rows. (g : Group) → sizes.now.n ≡ g.n → rows ≡ rows_of_frames g frames.now) }
-    ensures fit { IfOk result (λ rows. IsTrue (rows_fit rows)) }
-{
-    let mut rows = Items::new(alloc);
-    for master in 0..sizes.n {
-        rows.push(row_of(alloc, frames, master)?)?;
-    }
-    Ok(rows)
-}
-
-/// The numbers of the first summary that the master signed.
-fn row_of(alloc: Global, frames: &[Signed<PoSummary>], master: u32) -> Result<Vector, Want>
-    ensures { IfOk result (λ row. row ≡ row_of frames.now master) }
-{
-    for frame in frames {
-        if frame.signer == master {
-            return frame.body.numbers.copy();
-        }
-    }
-    Ok(Items::new(alloc))
-}
-
 /// Hands it the rows of a report's certificates.
 fn take_certificates(order: &mut Order, certificates: &[Certificate]) -> Result<(), Want>
     requires { IsTrue (list_all is_spelled certificates.now) }
-    ensures { OnOk result (order.new ≡ record order.old { facts = order.old.facts ++ map (λ c. fact.Rows c.rows) certificates.now }) }
+    ensures { OnOk result (Learns order.old order.new (map (λ c. fact.Rows c.rows) certificates.now)) }
 {
     for certificate in certificates {
         order.take_rows(&certificate.rows)?;
@@ -110,7 +87,7 @@ fn take_plan(
 ) -> Result<(), Want>
     requires { IsTrue (are_spelled (map (λ r. r.body) new_view.now.reports)) }
     ensures { OnOk result ((g : Group) → sizes.now.n ≡ g.n
-        → order.new ≡ record order.old { facts = order.old.facts ++ fact.Plan new_view.now.v (plan_of g (map (λ r. r.body) new_view.now.reports)) ∷ [] }) }
+        → Learns order.old order.new (fact.Plan new_view.now.v (plan_of g (map (λ r. r.body) new_view.now.reports)) ∷ [])) }
 {
     let plan = plan_of_new_view(alloc, sizes, new_view)?;
     order.offer_plan(new_view.v, &plan)

@@ -1,6 +1,6 @@
-ghost use Rattle.std.specs.Prelude.{◌≡◌, ◌++◌, ◌∷◌, [], OnOk, true, filter};
+ghost use Rattle.std.specs.Prelude.{◌≡◌, OnOk, true};
 ghost use Rattle.protocol_rules.specs.Places.{in_place};
-ghost use Rattle.preorder.specs.Composed.{is_preordering, is_update};
+ghost use Rattle.preorder.specs.PreorderState.{Takes, Learns};
 
 use message_types::{Body, Frame, Signed};
 use plain_lists::{Copied, Want};
@@ -8,7 +8,8 @@ use preorder::Preorder;
 
 /// Has pre-ordering take a frame that came as one of its own, if it is an update.
 pub fn take_update(preorder: &mut Preorder, frame: &Frame) -> Result<(), Want>
-    ensures { OnOk result (preorder.new ≡ record preorder.old { took = preorder.old.took ++ filter is_update (frame.now ∷ []) }) }
+    ensures group { preorder.new.group ≡ preorder.old.group }
+    ensures ok { OnOk result (Takes preorder.old preorder.new frame.now) }
 {
     match &frame.body {
         Body::Update(update) => preorder.take_update(&Signed {
@@ -23,7 +24,8 @@ pub fn take_update(preorder: &mut Preorder, frame: &Frame) -> Result<(), Want>
 /// Has pre-ordering take a part, if it is a request or an acknowledgement.
 pub fn take_request_part(preorder: &mut Preorder, part: &Frame) -> Result<(), Want>
     requires { in_place preorder.old.group part.now ≡ true }
-    ensures { OnOk result (preorder.new ≡ record preorder.old { took = preorder.old.took ++ filter is_preordering (part.now ∷ []) }) }
+    ensures group { preorder.new.group ≡ preorder.old.group }
+    ensures ok { OnOk result (Learns preorder.old preorder.new part.now) }
 {
     match &part.body {
         Body::PoRequest(request) => preorder.take_request(&Signed {

@@ -1,8 +1,5 @@
-ghost use Rattle.std.specs.Prelude.{◌≡◌, ◌++◌, ◌∷◌, [], OnOk, List};
-ghost use Rattle.message_types.specs.declared.signed.Signed.{Signed as SignedWord};
-ghost use Rattle.message_types.specs.declared.body.Body.{Body as Word};
-ghost use Rattle.protocol_rules.specs.Group.{Group};
-ghost use Rattle.summary_matrix.specs.Held.{IsMatrixOf};
+ghost use Rattle.std.specs.Prelude.{◌≡◌, OnOk};
+ghost use Rattle.summary_matrix.specs.Held.{Learns};
 ghost use Rattle.master_knowledge.specs.Whole.{IsWhole};
 
 use message_types::{Body, Frame, Signed};
@@ -13,7 +10,7 @@ use summary_matrix::Matrix;
 pub fn take_summary_part(matrix: &mut Matrix, part: &Frame) -> Result<(), Want>
     requires { IsWhole matrix.old.group.n part.now }
     ensures group { matrix.new.group ≡ matrix.old.group }
-    ensures ok { OnOk result ((g : Group) (known : List (SignedWord Word)) → IsMatrixOf g matrix.old known → IsMatrixOf g matrix.new (known ++ part.now ∷ [])) }
+    ensures ok { OnOk result (Learns matrix.old matrix.new part.now) }
 {
     match &part.body {
         Body::PoSummary(summary) => matrix.take(&Signed {

@@ -1,8 +1,5 @@
-ghost use Rattle.std.specs.Prelude.{◌≡◌, ◌++◌, ◌∷◌, [], OnOk, List, ℕ, true};
-ghost use Rattle.message_types.specs.declared.signed.Signed.{Signed as SignedWord};
-ghost use Rattle.message_types.specs.declared.body.Body.{Body as Word};
-ghost use Rattle.protocol_rules.specs.Group.{Group};
-ghost use Rattle.view_change.specs.Kept.{AreViewsOf};
+ghost use Rattle.std.specs.Prelude.{OnOk};
+ghost use Rattle.view_change.specs.ViewState.{Learns};
 ghost use Rattle.master_knowledge.specs.Whole.{IsWhole};
 
 use message_types::{Body, Frame, Signed};
@@ -12,8 +9,7 @@ use view_change::Views;
 /// Has the views take a part, if it is a suspicion, a report or a new view.
 pub fn take_view_part(views: &mut Views, part: &Frame) -> Result<(), Want>
     requires { IsWhole views.old.group.n part.now }
-    ensures ok { OnOk result ((g : Group) (me : ℕ) (known : List (SignedWord Word)) (said : List Word)
-        → AreViewsOf g me views.old known said → AreViewsOf g me views.new (known ++ part.now ∷ []) said) }
+    ensures ok { OnOk result (Learns views.old views.new part.now) }
 {
     match &part.body {
         Body::Suspect(suspect) => views.take_suspect(part.signer, suspect.v),

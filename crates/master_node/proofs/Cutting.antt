@@ -1,5 +1,6 @@
 -- Bodies cut to the leaves left.
-use Rattle.std.proofs.Common.{◌≡◌, ℕ, ◌-◌, ◌<◌, Bool, true, false, List, length, take, inl, inr, sym, ◌∙◌, ap, arith, length-take-le}
+use Rattle.std.proofs.Common.{◌≡◌, ℕ, ◌-◌, ◌<◌, Bool, true, false, List, length, take, inl, inr, sym, ◌∙◌, ap, arith}
+use Rattle.std.proofs.Common.{length-take-le}
 use Rattle.std.proofs.lemmas.List.{take_all}
 use Rattle.std.proofs.lemmas.Bool.{cases_lt}
 use Rattle.history_rules.specs.Leaves.{leaves_for, room_of}
@@ -9,11 +10,14 @@ all_used true leaves = omega arith
 all_used false leaves = omega arith
 
 -- where a leaf is left after the bodies, none of them was cut off
-pub uncut : {X : Type 0} (shared : Bool) (leaves : ℕ) (xs : List X) → 0 < leaves - leaves_for shared (length (take (room_of shared leaves) xs)) → xs ≡ take (room_of shared leaves) xs
+pub uncut : {X : Type 0} (shared : Bool) (leaves : ℕ) (xs : List X) →
+    0 < leaves - leaves_for shared (length (take (room_of shared leaves) xs)) → xs ≡ take (room_of shared leaves) xs
 uncut shared leaves xs some = elim (cases_lt (room_of shared leaves) (length xs)) [
   | inl more ↦
-      let many : length (take (room_of shared leaves) xs) ≡ room_of shared leaves = length-take-le (room_of shared leaves) xs (omega arith) in
-      let used : leaves_for shared (length (take (room_of shared leaves) xs)) ≡ leaves = ap (leaves_for shared) many ∙ all_used shared leaves in
+      let many : length (take (room_of shared leaves) xs) ≡ room_of shared leaves =
+      length-take-le (room_of shared leaves) xs (omega arith) in
+      let used : leaves_for shared (length (take (room_of shared leaves) xs)) ≡ leaves = ap (leaves_for shared) many
+      ∙ all_used shared leaves in
       absurd (omega arith)
   | inr fits ↦ sym (take_all (room_of shared leaves) xs fits)
 ]

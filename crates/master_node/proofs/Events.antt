@@ -1,5 +1,6 @@
 -- What one event more adds to what a master took, knows, was told of and said.
-use Rattle.std.proofs.Common.{◌≡◌, ℕ, ◌+◌, Bool, List, [], ◌∷◌, ◌++◌, Option, length, map, sym, ◌∙◌, ap, arith, append_assoc}
+use Rattle.std.proofs.Common.{◌≡◌, ℕ, ◌+◌, Bool, List, [], ◌∷◌, ◌++◌, Option, length, map, sym, ◌∙◌, ap, arith}
+use Rattle.std.proofs.Common.{append_assoc}
 use Rattle.std.specs.List.{flat_map}
 use Rattle.std.proofs.lemmas.List.{append-nil}
 use Rattle.message_types.specs.declared.signed.Signed.{Signed}
@@ -23,12 +24,16 @@ told_now g known is_tick = record { is_tick = is_tick; view = view g known; wait
 pub same_told : (a b : Bool) (v w : ℕ) (x y : Bool) → a ≡ b → v ≡ w → x ≡ y → told_event a v x ≡ told_event b w y
 same_told a b v w x y e f h = ap (λ t. told_event t v x) e ∙ ap (λ n. told_event b n x) f ∙ ap (λ t. told_event b w t) h
 
-told_more : (g : Group) (first before : List Heard) (e : Heard) → told_of g first (before ++ e ∷ []) ≡ told_of g first before ++ told_now g (known_at (first ++ before) e.took) e.is_tick ∷ []
-told_more g first [] e = ap (λ (hs : List Heard). told_now g (known_at hs e.took) e.is_tick ∷ []) (sym (append-nil first))
+told_more : (g : Group) (first before : List Heard) (e : Heard) →
+    told_of g first (before ++ e ∷ []) ≡ told_of g first before
+    ++ told_now g (known_at (first ++ before) e.took) e.is_tick ∷ []
+told_more g first [] e = ap (λ (hs : List Heard). told_now g (known_at hs e.took) e.is_tick ∷ [])
+    (sym (append-nil first))
 told_more g first (h ∷ rest) e =
     ap (λ (ts : List Told). told_now g (known_at first h.took) h.is_tick ∷ ts)
     (told_more g (first ++ h ∷ []) rest e
-    ∙ ap (λ (hs : List Heard). told_of g (first ++ h ∷ []) rest ++ told_now g (known_at hs e.took) e.is_tick ∷ []) (append_assoc first (h ∷ []) rest))
+    ∙ ap (λ (hs : List Heard). told_of g (first ++ h ∷ []) rest ++ told_now g (known_at hs e.took) e.is_tick ∷ [])
+    (append_assoc first (h ∷ []) rest))
 
 -- the events told are those before and the present one
 pub told_at_end : (g : Group) (before : List Heard) (took : Option (Signed Body)) (at_tick : Bool)
@@ -36,26 +41,35 @@ pub told_at_end : (g : Group) (before : List Heard) (took : Option (Signed Body)
 told_at_end g before took at_tick = told_more g [] before record { took = took; is_tick = at_tick; said = [] }
 
 -- what was said at the last event doesn't matter to them
-pub told_with : (g : Group) (before : List Heard) (took : Option (Signed Body)) (at_tick : Bool) (frames : List (Signed Body))
-    → told_at g before took at_tick ≡ told_of g [] (before ++ record { took = took; is_tick = at_tick; said = frames } ∷ [])
-told_with g before took at_tick frames = told_at_end g before took at_tick ∙ sym (told_more g [] before record { took = took; is_tick = at_tick; said = frames })
+pub told_with : (g : Group) (before : List Heard) (took : Option (Signed Body)) (at_tick : Bool)
+    (frames : List (Signed Body))
+    → told_at g before took at_tick ≡ told_of g []
+    (before ++ record { took = took; is_tick = at_tick; said = frames } ∷ [])
+told_with g before took at_tick frames = told_at_end g before took at_tick
+    ∙ sym (told_more g [] before record { took = took; is_tick = at_tick; said = frames })
 
 pub flat_more : {X Y : Type 0} (f : X → List Y) (xs : List X) (x : X) → flat_map f (xs ++ x ∷ []) ≡ flat_map f xs ++ f x
 flat_more {X} {Y} f [] x = append-nil (f x)
-flat_more {X} {Y} f (y ∷ rest) x = ap (λ (ys : List Y). f y ++ ys) (flat_more f rest x) ∙ sym (append_assoc (f y) (flat_map f rest) (f x))
+flat_more {X} {Y} f (y ∷ rest) x = ap (λ (ys : List Y). f y ++ ys) (flat_more f rest x)
+    ∙ sym (append_assoc (f y) (flat_map f rest) (f x))
 
 pub taken_more : (before : List Heard) (e : Heard) → taken_by (before ++ e ∷ []) ≡ taken_at before e.took
 taken_more before e = flat_more (λ (h : Heard). taken_frames h.took) before e
 
-pub said_more : (before : List Heard) (e : Heard) → said_before (before ++ e ∷ []) ≡ said_before before ++ map (λ f. f.body) e.said
+pub said_more : (before : List Heard) (e : Heard) → said_before (before ++ e ∷ []) ≡ said_before before
+    ++ map (λ f. f.body) e.said
 said_more before e = flat_more (λ (h : Heard). map (λ f. f.body) h.said) before e
 
-pub learned_more : (before : List Heard) (e : Heard) → flat_map learned (before ++ e ∷ []) ≡ known_at before e.took ++ flat_map parts e.said
+pub learned_more : (before : List Heard) (e : Heard) → flat_map learned (before ++ e ∷ []) ≡ known_at before e.took
+    ++ flat_map parts e.said
 unfolding known_at
-learned_more before e = flat_more learned before e ∙ sym (append_assoc (flat_map learned before) (flat_map parts (taken_frames e.took)) (flat_map parts e.said))
+learned_more before e = flat_more learned before e
+    ∙ sym (append_assoc (flat_map learned before) (flat_map parts (taken_frames e.took)) (flat_map parts e.said))
 
-pub used_more : (shared : Bool) (before : List Heard) (e : Heard) → leaves_used shared (before ++ e ∷ []) ≡ leaves_used shared before + leaves_for shared (length e.said)
+pub used_more : (shared : Bool) (before : List Heard) (e : Heard) →
+    leaves_used shared (before ++ e ∷ []) ≡ leaves_used shared before + leaves_for shared (length e.said)
 used_more shared [] e = omega arith
 used_more shared (h ∷ rest) e =
-    let later : leaves_used shared (rest ++ e ∷ []) ≡ leaves_used shared rest + leaves_for shared (length e.said) = used_more shared rest e in
+    let later : leaves_used shared (rest ++ e ∷ []) ≡ leaves_used shared rest + leaves_for shared (length e.said) =
+    used_more shared rest e in
     omega arith

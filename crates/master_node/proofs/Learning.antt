@@ -4,11 +4,12 @@ use Rattle.message_types.specs.declared.signed.Signed.{Signed}
 use Rattle.message_types.specs.declared.body.Body.{Body}
 use Rattle.protocol_rules.specs.Group.{Group}
 use Rattle.protocol_rules.specs.Measures.{Told}
-use Rattle.suspect_leader.specs.Kept.{Kept, IsMeasureOf}
+use Rattle.suspect_leader.specs.MeasureState.{MeasureState, IsMeasureOf}
 use Rattle.master_knowledge.specs.declared.knowledge.Knowledge.{Knowledge}
 use Rattle.master_knowledge.specs.Knows.{Knows}
 
-pub knows_told : (g : Group) (me : ℕ) (k : Knowledge) (m : Kept) (taken known : List (Signed Body)) (told then_told : List Told) (said : List Body) → Knows g me k taken known told said
+pub knows_told : (g : Group) (me : ℕ) (k : Knowledge) (m : MeasureState) (taken known : List (Signed Body))
+    (told then_told : List Told) (said : List Body) → Knows g me k taken known told said
     → IsMeasureOf g me m then_told known said → Knows g me (record k { measure = m }) taken known then_told said
 knows_told g me k m taken known told then_told said knows measure = record {
   masters = knows.masters;

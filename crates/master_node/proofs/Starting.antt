@@ -1,5 +1,6 @@
 -- A master before its first event.
-use Rattle.std.proofs.Common.{◌≡◌, ℕ, ◌+◌, ◌<◌, ◌≤◌, List, [], ◌∷◌, ◌++◌, Option, Some, None, zero, suc, length, nat_eq, refl, sym, ◌∙◌, ap, subst, arith}
+use Rattle.std.proofs.Common.{◌≡◌, ℕ, ◌+◌, ◌<◌, ◌≤◌, List, [], ◌∷◌, ◌++◌, Option, Some, None, zero, suc, length}
+use Rattle.std.proofs.Common.{nat_eq, refl, sym, ◌∙◌, ap, subst, arith}
 use Rattle.std.specs.Prelude.{slice_index}
 use Rattle.std.specs.List.{flat_map}
 use Rattle.message_types.specs.Parts.{parts}
@@ -16,7 +17,7 @@ use Rattle.master_points.specs.declared.plant.Plant.{Plant}
 use Rattle.master_points.specs.Orders.{IsPlant, fresh, held_after, orders}
 use Rattle.scenario_file.specs.declared.scenario.Scenario.{Scenario}
 use Rattle.master_knowledge.specs.Knows.{IsExecutionOf, IsCaughtUp}
-use Rattle.master_answers.specs.Speaks.{Speaks}
+use Rattle.master_answers.specs.Replica.{IsReplicaOf}
 use Rattle.master_node.specs.declared.running.Running.{Running}
 use Rattle.master_node.specs.Charge.{Charge, IsChargeOf}
 use Rattle.master_node.specs.Running.{IsRunning}
@@ -24,7 +25,8 @@ use Rattle.master_node.specs.Running.{IsRunning}
 run_none : {X : Type 0} (f : ℕ → Option X) (start most : ℕ) → f start ≡ None → run_from f start most ≡ []
 unfolding run_from
 run_none f start zero e = refl
-run_none {X} f start (suc most) e = ap (λ (o : Option X). elim o as (λ _. List X) [ None ↦ [] | Some x ↦ x ∷ run_from f (suc start) most ]) e
+run_none {X} f start (suc most) e =
+    ap (λ (o : Option X). elim o as (λ _. List X) [ None ↦ [] | Some x ↦ x ∷ run_from f (suc start) most ]) e
 
 nothing_ordered : (g : Group) → ordered_run g (facts_of g []) ≡ []
 unfolding ordered_run ordered first_met facts_of rows_known
@@ -38,24 +40,30 @@ none_before : {X : Type 0} (xs ys : List X) → [] ≡ xs ++ ys → [] ≡ xs
 none_before [] ys e = refl
 none_before {X} (x ∷ xs) ys e = let many : 0 ≡ suc (length (xs ++ ys)) = ap length e in absurd (omega arith)
 
-caught_at_start : (g : Group) (kept : Running) → IsExecutionOf g kept.speaker.knowledge.run [] → IsCaughtUp g kept.speaker.knowledge []
-caught_at_start g kept is = subst (λ (runs : List (List (List ℕ))). IsRunOf g kept.speaker.knowledge.run (certified_requests g []) runs)
+caught_at_start : (g : Group) (kept : Running) → IsExecutionOf g kept.replica.knowledge.run [] →
+    IsCaughtUp g kept.replica.knowledge []
+caught_at_start g kept is =
+    subst (λ (runs : List (List (List ℕ))). IsRunOf g kept.replica.knowledge.run (certified_requests g []) runs)
     (sym (none_before is.before is.after (sym (nothing_ordered g) ∙ is.all)) ∙ sym (nothing_ordered g)) is.run
 
-pub started : (scenario : Scenario) (number given : ℕ) (c : Charge) (kept : Running) → IsChargeOf scenario number given c → IsPlant scenario.plant scenario.screens → number < scenario.sizes.n
-    → Speaks (group_of scenario.sizes (length scenario.plant.devices + scenario.screens)) number kept.speaker [] [] [] []
-    → ((n : ℕ) → slice_index kept.speaker.vouchers.counts n ≡ 0)
-    → kept.points ≡ fresh scenario.plant scenario.screens → kept.unheard ≡ [] → kept.leaves ≡ given → kept.shared_leaves ≡ nat_eq scenario.frames 2
+pub started : (scenario : Scenario) (number given : ℕ) (c : Charge) (kept : Running) →
+    IsChargeOf scenario number given c → IsPlant scenario.plant scenario.screens → number < scenario.sizes.n
+    → IsReplicaOf (group_of scenario.sizes (length scenario.plant.devices + scenario.screens))
+    number kept.replica [] [] [] []
+    → ((n : ℕ) → slice_index kept.replica.vouchers.counts n ≡ 0)
+    → kept.points ≡ fresh scenario.plant scenario.screens → kept.unheard ≡ [] → kept.leaves ≡ given →
+    kept.shared_leaves ≡ nat_eq scenario.frames 2
     → IsRunning c kept []
 unfolding known_of
-started scenario number given c kept charge plant few speaks counts points unheard leaves shared = record {
-  sizes = subst HasSizes (sym charge.group) (record { group = scenario.sizes.group; all = scenario.sizes.all; quorum = scenario.sizes.quorum });
+started scenario number given c kept charge plant few is_replica counts points unheard leaves shared = record {
+  sizes = subst HasSizes (sym charge.group)
+      (record { group = scenario.sizes.group; all = scenario.sizes.all; quorum = scenario.sizes.quorum });
   master =
       let me : c.me ≡ number = charge.me in
       let n : c.group.n ≡ scenario.sizes.n = ap (λ (g : Group). g.n) charge.group in
       omega arith;
   ticks = omega arith;
-  keeps = record { counted = []; speaks = own; all = λ _. refl };
+  keeps = record { counted = []; is_replica = own; all = λ _. refl };
   caught = caught_at_start c.group kept own.knows.run;
   points = record {
     plant = scenario.plant;
@@ -65,15 +73,16 @@ started scenario number given c kept charge plant few speaks counts points unhea
     orders = charge.orders;
     held = points ∙ ap (held_after (fresh scenario.plant scenario.screens)) (nothing_executed c.group);
   };
-  vouchers = λ n less. let none : slice_index kept.speaker.vouchers.counts n ≡ 0 = counts n in omega arith;
+  vouchers = λ n less. let none : slice_index kept.replica.vouchers.counts n ≡ 0 = counts n in omega arith;
   unheard = ap (flat_map parts) unheard;
   placed = refl;
   leaves = leaves ∙ sym charge.leaves ∙ (omega arith);
   shared = shared ∙ sym charge.shared;
 }
   where
-    own : Speaks c.group c.me kept.speaker [] [] [] []
-    own = subst (λ m. Speaks c.group m kept.speaker [] [] [] []) (sym charge.me) (subst (λ (g : Group). Speaks g number kept.speaker [] [] [] []) (sym charge.group) speaks)
+    own : IsReplicaOf c.group c.me kept.replica [] [] [] []
+    own = subst (λ m. IsReplicaOf c.group m kept.replica [] [] [] []) (sym charge.me)
+        (subst (λ (g : Group). IsReplicaOf g number kept.replica [] [] [] []) (sym charge.group) is_replica)
 
 pub few_clients_at_start : (plant : Plant) (screens : ℕ) → IsPlant plant screens → length plant.devices + screens ≤ 12
 few_clients_at_start plant screens is =
@@ -91,5 +100,12 @@ charge_by scenario number given = record {
   shared_leaves = nat_eq scenario.frames 2;
 }
 
-pub is_charge_by : (scenario : Scenario) (number given : ℕ) → IsChargeOf scenario number given (charge_by scenario number given)
-is_charge_by scenario number given = record { group = refl; me = refl; orders = λ updates client. refl; leaves = refl; shared = refl }
+pub is_charge_by : (scenario : Scenario) (number given : ℕ) →
+    IsChargeOf scenario number given (charge_by scenario number given)
+is_charge_by scenario number given = record {
+  group = refl;
+  me = refl;
+  orders = λ updates client. refl;
+  leaves = refl;
+  shared = refl;
+}

@@ -1,14 +1,10 @@
-ghost use Rattle.std.specs.Prelude.{◌≡◌, ◌++◌, ◌∷◌, [], ◌<◌, ◌^◌, OnOk, List, ℕ, true};
+ghost use Rattle.std.specs.Prelude.{◌≡◌, ◌++◌, ◌∷◌, [], ◌<◌, ◌^◌, OnOk, true};
 ghost use Rattle.std.specs.List.{list_all, flat_map};
-ghost use Rattle.message_types.specs.declared.signed.Signed.{Signed as SignedWord};
-ghost use Rattle.message_types.specs.declared.body.Body.{Body as Word};
 ghost use Rattle.message_types.specs.Parts.{parts};
-ghost use Rattle.protocol_rules.specs.Group.{Group};
-ghost use Rattle.protocol_rules.specs.Measures.{Told};
 ghost use Rattle.protocol_rules.specs.Views.{view};
 ghost use Rattle.protocol_rules.specs.Master.{waits};
 ghost use Rattle.master_knowledge.specs.Whole.{is_whole};
-ghost use Rattle.master_knowledge.specs.Knows.{Knows, IsKnowledge, IsCaughtUp};
+ghost use Rattle.master_knowledge.specs.Knows.{Knows, Learns, Where, IsKnowledge, IsCaughtUp};
 
 use master_knowledge::Knowledge;
 use message_types::Frame;
@@ -18,8 +14,7 @@ use plain_lists::{Items, Want};
 pub(crate) fn recall_all(knowledge: &mut Knowledge, frames: &Items<Frame>) -> Result<(), Want>
     requires known { IsKnowledge knowledge.old }
     requires whole { list_all (is_whole knowledge.old.preorder.group) frames.now ≡ true }
-    ensures { OnOk result ((g : Group) (me : ℕ) (taken known : List (SignedWord Word)) (told : List Told) (said : List Word)
-        → Knows g me knowledge.old taken known told said → Knows g me knowledge.new taken (known ++ flat_map parts frames.now) told said) }
+    ensures { OnOk result (Learns knowledge.old knowledge.new (flat_map parts frames.now)) }
 {
     for frame in frames.as_slice() {
         knowledge.recall(frame)?;
@@ -30,9 +25,8 @@ pub(crate) fn recall_all(knowledge: &mut Knowledge, frames: &Items<Frame>) -> Re
 /// Tells the measures of an event, once all is known and executed that the master goes by at it.
 pub(crate) fn tell(knowledge: &mut Knowledge, at_tick: bool) -> Result<(), Want>
     requires ticks { at_tick ≡ true → knowledge.old.measure.ticks < 2 ^ 32 }
-    ensures told { OnOk result ((g : Group) (me : ℕ) (taken known : List (SignedWord Word)) (told : List Told) (said : List Word)
-        → Knows g me knowledge.old taken known told said → IsCaughtUp g knowledge.old known
-        → Knows g me knowledge.new taken known (told ++ record { is_tick = at_tick; view = view g known; waits = waits g known } ∷ []) said) }
+    ensures told { OnOk result (Where knowledge.old (λ g me taken known told said. IsCaughtUp g knowledge.old known
+        → Knows g me knowledge.new taken known (told ++ record { is_tick = at_tick; view = view g known; waits = waits g known } ∷ []) said)) }
     ensures run { OnOk result (knowledge.new.run ≡ knowledge.old.run) }
 {
     let view = knowledge.views.view();

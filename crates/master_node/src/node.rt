@@ -7,7 +7,7 @@ ghost use Rattle.protocol_rules.specs.Preorder.{certified};
 ghost use Rattle.protocol_rules.specs.Views as rules;
 ghost use Rattle.protocol_rules.specs.Master.{Heard, executed};
 ghost use Rattle.history_rules.specs.Legal.{known_of};
-ghost use Rattle.own_words.specs.Laws.{ticks_heard};
+ghost use Rattle.words_in_place.specs.Laws.{ticks_heard};
 ghost use Rattle.master_points.specs.Orders.{orders};
 ghost use Rattle.scenario_file.specs.Reading.{contents};
 ghost use Rattle.scenario_file.specs.Valid.{IsScenario};
@@ -41,12 +41,12 @@ impl Drop for Node {
 
 impl Model for Node {
     ghost use Rattle.std.specs.Coded.{codes};
-    ghost use Rattle.interlocks.specs.Code.{formula_code};
+    ghost use Rattle.master_node.specs.contracts.running.Running as running_type;
     ghost use Rattle.master_node.specs.Node.{NodeState};
 
     ghost Value = { NodeState };
 
-    ghost coded = { Prim.hlevel (codes, formula_code) };
+    ghost coded = { Prim.hlevel (codes, running_type.the_row.coded) };
 
     ghost view = { λ node. record { running = node.running; is_spent = node.is_spent } };
 }
@@ -133,14 +133,14 @@ impl Node {
     pub fn executions(&self) -> &[Update]
         ensures { (c : Charge) (before : List Heard) → IsRunning c self.now.running before → result.now ≡ executed c.group (known_of before) }
     {
-        self.running.speaker.knowledge.run.list()
+        self.running.replica.knowledge.run.list()
     }
 
     /// The view that the master is in.
     pub fn view(&self) -> u64
         ensures { (c : Charge) (before : List Heard) → IsRunning c self.now.running before → result ≡ rules.view c.group (known_of before) }
     {
-        self.running.speaker.knowledge.views.view()
+        self.running.replica.knowledge.views.view()
     }
 
     /// How many ticks the master has had.
@@ -148,7 +148,7 @@ impl Node {
         ensures told { result ≡ ticks_in self.now.running }
         ensures heard { (c : Charge) (before : List Heard) → IsRunning c self.now.running before → result ≡ ticks_heard before }
     {
-        self.running.speaker.knowledge.measure.ticks()
+        self.running.replica.knowledge.measure.ticks()
     }
 
     /// How many leaves it has left to sign with.
@@ -163,6 +163,6 @@ impl Node {
     pub fn certified(&self, j: u32, k: u64) -> Option<&Update>
         ensures { (c : Charge) (before : List Heard) → IsRunning c self.now.running before → option_copied result ≡ certified c.group (known_of before) j k }
     {
-        self.running.speaker.knowledge.preorder.certified(j, k)
+        self.running.replica.knowledge.preorder.certified(j, k)
     }
 }

@@ -13,23 +13,36 @@ ghost use Rattle.master_node.specs.Running.{IsRunning, IsSomeRunning, HasLearned
 use crate::cut::cut;
 use crate::execute::apply_all;
 use crate::learn::{recall_all, tell};
-use master_answers::Speaker;
+use master_answers::ReplicaState;
 use master_points::Master;
 use message_types::{Body, Frame};
-use plain_lists::{Copied, Items, Want};
+use plain_lists::{Items, Want};
 use scenario_file::Scenario;
 use std::alloc::Global;
 
 /// All that a master keeps while it runs: its parts, the plant after what it executed, the frames that it said at its last
 /// event and doesn't know yet, and how many leaves are left.
-#[derive(Drop)]
 pub struct Running {
     pub alloc: Global,
-    pub speaker: Speaker,
+    pub replica: ReplicaState,
     pub points: Master,
     pub unheard: Items<Frame>,
     pub leaves: u64,
     pub shared_leaves: bool,
+}
+
+// Taken apart here once: what holds it lets go of it by one call.
+impl Drop for Running {
+    fn drop(self) {
+        let Running {
+            alloc: _,
+            replica: _,
+            points: _,
+            unheard: _,
+            leaves: _,
+            shared_leaves: _,
+        } = self;
+    }
 }
 
 impl Running {
@@ -48,7 +61,7 @@ impl Running {
         let points = Master::make(alloc, &scenario.plant, scenario.screens)?;
         Ok(Running {
             alloc,
-            speaker: Speaker::new(alloc, scenario.sizes, clients, number),
+            replica: ReplicaState::new(alloc, scenario.sizes, clients, number),
             points,
             unheard: Items::new(alloc),
             leaves,
@@ -63,10 +76,10 @@ impl Running {
         ensures said { IfOk result (λ bodies. (c : Charge) (before : List Heard) → IsRunning c self.old before → bodies.items ≡ says_at c before (Some frame.now) false) }
         ensures spoken { OnOk result ((c : Charge) (before : List Heard) → IsRunning c self.old before → HasSpoken c self.new before (Some frame.now) false) }
     {
-        let done = self.speaker.knowledge.run.list().len();
-        recall_all(&mut self.speaker.knowledge, &self.unheard)?;
+        let done = self.replica.knowledge.run.list().len();
+        recall_all(&mut self.replica.knowledge, &self.unheard)?;
         self.unheard = Items::new(self.alloc);
-        self.speaker.knowledge.hear(frame)?;
+        self.replica.knowledge.hear(frame)?;
         self.go_on(done, false)
     }
 
@@ -77,8 +90,8 @@ impl Running {
         ensures said { IfOk result (λ bodies. (c : Charge) (before : List Heard) → IsRunning c self.old before → bodies.items ≡ says_at c before None true) }
         ensures spoken { OnOk result ((c : Charge) (before : List Heard) → IsRunning c self.old before → HasSpoken c self.new before None true) }
     {
-        let done = self.speaker.knowledge.run.list().len();
-        recall_all(&mut self.speaker.knowledge, &self.unheard)?;
+        let done = self.replica.knowledge.run.list().len();
+        recall_all(&mut self.replica.knowledge, &self.unheard)?;
         self.unheard = Items::new(self.alloc);
         self.go_on(done, true)
     }
@@ -89,7 +102,7 @@ impl Running {
             → HasSpoken c self.old before took at_tick → AreItsFrames c before took at_tick frames.now
             → IsRunning c self.new (before ++ record { took = took; is_tick = at_tick; said = frames.now } ∷ [])) }
     {
-        self.unheard = copied(self.alloc, frames)?;
+        self.unheard = Items::from_slice(self.alloc, frames)?;
         Ok(())
     }
 
@@ -101,10 +114,10 @@ impl Running {
         ensures spoken { OnOk result ((c : Charge) (before : List Heard) (took : Option (SignedWord Word)) → HasLearned c self.old before took at_tick done
             → HasSpoken c self.new before took at_tick) }
     {
-        self.speaker.knowledge.catch_up()?;
-        let executed = self.speaker.knowledge.run.list();
+        self.replica.knowledge.catch_up()?;
+        let executed = self.replica.knowledge.run.list();
         apply_all(&mut self.points, &executed[done..])?;
-        tell(&mut self.speaker.knowledge, at_tick)?;
+        tell(&mut self.replica.knowledge, at_tick)?;
         self.say(at_tick)
     }
 
@@ -119,20 +132,9 @@ impl Running {
         if self.leaves == 0 {
             return Ok(Vec::new(self.alloc));
         }
-        let mut bodies = self.speaker.answer(&self.points, at_tick)?;
+        let mut bodies = self.replica.answer(&self.points, at_tick)?;
         let used = cut(&mut bodies, self.leaves, self.shared_leaves);
         self.leaves -= used;
         Ok(bodies)
     }
-}
-
-/// Copies of the frames, which share their signatures.
-fn copied(alloc: Global, frames: &[Frame]) -> Result<Items<Frame>, Want>
-    ensures { IfOk result (λ copies. copies ≡ frames.now) }
-{
-    let mut copies = Items::new(alloc);
-    for frame in frames {
-        copies.push(frame.copy()?)?;
-    }
-    Ok(copies)
 }

@@ -1,4 +1,5 @@
-use Rattle.std.specs.Prelude.{◌≡◌, ℕ, zero, suc, ◌==◌, nat_lt, Bool, true, false, ◌&&◌, if◌then◌else◌, List, [], ◌∷◌, ◌++◌, Option, Some, None, ℤ, slice_get, slice_set, position, IsSomeAnd}
+use Rattle.std.specs.Prelude.{◌≡◌, ℕ, zero, suc, ◌==◌, nat_lt, Bool, true, false, ◌&&◌, if◌then◌else◌, List, [], ◌∷◌}
+use Rattle.std.specs.Prelude.{◌++◌, Option, Some, None, ℤ, slice_get, slice_set, position, IsSomeAnd}
 use Rattle.std.specs.Ordering.{int_eq}
 use Rattle.message_types.specs.declared.updates.Op.{Op}
 use Rattle.message_types.specs.declared.updates.Op.TheVariants as op
@@ -44,7 +45,12 @@ settled (Read p v) s = record {
   table = record { points = s.table.points; values = slice_set s.table.values p v };
   board = record { rules = s.board.rules; states = seen p v s.board.rules s.board.states };
 }
-settled (Acknowledge a) s = record { table = s.table; board = record { rules = s.board.rules; states = slice_set s.board.states a Acknowledged } }
+settled (Acknowledge a) s =
+    record {
+      table = s.table;
+      board =
+          record { rules = s.board.rules; states = slice_set s.board.states a Acknowledged };
+    }
 
 abbrev pub notice : NoticeKind → ℕ → ℕ → Order
 notice what t number = order.Notice (record { what = what; t = t; number = number })
@@ -74,7 +80,10 @@ is_own_within client v (Some p) = (p.proxy == client) && is_within p v
 -- a reading by the point's own proxy counts; nothing else that a proxy says does
 abbrev pub from_proxy : Site → State → ℕ → Op → Effect
 from_proxy site s client (op.Reading p v) = if is_own_within client v (slice_get s.table.points p)
-    then record { orders = change_orders site (changes p v 0 s.board.rules s.board.states); step = Read p v } else nothing
+    then record {
+      orders = change_orders site (changes p v 0 s.board.rules s.board.states);
+      step = Read p v;
+    } else nothing
 from_proxy site s client _ = nothing
 
 abbrev pub is_for : Option ℤ → ℤ → Bool
@@ -97,7 +106,8 @@ if_in_range site s number v p (Some raw) = unless_denied p raw (position (denies
 -- value stands for the value; no interlock denies it, the first one that does is named
 abbrev pub verdict_on : Site → State → ℕ → ℤ → Option Point → Verdict
 verdict_on site s number v None = verdict.NoPoint
-verdict_on site s number v (Some p) = if is_writable p.area then if_in_range site s number v p (raw_of p v) else verdict.NotWritable
+verdict_on site s number v (Some p) = if is_writable p.area then if_in_range site s number v p
+    (raw_of p v) else verdict.NotWritable
 
 -- the one notice that a screen's command gives it
 abbrev pub reply : ℕ → NoticeKind → ℕ → ℕ → List Addressed
@@ -109,18 +119,25 @@ set_orders client t number verdict.NoPoint = reply client kind.NoPoint t number
 set_orders client t number verdict.NotWritable = reply client kind.NotWritable t number
 set_orders client t number verdict.OutOfRange = reply client kind.OutOfRange t number
 set_orders client t number (verdict.Denied i) = reply client kind.Denied t i
-set_orders client t number (verdict.Write proxy raw) = record { client = proxy; order = order.Write number raw } ∷ reply client kind.Done t 0
+set_orders client t number (verdict.Write proxy raw) = record { client = proxy; order = order.Write number raw }
+    ∷ reply client kind.Done t 0
 
 -- each update of a screen gives it one notice. A set changes no value
 abbrev pub from_screen : Site → State → ℕ → ℕ → Op → Effect
 from_screen site s client t (op.Reading p v) = record { orders = reply client kind.WrongPart t 0; step = Keep }
 from_screen site s client t (op.Ack a) = if is_raised_at s.board.states a
-    then record { orders = reply client kind.Done t 0; step = Acknowledge a } else record { orders = reply client kind.NoAlarm t a; step = Keep }
-from_screen site s client t (op.Set p v) = record { orders = set_orders client t p (verdict_on site s p v (slice_get s.table.points p)); step = Keep }
+    then record { orders = reply client kind.Done t 0; step = Acknowledge a } else record {
+      orders =
+          reply client kind.NoAlarm t a;
+      step = Keep;
+    }
+from_screen site s client t (op.Set p v) =
+    record { orders = set_orders client t p (verdict_on site s p v (slice_get s.table.points p)); step = Keep }
 
 -- what an executed update does
 abbrev pub effect : Site → State → Update → Effect
-effect site s u = if nat_lt u.client site.devices then from_proxy site s u.client u.op else from_screen site s u.client u.t u.op
+effect site s u = if nat_lt u.client site.devices then from_proxy site s u.client u.op else
+    from_screen site s u.client u.t u.op
 
 -- whether a step can be made: the point is there and the value within its bounds; the alarm is raised
 abbrev pub IsPossible : State → Step → Type 0

@@ -1,4 +1,5 @@
-use Rattle.std.specs.Prelude.{◌≡◌, ℕ, ◌+◌, ◌==◌, ◌<◌, ◌≤◌, if◌then◌else◌, List, [], ◌∷◌, ◌++◌, length, replicate, slice_get, Some}
+use Rattle.std.specs.Prelude.{◌≡◌, ℕ, ◌+◌, ◌==◌, ◌<◌, ◌≤◌, if◌then◌else◌, List, [], ◌∷◌, ◌++◌, length, replicate}
+use Rattle.std.specs.Prelude.{slice_get, Some}
 use Rattle.message_types.specs.declared.updates.Update.{Update}
 use Rattle.message_types.specs.declared.vouchers.Order.{Order}
 use Rattle.point_table.specs.declared.point.Point.{Point}
@@ -46,11 +47,17 @@ pub record Held : Type 0 where
 
 -- a master before any update
 abbrev pub fresh : Plant → ℕ → Held
-fresh plant screens = record { site = site_of plant screens; state = start_of plant; lists = replicate (length plant.devices + screens) [] }
+fresh plant screens = record {
+  site = site_of plant screens;
+  state = start_of plant;
+  lists =
+      replicate (length plant.devices + screens) [];
+}
 
 -- a master after one update more
 abbrev pub applied : Held → Update → Held
-applied h u = let e = effect h.site h.state u in record { site = h.site; state = settled e.step h.state; lists = given e.orders h.lists }
+applied h u = let e = effect h.site h.state u in
+    record { site = h.site; state = settled e.step h.state; lists = given e.orders h.lists }
 
 -- each point belongs to a proxy that is there
 abbrev pub AreOwned : ℕ → List Point → Type 0
@@ -74,8 +81,11 @@ held_after h (u ∷ us) = held_after (applied h u) us
 
 -- a longer list of updates only appends orders
 abbrev pub OnlyAppends : Type 0
-OnlyAppends = (plant : Plant) (screens : ℕ) (us more : List Update) (client : ℕ) → (added : List Order) × (orders plant screens (us ++ more) client ≡ orders plant screens us client ++ added)
+OnlyAppends = (plant : Plant) (screens : ℕ) (us more : List Update) (client : ℕ) → (added : List Order)
+    × (orders plant screens (us ++ more) client ≡ orders plant screens us client ++ added)
 
 -- what a master holds for a client after executed updates are the client's orders
 abbrev pub HoldsOrders : Type 0
-HoldsOrders = (plant : Plant) (screens : ℕ) (us : List Update) (client : ℕ) → client < length plant.devices + screens → slice_get (held_after (fresh plant screens) us).lists client ≡ Some (orders plant screens us client)
+HoldsOrders = (plant : Plant) (screens : ℕ) (us : List Update) (client : ℕ) →
+    client < length plant.devices + screens → slice_get (held_after (fresh plant screens) us).lists client ≡ Some
+    (orders plant screens us client)

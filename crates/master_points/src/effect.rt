@@ -2,14 +2,14 @@ use message_types::Order;
 use plain_lists::Items;
 
 /// An order and the client that it is for.
-#[derive(Clone, Copy, Debug, PartialEq, Eq)]
+#[derive(Clone, Copy, PartialEq, Eq)]
 pub struct Addressed {
     pub client: u32,
     pub order: Order,
 }
 
 /// What an update changes in the state.
-#[derive(Clone, Copy, Debug, PartialEq, Eq)]
+#[derive(Clone, Copy, PartialEq, Eq)]
 pub enum Step {
     Keep,
     Read { point: u32, value: i64 },
@@ -24,7 +24,7 @@ pub struct Effect {
 }
 
 /// What becomes of a screen's command to set a point.
-#[derive(Clone, Copy, Debug, PartialEq, Eq)]
+#[derive(Clone, Copy, PartialEq, Eq)]
 pub enum Verdict {
     NoPoint,
     NotWritable,

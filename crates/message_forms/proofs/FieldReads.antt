@@ -1,5 +1,6 @@
 -- A field that the reader of fields takes, or finds too short, is what the grammar says.
-use Rattle.std.proofs.Common.{◌≡◌, ◌<◌, ◌+◌, ◌^◌, ℕ, true, false, List, ◌++◌, length, take, drop, refl, sym, ap, ◌∙◌, arith, length-append}
+use Rattle.std.proofs.Common.{◌≡◌, ◌<◌, ◌+◌, ◌^◌, ℕ, true, false, List, ◌++◌, length, take, drop, refl, sym, ap, ◌∙◌}
+use Rattle.std.proofs.Common.{arith, length-append}
 use Rattle.std.specs.Prelude.{nat_lt, Ok, Err}
 use Rattle.std.proofs.lemmas.Bool.{le-ltb}
 use Rattle.std.proofs.lemmas.List.{take_at, drop_at}
@@ -30,7 +31,8 @@ unfolding field_at
 field_short value size place rest less = let short : nat_lt (length rest) size ≡ true = grind arith in rw short refl
 
 -- a reader whose part stands at `base` finds the field short
-pub short_read : {X : Type 0} (value : List ℕ → X) (size place base : ℕ) (v part : View) → at (base + part.place) part.rest ≡ v
+pub short_read : {X : Type 0} (value : List ℕ → X) (size place base : ℕ) (v part : View) →
+    at (base + part.place) part.rest ≡ v
     → place ≡ v.place → length part.rest < size → field_at value size v ≡ Err (fault.Short place)
 short_read value size place base v part is here less =
     let there : place ≡ base + part.place = here ∙ ap (λ w. w.place) (sym is) in
@@ -44,19 +46,22 @@ pub u16_read : (base : ℕ) (v w : View) (x : ℕ) → x < 2 ^ 16 → Takes v w 
     → number_at 2 (at (base + v.place) v.rest) ≡ Ok (x, at (base + w.place) w.rest)
 unfolding u16_bytes
 u16_read base v w x fits takes =
-    field_ok (big_number 2) 2 base v w x (u16_bytes x) takes (length-u16_bytes x) (big_number-reads_back 2 x w.rest fits)
+    field_ok (big_number 2) 2 base v w x (u16_bytes x) takes (length-u16_bytes x)
+    (big_number-reads_back 2 x w.rest fits)
 
 pub u32_read : (base : ℕ) (v w : View) (x : ℕ) → x < 2 ^ 32 → Takes v w (u32_bytes x)
     → number_at 4 (at (base + v.place) v.rest) ≡ Ok (x, at (base + w.place) w.rest)
 unfolding u32_bytes
 u32_read base v w x fits takes =
-    field_ok (big_number 4) 4 base v w x (u32_bytes x) takes (length-u32_bytes x) (big_number-reads_back 4 x w.rest fits)
+    field_ok (big_number 4) 4 base v w x (u32_bytes x) takes (length-u32_bytes x)
+    (big_number-reads_back 4 x w.rest fits)
 
 pub u64_read : (base : ℕ) (v w : View) (x : ℕ) → x < 2 ^ 64 → Takes v w (u64_bytes x)
     → number_at 8 (at (base + v.place) v.rest) ≡ Ok (x, at (base + w.place) w.rest)
 unfolding u64_bytes
 u64_read base v w x fits takes =
-    field_ok (big_number 8) 8 base v w x (u64_bytes x) takes (length-u64_bytes x) (big_number-reads_back 8 x w.rest fits)
+    field_ok (big_number 8) 8 base v w x (u64_bytes x) takes (length-u64_bytes x)
+    (big_number-reads_back 8 x w.rest fits)
 
 pub bytes_read : (base : ℕ) (v w : View) (piece : List ℕ) (count : ℕ) → length piece ≡ count → Takes v w piece
     → bytes_at count (at (base + v.place) v.rest) ≡ Ok (piece, at (base + w.place) w.rest)
@@ -65,7 +70,8 @@ bytes_read base v w piece count len takes =
 
 pub end_ok : (place : ℕ) (rest : List ℕ) → (0 < length rest → ⊥) → end_at (at place rest) ≡ Ok (tt, at place rest)
 unfolding end_at
-end_ok place rest none = let empty : nat_lt 0 (length rest) ≡ false = le-ltb 0 (length rest) (grind (arith, none)) in rw empty refl
+end_ok place rest none = let empty : nat_lt 0 (length rest) ≡ false = le-ltb 0 (length rest) (grind (arith, none)) in
+    rw empty refl
 
 pub end_left : (place : ℕ) (rest : List ℕ) → 0 < length rest → end_at (at place rest) ≡ Err (fault.Trailing place)
 unfolding end_at

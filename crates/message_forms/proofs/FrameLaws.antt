@@ -33,7 +33,8 @@ frame_back f bytes wide ok is =
     let small : nat_lt (2 ^ 30) (length text) ≡ false = le-ltb (2 ^ 30) (length text) (frame_within f ok wide) in
     let one = ap (λ x. signed_at body_at None (at 0 x)) (sym (append-nil text)) ∙ signed_back f 0 [] ok wide in
     ap frame_at is
-    ∙ ap (λ b. if b then Err (fault.TooLong 0) else (signed_at body_at None (at 0 text) >>= λ frame. end_at frame.1 >>= λ done. Ok frame.0)) small
+    ∙ ap (λ b. if b then Err (fault.TooLong 0) else (signed_at body_at None (at 0 text) >>= λ frame. end_at frame.1
+    >>= λ done. Ok frame.0)) small
     ∙ ap (λ read. read >>= λ frame. end_at frame.1 >>= λ done. Ok frame.0) one
     ∙ ap (λ read. read >>= λ done. Ok f) (end_here (0 + length text))
 
@@ -43,7 +44,8 @@ pub frame_sound : (bytes : List ℕ) (f : Signed Body) → IsBytes bytes → fra
 unfolding frame_at has_spelling
 frame_sound bytes f ok h = found (nat_lt (2 ^ 30) (length bytes)) h where
   found : (b : Bool)
-      → (if b then Err (fault.TooLong 0) else (signed_at body_at None (at 0 bytes) >>= λ frame. end_at frame.1 >>= λ done. Ok frame.0)) ≡ Ok f
+      → (if b then Err (fault.TooLong 0) else (signed_at body_at None (at 0 bytes) >>= λ frame. end_at frame.1
+      >>= λ done. Ok frame.0)) ≡ Ok f
       → (bytes ≡ frame_text f) × (has_spelling f ≡ true) × FitsFields f
   found true h = absurd (cc)
   found false h =
@@ -51,14 +53,18 @@ frame_sound bytes f ok h = found (nat_lt (2 ^ 30) (length bytes)) h where
       let two = bind_ok (end_at one.0.1) (λ done. Ok one.0.0) f one.2 in
       let q = (Spells-signed short_body Spells-body None).sound (at 0 bytes) one.0 ok one.1 in
       let none = end_none one.0.1 two.0 two.1 in
-      let whole : bytes ≡ frame_text one.0.0 = q.takes.bytes ∙ ap (λ x. frame_text one.0.0 ++ x) none ∙ append-nil (frame_text one.0.0) in
-      subst (λ g. (bytes ≡ frame_text g) × (has_spelling g ≡ true) × FitsFields g) (ok_inj two.2) (whole, q.fits, q.wide)
+      let whole : bytes ≡ frame_text one.0.0 = q.takes.bytes ∙ ap (λ x. frame_text one.0.0 ++ x) none
+      ∙ append-nil (frame_text one.0.0) in
+      subst (λ g. (bytes ≡ frame_text g) × (has_spelling g ≡ true) × FitsFields g)
+      (ok_inj two.2) (whole, q.fits, q.wide)
 
 -- no spelling is a prefix of another frame's
-pub no_prefix : (f g : Signed Body) (xs ys : List ℕ) → FitsFields f → FitsFields g → has_spelling f ≡ true → has_spelling g ≡ true
+pub no_prefix : (f g : Signed Body) (xs ys : List ℕ) → FitsFields f → FitsFields g → has_spelling f ≡ true →
+    has_spelling g ≡ true
     → frame_text f ++ xs ≡ frame_text g ++ ys → (f ≡ g) × (xs ≡ ys)
 no_prefix f g xs ys wf wg sf sg same =
-    let both = ok_inj (sym (signed_back f 0 xs sf wf) ∙ ap (λ x. signed_at body_at None (at 0 x)) same ∙ signed_back g 0 ys sg wg) in
+    let both = ok_inj (sym (signed_back f 0 xs sf wf) ∙ ap (λ x. signed_at body_at None (at 0 x)) same
+    ∙ signed_back g 0 ys sg wg) in
     (ap (λ z. z.0) both, ap (λ z. z.1.rest) both)
 
 -- no fault: some frame is spelled so
@@ -83,7 +89,8 @@ pub answer_found : (r : Result (Signed Body) FormRefusal) (bytes : List ℕ) →
 answer_found (Ok f) bytes ok h = (frame_sound bytes f ok h).0
 answer_found (Err e) bytes ok h = tt
 
-pub answer_spelled : (r : Result (Signed Body) FormRefusal) (bytes : List ℕ) → IsBytes bytes → Answers r (frame_at bytes)
+pub answer_spelled : (r : Result (Signed Body) FormRefusal) (bytes : List ℕ) → IsBytes bytes →
+    Answers r (frame_at bytes)
     → IfOk r (λ f. IsTrue (has_spelling f))
 answer_spelled (Ok f) bytes ok h = (frame_sound bytes f ok h).1
 answer_spelled (Err e) bytes ok h = tt

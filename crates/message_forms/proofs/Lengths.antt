@@ -1,5 +1,6 @@
 -- How long texts can be: a frame that has a spelling is below 1 GiB.
-use Rattle.std.proofs.Common.{◌≡◌, ◌≤◌, ◌+◌, ◌*◌, ◌^◌, ℕ, Bool, true, List, [], ◌∷◌, ◌++◌, length, refl, arith, length-append}
+use Rattle.std.proofs.Common.{◌≡◌, ◌≤◌, ◌+◌, ◌*◌, ◌^◌, ℕ, Bool, true, List, [], ◌∷◌, ◌++◌, length, refl, arith}
+use Rattle.std.proofs.Common.{length-append}
 use Rattle.std.specs.Prelude.{◌&&◌, nat_le, map}
 use Rattle.std.specs.List.{flat_map, list_all, AllByRecursion}
 use Rattle.std.proofs.Math.Nat.{mul-suc, mul-le-mul_left}
@@ -22,9 +23,15 @@ use Rattle.message_types.specs.declared.vouchers.Order.{Order}
 use Rattle.message_types.specs.declared.vouchers.Order.TheVariants as order
 use Rattle.message_types.specs.declared.body.Body.{Body}
 use Rattle.message_types.specs.declared.body.Body.TheVariants as body
-use Rattle.message_types.specs.Texts.{list_text, signed_text, op_text, rows_text, order_text, update_text, request_text, ack_text, summary_text, prepare_text, commit_text, mark_text, certificate_text, report_text, body_text, frame_text}
-use Rattle.message_types.specs.Spelling.{is_rising, signers_of, signature_fits, frames_fit, always_fits, row_fits, rows_fit, request_fits, summary_fits, certificate_fits, report_fits, body_fits, has_spelling}
-use Rattle.message_forms.specs.Widths.{Is64, FitsSigner, FitsSigners, FitsAck, FitsRow, FitsRows, FitsSummary, FitsPrepare, FitsCommit, FitsMark, FitsCertificate, FitsReport, FitsBody, FitsFields}
+use Rattle.message_types.specs.Texts.{list_text, signed_text, op_text, rows_text, order_text, update_text}
+use Rattle.message_types.specs.Texts.{request_text, ack_text, summary_text, prepare_text, commit_text, mark_text}
+use Rattle.message_types.specs.Texts.{certificate_text, report_text, body_text, frame_text}
+use Rattle.message_types.specs.Spelling.{is_rising, signers_of, signature_fits, frames_fit, always_fits, row_fits}
+use Rattle.message_types.specs.Spelling.{rows_fit, request_fits, summary_fits, certificate_fits, report_fits}
+use Rattle.message_types.specs.Spelling.{body_fits, has_spelling}
+use Rattle.message_forms.specs.Widths.{Is64, FitsSigner, FitsSigners, FitsAck, FitsRow, FitsRows, FitsSummary}
+use Rattle.message_forms.specs.Widths.{FitsPrepare, FitsCommit, FitsMark, FitsCertificate, FitsReport, FitsBody}
+use Rattle.message_forms.specs.Widths.{FitsFields}
 
 items_within : {X : Type 0} (f : X → List ℕ) (p : X → Bool) (W : X → Type 0) (most : ℕ)
     → ((x : X) → p x ≡ true → W x → length (f x) ≤ most)
@@ -45,7 +52,8 @@ list_within f p W most count each xs few all wide =
     let fewer = mul-le-mul_left most (leb-true (length xs) count few) in
     omega (arith, length-append (u16_bytes (length xs)) (flat_map f xs), length-u16_bytes (length xs))
 
-signed_within : {B : Type 0} (t : B → List ℕ) (f : Signed B) (most : ℕ) → length (t f.body) ≤ most → signature_fits f ≡ true
+signed_within : {B : Type 0} (t : B → List ℕ) (f : Signed B) (most : ℕ) → length (t f.body) ≤ most →
+    signature_fits f ≡ true
     → length (signed_text t f) ≤ most + 65548
 signed_within t f most body fits =
     let sig = leb-true (length f.sig) 65536 fits in
@@ -53,9 +61,11 @@ signed_within t f most body fits =
 
 frames_within : {B : Type 0} (t : B → List ℕ) (p : B → Bool) (W : B → Type 0) (most : ℕ)
     → ((b : B) → p b ≡ true → W b → length (t b) ≤ most)
-    → (fs : List (Signed B)) → frames_fit p fs ≡ true → FitsSigners W fs → length (list_text (signed_text t) fs) ≤ 2 + (most + 65548) * 14
+    → (fs : List (Signed B)) → frames_fit p fs ≡ true → FitsSigners W fs →
+    length (list_text (signed_text t) fs) ≤ 2 + (most + 65548) * 14
 frames_within t p W most each fs fits wide =
-    let a = and_parts (nat_le (length fs) 14 && is_rising (signers_of fs)) (list_all (λ f. p f.body && signature_fits f) fs) fits in
+    let a = and_parts (nat_le (length fs) 14 && is_rising (signers_of fs))
+    (list_all (λ f. p f.body && signature_fits f) fs) fits in
     let b = and_parts (nat_le (length fs) 14) (is_rising (signers_of fs)) a.0 in
     list_within (signed_text t) (λ f. p f.body && signature_fits f) (FitsSigner W) (most + 65548) 14
     (λ f ok w. let c = and_parts (p f.body) (signature_fits f) ok in signed_within t f most (each f.body c.0 w.1) c.1)
@@ -71,19 +81,28 @@ op_within (op.Set point value) = simp (length-append, length-u32_bytes, length-u
 op_within (op.Ack alarm) = simp (length-append, length-u32_bytes) (omega arith)
 
 pub update_within : (b : Update) → length (update_text b) ≤ 27
-update_within b = let o = op_within b.op in simp (length-append, length-u16_bytes, length-u32_bytes, length-u64_bytes) (omega arith)
+update_within b = let o = op_within b.op in
+    simp (length-append, length-u16_bytes, length-u32_bytes, length-u64_bytes) (omega arith)
 
 pub request_within : (b : PoRequest) → request_fits b ≡ true → length (request_text b) ≤ 65585
 request_within b fits =
     let inner = signed_within update_text b.update 27 (update_within b.update.body) fits in
-    omega (arith, length-append (u16_bytes 2 ++ u64_bytes b.k) (signed_text update_text b.update), length-append (u16_bytes 2) (u64_bytes b.k), length-u16_bytes 2, length-u64_bytes b.k)
+    omega (
+      arith,
+      length-append (u16_bytes 2 ++ u64_bytes b.k) (signed_text update_text b.update),
+      length-append (u16_bytes 2) (u64_bytes b.k),
+      length-u16_bytes 2,
+      length-u64_bytes b.k,
+    )
 
 pub ack_within : (b : PoAck) → FitsAck b → length (ack_text b) ≤ 46
-ack_within b wide = let d = wide.1.1 in simp (length-append, length-u16_bytes, length-u32_bytes, length-u64_bytes) (omega arith)
+ack_within b wide = let d = wide.1.1 in
+    simp (length-append, length-u16_bytes, length-u32_bytes, length-u64_bytes) (omega arith)
 
 row_within : (row : List ℕ) → row_fits row ≡ true → FitsRow row → length (list_text u64_bytes row) ≤ 114
 row_within row fits wide =
-    list_within u64_bytes (λ x. true) Is64 8 14 (λ x ok w. omega (arith, length-u64_bytes x)) row fits (numbers_all row) wide
+    list_within u64_bytes (λ x. true) Is64 8 14 (λ x ok w. omega (arith, length-u64_bytes x))
+    row fits (numbers_all row) wide
 
 pub summary_within : (b : PoSummary) → summary_fits b ≡ true → FitsSummary b → length (summary_text b) ≤ 116
 summary_within b fits wide =
@@ -105,14 +124,17 @@ commit_within b wide = let d = wide.1.1 in simp (length-append, length-u16_bytes
 pub mark_within : (b : Mark) → length (mark_text b) ≤ 10
 mark_within b = simp (length-append, length-u16_bytes, length-u64_bytes) (omega arith)
 
-certificate_within : (c : Certificate) → certificate_fits c ≡ true → FitsCertificate c → length (certificate_text c) ≤ 919990
+certificate_within : (c : Certificate) → certificate_fits c ≡ true → FitsCertificate c →
+    length (certificate_text c) ≤ 919990
 certificate_within c fits wide =
     let a = and_parts (rows_fit c.rows) (frames_fit always_fits c.prepares) fits in
     let rows = rows_within c.rows a.0 wide.1.1.0 in
-    let prepares = frames_within prepare_text always_fits FitsPrepare 50 (λ b ok w. prepare_within b w) c.prepares a.1 wide.1.1.1 in
+    let prepares = frames_within prepare_text always_fits FitsPrepare 50 (λ b ok w. prepare_within b w)
+    c.prepares a.1 wide.1.1.1 in
     omega (
       arith,
-      length-append (u64_bytes c.s ++ u64_bytes c.v ++ rows_text c.rows) (list_text (signed_text prepare_text) c.prepares),
+      length-append (u64_bytes c.s ++ u64_bytes c.v ++ rows_text c.rows)
+          (list_text (signed_text prepare_text) c.prepares),
       length-append (u64_bytes c.s ++ u64_bytes c.v) (rows_text c.rows),
       length-append (u64_bytes c.s) (u64_bytes c.v),
       length-u64_bytes c.s,
@@ -122,17 +144,21 @@ certificate_within c fits wide =
 pub report_within : (b : Report) → report_fits b ≡ true → FitsReport b → length (report_text b) ≤ 15637674
 report_within b fits wide =
     let key = λ (c : Certificate). c.s in
-    let a = and_parts (frames_fit always_fits b.marks && nat_le (length b.certificates) 16 && is_rising (map (λ c. c.s) b.certificates)) (list_all certificate_fits b.certificates) fits in
-    let d = and_parts (frames_fit always_fits b.marks && nat_le (length b.certificates) 16) (is_rising (map (λ c. c.s) b.certificates)) a.0 in
+    let a = and_parts (frames_fit always_fits b.marks && nat_le (length b.certificates) 16
+    && is_rising (map (λ c. c.s) b.certificates)) (list_all certificate_fits b.certificates) fits in
+    let d = and_parts (frames_fit always_fits b.marks && nat_le (length b.certificates) 16)
+    (is_rising (map (λ c. c.s) b.certificates)) a.0 in
     let e = and_parts (frames_fit always_fits b.marks) (nat_le (length b.certificates) 16) d.0 in
     let marks = frames_within mark_text always_fits FitsMark 10 (λ m ok w. mark_within m) b.marks e.0 wide.1.1.0 in
-    let certificates = list_within certificate_text certificate_fits FitsCertificate 919990 16 certificate_within b.certificates e.1 a.1 wide.1.1.1 in
+    let certificates = list_within certificate_text certificate_fits FitsCertificate 919990 16 certificate_within
+    b.certificates e.1 a.1 wide.1.1.1 in
     let front = u16_bytes 14 ++ u64_bytes b.v ++ u64_bytes b.base in
     let m = list_text (signed_text mark_text) b.marks in
     let c = list_text certificate_text b.certificates in
     omega (
       arith,
-      length-append (u16_bytes 14 ++ u64_bytes b.v ++ u64_bytes b.base ++ list_text (signed_text mark_text) b.marks) (list_text certificate_text b.certificates),
+      length-append (u16_bytes 14 ++ u64_bytes b.v ++ u64_bytes b.base ++ list_text (signed_text mark_text) b.marks)
+          (list_text certificate_text b.certificates),
       length-append (u16_bytes 14 ++ u64_bytes b.v ++ u64_bytes b.base) (list_text (signed_text mark_text) b.marks),
       length-append (u16_bytes 14 ++ u64_bytes b.v) (u64_bytes b.base),
       length-append (u16_bytes 14) (u64_bytes b.v),
@@ -165,8 +191,10 @@ body_within (body.PrePrepare b) fits wide =
 body_within (body.Prepare b) fits wide = let w = prepare_within b wide in omega arith
 body_within (body.Commit b) fits wide = let w = commit_within b wide in omega arith
 body_within (body.Ping b) fits wide = simp (length-append, length-u16_bytes, length-u64_bytes) (omega arith)
-body_within (body.Pong b) fits wide = simp (length-append, length-u16_bytes, length-u32_bytes, length-u64_bytes) (omega arith)
-body_within (body.Rtt b) fits wide = simp (length-append, length-u16_bytes, length-u32_bytes, length-u64_bytes) (omega arith)
+body_within (body.Pong b) fits wide =
+    simp (length-append, length-u16_bytes, length-u32_bytes, length-u64_bytes) (omega arith)
+body_within (body.Rtt b) fits wide =
+    simp (length-append, length-u16_bytes, length-u32_bytes, length-u64_bytes) (omega arith)
 body_within (body.TatReport b) fits wide = simp (length-append, length-u16_bytes, length-u64_bytes) (omega arith)
 body_within (body.TatBound b) fits wide = simp (length-append, length-u16_bytes, length-u64_bytes) (omega arith)
 body_within (body.Suspect b) fits wide = simp (length-append, length-u16_bytes, length-u64_bytes) (omega arith)
@@ -180,7 +208,8 @@ body_within (body.NewView b) fits wide =
       length-u16_bytes 15,
       length-u64_bytes b.v,
     )
-body_within (body.AskUpdate b) fits wide = simp (length-append, length-u16_bytes, length-u32_bytes, length-u64_bytes) (omega arith)
+body_within (body.AskUpdate b) fits wide =
+    simp (length-append, length-u16_bytes, length-u32_bytes, length-u64_bytes) (omega arith)
 body_within (body.Give b) fits wide =
     let a = and_parts (request_fits b.request.body && signature_fits b.request) (frames_fit always_fits b.acks) fits in
     let c = and_parts (request_fits b.request.body) (signature_fits b.request) a.0 in
@@ -196,10 +225,12 @@ body_within (body.AskOrder b) fits wide = simp (length-append, length-u16_bytes,
 body_within (body.GiveOrdered b) fits wide =
     let a = and_parts (rows_fit b.rows) (frames_fit always_fits b.commits) fits in
     let rows = rows_within b.rows a.0 wide.1.1.0 in
-    let commits = frames_within commit_text always_fits FitsCommit 50 (λ x ok w. commit_within x w) b.commits a.1 wide.1.1.1 in
+    let commits = frames_within commit_text always_fits FitsCommit 50 (λ x ok w. commit_within x w)
+    b.commits a.1 wide.1.1.1 in
     omega (
       arith,
-      length-append (u16_bytes 19 ++ u64_bytes b.s ++ u64_bytes b.v ++ rows_text b.rows) (list_text (signed_text commit_text) b.commits),
+      length-append (u16_bytes 19 ++ u64_bytes b.s ++ u64_bytes b.v ++ rows_text b.rows)
+          (list_text (signed_text commit_text) b.commits),
       length-append (u16_bytes 19 ++ u64_bytes b.s ++ u64_bytes b.v) (rows_text b.rows),
       length-append (u16_bytes 19 ++ u64_bytes b.s) (u64_bytes b.v),
       length-append (u16_bytes 19) (u64_bytes b.s),
@@ -207,7 +238,8 @@ body_within (body.GiveOrdered b) fits wide =
       length-u64_bytes b.s,
       length-u64_bytes b.v,
     )
-body_within (body.Voucher b) fits wide = let o = order_within b.order in simp (length-append, length-u16_bytes, length-u32_bytes, length-u64_bytes) (omega arith)
+body_within (body.Voucher b) fits wide = let o = order_within b.order in
+    simp (length-append, length-u16_bytes, length-u32_bytes, length-u64_bytes) (omega arith)
 body_within (body.Mark b) fits wide = let w = mark_within b in omega arith
 
 pub frame_within : (f : Signed Body) → has_spelling f ≡ true → FitsFields f → length (frame_text f) ≤ 2 ^ 30

@@ -1,6 +1,8 @@
 -- A reading and a text agree: what has the text is read, whatever follows it, and what is read has the text. One law
 -- for each piece of the grammar.
-use Rattle.std.proofs.Common.{Fits, w8, length-take, eq-eqb, ◌≡◌, ◌<◌, ◌≤◌, ◌+◌, ◌^◌, ℕ, zero, suc, Bool, true, false, List, [], ◌∷◌, ◌++◌, length, take, drop, get_or, refl, sym, ap, ◌∙◌, subst, arith, length-append, append_assoc}
+use Rattle.std.proofs.Common.{Fits, w8, length-take, eq-eqb, ◌≡◌, ◌<◌, ◌≤◌, ◌+◌, ◌^◌, ℕ, zero, suc, Bool, true, false}
+use Rattle.std.proofs.Common.{List, [], ◌∷◌, ◌++◌, length, take, drop, get_or, refl, sym, ap, ◌∙◌, subst, arith}
+use Rattle.std.proofs.Common.{length-append, append_assoc}
 use Rattle.std.specs.Prelude.{◌&&◌, nat_eq, nat_lt, nat_le, if◌then◌else◌, Option, None, Result, Ok, Err}
 use Rattle.std.specs.List.{flat_map, list_all, AllByRecursion}
 use Rattle.std.proofs.lemmas.Bool.{and_parts, le-ltb, ltb-false, leb-true, eqb-true}
@@ -11,11 +13,13 @@ use Rattle.byteorder.specs.Numbers.{big_number-reads_back}
 use Rattle.wire_parts.specs.View.{View, Takes}
 use Rattle.wire_parts.specs.ViewLaws.{Takes-append}
 use Rattle.wire_parts.specs.Fields.{u8_bytes, u16_bytes, u32_bytes, u64_bytes}
-use Rattle.wire_parts.specs.FieldLaws.{length-u16_bytes, length-u32_bytes, length-u64_bytes, u16_bytes-big_number, u32_bytes-big_number, u64_bytes-big_number}
+use Rattle.wire_parts.specs.FieldLaws.{length-u16_bytes, length-u32_bytes, length-u64_bytes, u16_bytes-big_number}
+use Rattle.wire_parts.specs.FieldLaws.{u32_bytes-big_number, u64_bytes-big_number}
 use Rattle.message_forms.specs.declared.refusal.FormRefusal.{FormRefusal}
 use Rattle.message_forms.specs.declared.refusal.FormRefusal.TheVariants as fault
 use Rattle.message_forms.specs.Widths.{IsBytes}
-use Rattle.message_forms.specs.Grammar.{Reading, ◌>>=◌, at, field_at, number_at, bytes_at, nothing, both, made, checked_at, mark_here, count_at, is_above, marked, items_at, list_at}
+use Rattle.message_forms.specs.Grammar.{Reading, ◌>>=◌, at, field_at, number_at, bytes_at, nothing, both, made}
+use Rattle.message_forms.specs.Grammar.{checked_at, mark_here, count_at, is_above, marked, items_at, list_at}
 
 pub IsBytes-behind : (xs ys : List ℕ) → IsBytes (xs ++ ys) → IsBytes ys
 IsBytes-behind [] ys h = h
@@ -39,7 +43,8 @@ pub record Parsed {X : Type 0} (t : X → List ℕ) (p : X → Bool) (W : X → 
   pub wide : W z.0
   pub takes : Takes v z.1 (t z.0)
 
-pub record Spells {X : Type 0} (read : View → Reading X) (text : X → List ℕ) (fits : X → Bool) (Wide : X → Type 0) : Type 0 where
+pub record Spells {X : Type 0} (read : View → Reading X) (text : X → List ℕ) (fits : X → Bool)
+    (Wide : X → Type 0) : Type 0 where
   pub back : (x : X) (place : ℕ) (rest : List ℕ) → fits x ≡ true → Wide x
       → read (at place (text x ++ rest)) ≡ Ok (x, at (place + length (text x)) rest)
   pub sound : (v : View) (z : X × View) → IsBytes v.rest → read v ≡ Ok z → Parsed text fits Wide v z
@@ -83,7 +88,8 @@ field_taken value size v z h = taken (nat_lt (length v.rest) size) refl h where
   taken true is h = absurd (cc)
   taken false is h = (ltb-false (length v.rest) size is, ok_inj h)
 
-pub Spells-field : {X : Type 0} (value : List ℕ → X) (size : ℕ) (text : X → List ℕ) (fits : X → Bool) (Wide : X → Type 0)
+pub Spells-field : {X : Type 0} (value : List ℕ → X) (size : ℕ) (text : X → List ℕ)
+    (fits : X → Bool) (Wide : X → Type 0)
     → ((x : X) → fits x ≡ true → Wide x → (rest : List ℕ) → (length (text x) ≡ size) × (value (text x ++ rest) ≡ x))
     → ((bytes : List ℕ) → IsBytes bytes → size ≤ length bytes
     → (fits (value bytes) ≡ true) × Wide (value bytes) × (text (value bytes) ≡ take size bytes))
@@ -96,7 +102,13 @@ Spells-field value size text fits Wide again there = record {
       let whole : v.rest ≡ text (value v.rest) ++ drop size v.rest =
       sym (take-append-drop size v.rest) ∙ ap (λ front. front ++ drop size v.rest) (sym o.2) in
       let len : length (text (value v.rest)) ≡ size = omega (arith, ap length o.2, length_take size v.rest t.0) in
-      subst (Parsed text fits Wide v) t.1 (record { fits = o.0; wide = o.1; takes = record { bytes = whole; place = ap (λ n. v.place + n) (sym len) } });
+      subst (Parsed text fits Wide v) t.1
+      (record {
+        fits = o.0;
+        wide = o.1;
+        takes =
+            record { bytes = whole; place = ap (λ n. v.place + n) (sym len) };
+      });
 } where
   length_take : (n : ℕ) (bytes : List ℕ) → n ≤ length bytes → length (take n bytes) ≡ n
   length_take n bytes h = omega (arith, length-take n bytes)
@@ -123,7 +135,8 @@ Spells-u8 = Spells-field (big_number 1) 1 u8_bytes (λ x. true) (λ x. x < 2 ^ 8
       one : (bytes : List ℕ) → IsBytes bytes → 1 ≤ length bytes
           → (true ≡ true) × (big_number 1 bytes < 2 ^ 8) × (u8_bytes (big_number 1 bytes) ≡ take 1 bytes)
       one [] ok enough = absurd (omega arith)
-      one (b ∷ bytes) ok enough = let b_is : big_number 1 (b ∷ bytes) ≡ b = omega arith in (refl, omega (arith, ok.0), ap (λ x. x ∷ []) b_is)
+      one (b ∷ bytes) ok enough = let b_is : big_number 1 (b ∷ bytes) ≡ b = omega arith in
+          (refl, omega (arith, ok.0), ap (λ x. x ∷ []) b_is)
 
 pub Spells-u16 : Spells (number_at 2) u16_bytes (λ x. true) (λ x. x < 2 ^ 16)
 unfolding u16_bytes
@@ -142,8 +155,11 @@ Spells-u32 = Spells-field (big_number 4) 4 u32_bytes (λ x. true) (λ x. x < 2 ^
     (λ bytes ok enough.
     let at_ : (i : ℕ) → get_or bytes i 0 < 256 = λ i. IsBytes-at bytes i ok in
     let len : length (take 4 bytes) ≡ 4 = omega (arith, length-take 4 bytes) in
-    let is = u32_bytes-big_number (take 4 bytes) len (λ i. byte_fits (take 4 bytes) i (IsBytes-take 4 bytes ok)) in
-    (refl, omega (arith, at_ 0, at_ 1, at_ 2, at_ 3), ap u32_bytes (sym (big_from-take 0 4 4 bytes (omega arith))) ∙ is))
+    let is = u32_bytes-big_number (take 4 bytes) len (λ i. byte_fits (take 4 bytes) i (IsBytes-take 4 bytes ok)) in (
+      refl,
+      omega (arith, at_ 0, at_ 1, at_ 2, at_ 3),
+      ap u32_bytes (sym (big_from-take 0 4 4 bytes (omega arith))) ∙ is,
+    ))
 
 pub Spells-u64 : Spells (number_at 8) u64_bytes (λ x. true) (λ x. x < 2 ^ 64)
 unfolding u64_bytes
@@ -177,7 +193,8 @@ pub Spells-checked : (size : ℕ) (text : ℕ → List ℕ) (Wide : ℕ → Type
 unfolding checked_at
 Spells-checked size text Wide test refusal number = record {
   back = λ x place rest ok wide.
-      ap (λ read. read >>= λ found. if test found.0 then Ok found else Err (refusal place)) (number.back x place rest refl wide)
+      ap (λ read. read >>= λ found. if test found.0 then Ok found else Err (refusal place))
+      (number.back x place rest refl wide)
       ∙ ap (λ b. if b then Ok (x, at (place + length (text x)) rest) else Err (refusal place)) ok;
   sound = λ v z ok h.
       let b = bind_ok (number_at size v) (λ found. if test found.0 then Ok found else Err (refusal v.place)) z h in
@@ -237,7 +254,12 @@ Spells-as {r = r} {t = t} {p = p} {W = W} t' p' W' same_text same_fits from to l
       ∙ ap (λ bytes. Ok (x, at (place + length bytes) rest)) (sym (same_text x));
   sound = λ v z ok h.
       let q = law.sound v z ok h in
-      record { fits = same_fits z.0 ∙ q.fits; wide = to z.0 q.wide; takes = subst (Takes v z.1) (sym (same_text z.0)) q.takes };
+      record {
+        fits = same_fits z.0 ∙ q.fits;
+        wide = to z.0 q.wide;
+        takes =
+            subst (Takes v z.1) (sym (same_text z.0)) q.takes;
+      };
 }
 
 pub Spells-marked : {X : Type 0} {r : View → Reading X} {t : X → List ℕ} {p : X → Bool} {W : X → Type 0}
@@ -247,7 +269,8 @@ Spells-marked {r = r} {t = t} {p = p} {W = W} size mark text Wide number mark_fi
     let here = Spells-checked size text Wide (λ n. nat_eq n mark) fault.UnknownKind number in record {
       back = λ x place rest ok wide.
           ap (λ bytes. marked size mark r (at place bytes)) (append_assoc (text mark) (t x) rest)
-          ∙ ap (λ read. read >>= λ found. r found.1) (here.back mark place (t x ++ rest) (eq-eqb mark mark refl) mark_fits)
+          ∙ ap (λ read. read >>= λ found. r found.1)
+          (here.back mark place (t x ++ rest) (eq-eqb mark mark refl) mark_fits)
           ∙ law.back x (place + length (text mark)) rest ok wide
           ∙ ap (λ n. Ok (x, at n rest)) (omega (arith, length-append (text mark) (t x)));
       sound = λ v z ok h.
@@ -266,7 +289,8 @@ abbrev pub rises : {X : Type 0} → (X → Option ℕ) → Option ℕ → List X
 rises key before [] = true
 rises key before (x ∷ xs) = is_above before (key x) && rises key (key x) xs
 
-pub record ItemsParsed {X : Type 0} (t : X → List ℕ) (key : X → Option ℕ) (p : X → Bool) (W : X → Type 0) (n : ℕ) (before : Option ℕ)
+pub record ItemsParsed {X : Type 0} (t : X → List ℕ) (key : X → Option ℕ) (p : X → Bool) (W : X → Type 0)
+    (n : ℕ) (before : Option ℕ)
     (v : View) (z : List X × View) : Type 0 where
   pub count : length z.0 ≡ n
   pub order : rises key before z.0 ≡ true
@@ -274,18 +298,21 @@ pub record ItemsParsed {X : Type 0} (t : X → List ℕ) (key : X → Option ℕ
   pub wide : AllByRecursion W z.0
   pub takes : Takes v z.1 (flat_map t z.0)
 
-module _ {X : Type 0} (item : Option ℕ → View → Reading X) (key : X → Option ℕ) (t : X → List ℕ) (p : X → Bool) (W : X → Type 0)
+module _ {X : Type 0} (item : Option ℕ → View → Reading X) (key : X → Option ℕ) (t : X → List ℕ)
+    (p : X → Bool) (W : X → Type 0)
     (law : (before : Option ℕ) → Spells (item before) t (λ x. is_above before (key x) && p x) W) where
   pub items_back : (xs : List X) (before : Option ℕ) (place : ℕ) (rest : List ℕ) → rises key before xs ≡ true
       → list_all p xs ≡ true → AllByRecursion W xs
-      → items_at item key (length xs) before (at place (flat_map t xs ++ rest)) ≡ Ok (xs, at (place + length (flat_map t xs)) rest)
+      → items_at item key (length xs) before (at place (flat_map t xs ++ rest)) ≡ Ok
+      (xs, at (place + length (flat_map t xs)) rest)
   items_back [] before place rest order ok wide = ap (λ n. Ok ([], at n rest)) (omega arith)
   items_back (x ∷ xs) before place rest order ok wide =
       let o = and_parts (is_above before (key x)) (rises key (key x) xs) order in
       let k = and_parts (p x) (list_all p xs) ok in
       let one = (law before).back x place (flat_map t xs ++ rest) (both_true o.0 k.0) wide.0 in
       let more = items_back xs (key x) (place + length (t x)) rest o.1 k.1 wide.1 in
-      ap (λ bytes. items_at item key (suc (length xs)) before (at place bytes)) (append_assoc (t x) (flat_map t xs) rest)
+      ap (λ bytes. items_at item key (suc (length xs)) before (at place bytes))
+      (append_assoc (t x) (flat_map t xs) rest)
       ∙ ap (λ read. read >>= λ y. items_at item key (length xs) (key y.0) y.1 >>= λ ys. Ok (y.0 ∷ ys.0, ys.1)) one
       ∙ ap (λ read. read >>= λ ys. Ok (x ∷ ys.0, ys.1)) more
       ∙ ap (λ n. Ok (x ∷ xs, at n rest)) (omega (arith, length-append (t x) (flat_map t xs)))
@@ -294,7 +321,14 @@ module _ {X : Type 0} (item : Option ℕ → View → Reading X) (key : X → Op
       → items_at item key n before v ≡ Ok z → ItemsParsed t key p W n before v z
   items_sound zero before v z ok h =
       subst (ItemsParsed t key p W 0 before v) (ok_inj h)
-      (record { count = refl; order = refl; fits = refl; wide = tt; takes = record { bytes = refl; place = omega arith } })
+      (record {
+        count = refl;
+        order = refl;
+        fits = refl;
+        wide = tt;
+        takes =
+            record { bytes = refl; place = omega arith };
+      })
   items_sound (suc n) before v z ok h =
       let one = bind_ok (item before v) (λ y. items_at item key n (key y.0) y.1 >>= λ ys. Ok (y.0 ∷ ys.0, ys.1)) z h in
       let two = bind_ok (items_at item key n (key one.0.0) one.0.1) (λ ys. Ok (one.0.0 ∷ ys.0, ys.1)) z one.2 in
@@ -321,15 +355,18 @@ module _ {X : Type 0} (item : Option ℕ → View → Reading X) (key : X → Op
             let b = and_parts (rises key None xs) (list_all p xs) a.1 in
             let within = leb-true (length xs) most a.0 in
             let fits : length xs < 2 ^ 16 = omega (arith, within, small) in
-            ap (λ bytes. list_at most item key (at place bytes)) (append_assoc (u16_bytes (length xs)) (flat_map t xs) rest)
-            ∙ ap (λ read. read >>= λ n. items_at item key n.0 None n.1) (count.back (length xs) place (flat_map t xs ++ rest) a.0 fits)
+            ap (λ bytes. list_at most item key (at place bytes))
+            (append_assoc (u16_bytes (length xs)) (flat_map t xs) rest)
+            ∙ ap (λ read. read >>= λ n. items_at item key n.0 None n.1)
+            (count.back (length xs) place (flat_map t xs ++ rest) a.0 fits)
             ∙ items_back xs None (place + length (u16_bytes (length xs))) rest b.0 b.1 wide
             ∙ ap (λ n. Ok (xs, at n rest)) (omega (arith, length-append (u16_bytes (length xs)) (flat_map t xs)));
         sound = λ v z ok h.
             let one = bind_ok (count_at most v) (λ n. items_at item key n.0 None n.1) z h in
             let a = count.sound v one.0 ok one.1 in
             let b = items_sound one.0.0 None one.0.1 z (rest_bytes v one.0.1 (u16_bytes one.0.0) a.takes ok) one.2 in
-            let takes : Takes v one.0.1 (u16_bytes (length z.0)) = subst (λ n. Takes v one.0.1 (u16_bytes n)) (sym b.count) a.takes in
+            let takes : Takes v one.0.1 (u16_bytes (length z.0)) =
+            subst (λ n. Takes v one.0.1 (u16_bytes n)) (sym b.count) a.takes in
             let within : nat_le (length z.0) most ≡ true = ap (λ n. nat_le n most) b.count ∙ a.fits in
             record {
               fits = both_true within (both_true b.order b.fits);

@@ -1,5 +1,6 @@
 -- A loop that reads items keeps: those read so far, with what stands there, are the whole list.
-use Rattle.std.proofs.Common.{◌≡◌, ◌<◌, ◌+◌, ◌-◌, ℕ, suc, List, [], ◌∷◌, ◌++◌, refl, sym, ap, ◌∙◌, arith, append_assoc}
+use Rattle.std.proofs.Common.{◌≡◌, ◌<◌, ◌+◌, ◌-◌, ℕ, suc, List, [], ◌∷◌, ◌++◌, refl, sym, ap, ◌∙◌, arith}
+use Rattle.std.proofs.Common.{append_assoc}
 use Rattle.std.specs.Prelude.{Option, Result, Ok, Err}
 use Rattle.wire_parts.specs.View.{View}
 use Rattle.message_forms.specs.declared.refusal.FormRefusal.{FormRefusal}
@@ -28,7 +29,8 @@ module _ {X : Type 0} (item : Option ℕ → View → Reading X) (key : X → Op
   regrouped front x (Err e) = refl
 
   one_more : (front : List X) (n : ℕ) (before : Option ℕ) (v w : View) (x : X) → item before v ≡ Ok (x, w)
-      → with_front front (items_at item key (suc n) before v) ≡ with_front (front ++ x ∷ []) (items_at item key n (key x) w)
+      → with_front front (items_at item key (suc n) before v) ≡ with_front (front ++ x ∷ [])
+      (items_at item key n (key x) w)
   one_more front n before v w x is =
       ap (λ read. with_front front (read >>= λ y. items_at item key n (key y.0) y.1 >>= λ xs. Ok (y.0 ∷ xs.0, xs.1))) is
       ∙ regrouped front x (items_at item key n (key x) w)
@@ -38,7 +40,8 @@ module _ {X : Type 0} (item : Option ℕ → View → Reading X) (key : X → Op
   stops front n before v e is =
       ap (λ read. with_front front (read >>= λ y. items_at item key n (key y.0) y.1 >>= λ xs. Ok (y.0 ∷ xs.0, xs.1))) is
 
-  pub keeps : (front : List X) (count i : ℕ) (before : Option ℕ) (v w : View) (x : X) (whole : Reading (List X)) → i < count
+  pub keeps : (front : List X) (count i : ℕ) (before : Option ℕ) (v w : View) (x : X) (whole : Reading (List X)) →
+      i < count
       → item before v ≡ Ok (x, w)
       → with_front front (items_at item key (count - i) before v) ≡ whole
       → with_front (front ++ x ∷ []) (items_at item key (count - (i + 1)) (key x) w) ≡ whole
@@ -48,7 +51,8 @@ module _ {X : Type 0} (item : Option ℕ → View → Reading X) (key : X → Op
       ∙ ap (λ n. with_front front (items_at item key n before v)) (sym more) ∙ kept
 
   pub fails : (front : List X) (count i : ℕ) (before : Option ℕ) (v : View) (whole : Reading (List X)) (e : FormRefusal)
-      → i < count → with_front front (items_at item key (count - i) before v) ≡ whole → Fails e (item before v) → Fails e whole
+      → i < count → with_front front (items_at item key (count - i) before v) ≡ whole →
+      Fails e (item before v) → Fails e whole
   fails front count i before v whole e less kept h =
       Fails-within e (item before v) whole
       (λ f is. let more : count - i ≡ suc (count - (i + 1)) = omega arith in

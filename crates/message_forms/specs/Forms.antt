@@ -1,7 +1,8 @@
 -- The forms of all words, by the tables of kinds. All are this project's own.
-use Rattle.std.specs.Prelude.{ℕ, ℤ, ◌^◌, nat_lt, if◌then◌else◌, List, length, Option, Some, None, Result, Ok, Err}
+use Rattle.std.specs.Prelude.{ℕ, ℤ, nat_lt, if◌then◌else◌, List, length, Option, Some, None, Result, Ok, Err}
 use Rattle.wire_parts.specs.View.{View}
 use Rattle.message_types.specs.declared.signed.Signed.{Signed}
+use Rattle.message_types.specs.declared.limits.TheConstants.{MOST_LISTED, MOST_CERTIFICATES, MOST_BODY_BYTES}
 use Rattle.message_types.specs.declared.updates.Op.{Op}
 use Rattle.message_types.specs.declared.updates.Op.TheVariants as op
 use Rattle.message_types.specs.declared.updates.Update.{Update}
@@ -35,7 +36,9 @@ use Rattle.message_types.specs.declared.body.Body.{Body}
 use Rattle.message_types.specs.declared.body.Body.TheVariants as body
 use Rattle.message_forms.specs.declared.refusal.FormRefusal.{FormRefusal}
 use Rattle.message_forms.specs.declared.refusal.FormRefusal.TheVariants as fault
-use Rattle.message_forms.specs.Grammar.{Reading, ◌>>=◌, at, number_at, signed_number_at, bytes_at, nothing, both, made, marked, Cases, unknown, case, chosen, key_at, list_at, end_at, signed_at, frames_at, no_key}
+use Rattle.message_forms.specs.Grammar.{Reading, ◌>>=◌, at, number_at, signed_number_at, bytes_at, nothing, both}
+use Rattle.message_forms.specs.Grammar.{made, marked, Cases, unknown, case, chosen, key_at, list_at, end_at}
+use Rattle.message_forms.specs.Grammar.{signed_at, frames_at, no_key}
 
 -- the fields behind a kind's number, and the whole body of a kind that stands inside others
 
@@ -54,10 +57,11 @@ unfoldable pub request_at : View → Reading PoRequest
 request_at = made (λ p. record { k = p.0; update = p.1 }) (both (number_at 8) (signed_at (marked 2 1 update_at) None))
 
 unfoldable pub ack_at : View → Reading PoAck
-ack_at = made (λ p. record { j = p.0; k = p.1.0; digest = p.1.1 }) (both (number_at 4) (both (number_at 8) (bytes_at 32)))
+ack_at = made (λ p. record { j = p.0; k = p.1.0; digest = p.1.1 })
+    (both (number_at 4) (both (number_at 8) (bytes_at 32)))
 
 unfoldable pub row_at : View → Reading (List ℕ)
-row_at = list_at 14 (λ before. number_at 8) no_key
+row_at = list_at MOST_LISTED (λ before. number_at 8) no_key
 
 unfoldable pub summary_at : View → Reading PoSummary
 summary_at = made (λ row. record { numbers = row }) row_at
@@ -67,10 +71,12 @@ pre_prepare_at = made (λ p. record { v = p.0; s = p.1.0; frames = p.1.1 })
     (both (number_at 8) (both (number_at 8) (frames_at (marked 2 4 summary_at))))
 
 unfoldable pub prepare_at : View → Reading Prepare
-prepare_at = made (λ p. record { v = p.0; s = p.1.0; digest = p.1.1 }) (both (number_at 8) (both (number_at 8) (bytes_at 32)))
+prepare_at = made (λ p. record { v = p.0; s = p.1.0; digest = p.1.1 })
+    (both (number_at 8) (both (number_at 8) (bytes_at 32)))
 
 unfoldable pub commit_at : View → Reading Commit
-commit_at = made (λ p. record { v = p.0; s = p.1.0; digest = p.1.1 }) (both (number_at 8) (both (number_at 8) (bytes_at 32)))
+commit_at = made (λ p. record { v = p.0; s = p.1.0; digest = p.1.1 })
+    (both (number_at 8) (both (number_at 8) (bytes_at 32)))
 
 unfoldable pub ping_at : View → Reading Ping
 ping_at = made (λ n. record { number = n }) (number_at 8)
@@ -79,7 +85,8 @@ unfoldable pub pong_at : View → Reading Pong
 pong_at = made (λ p. record { to = p.0; number = p.1 }) (both (number_at 4) (number_at 8))
 
 unfoldable pub rtt_at : View → Reading Rtt
-rtt_at = made (λ p. record { to = p.0; number = p.1.0; ticks = p.1.1 }) (both (number_at 4) (both (number_at 8) (number_at 8)))
+rtt_at = made (λ p. record { to = p.0; number = p.1.0; ticks = p.1.1 })
+    (both (number_at 4) (both (number_at 8) (number_at 8)))
 
 unfoldable pub tat_report_at : View → Reading TatReport
 tat_report_at = made (λ p. record { v = p.0; ticks = p.1 }) (both (number_at 8) (number_at 8))
@@ -95,7 +102,7 @@ mark_at = made (λ n. record { s = n }) (number_at 8)
 
 -- rows are marked by 0x00f0
 unfoldable pub rows_at : View → Reading (List (List ℕ))
-rows_at = marked 2 0x00f0 (list_at 14 (λ before. row_at) no_key)
+rows_at = marked 2 0x00f0 (list_at MOST_LISTED (λ before. row_at) no_key)
 
 -- the certificates of a list rise by their numbers s
 unfoldable pub certificate_at : Option ℕ → View → Reading Certificate
@@ -107,7 +114,8 @@ certificate_key c = Some c.s
 
 unfoldable pub report_at : View → Reading Report
 report_at = made (λ p. record { v = p.0; base = p.1.0; marks = p.1.1.0; certificates = p.1.1.1 })
-    (both (number_at 8) (both (number_at 8) (both (frames_at (marked 2 21 mark_at)) (list_at 16 certificate_at certificate_key))))
+    (both (number_at 8) (both (number_at 8)
+    (both (frames_at (marked 2 21 mark_at)) (list_at MOST_CERTIFICATES certificate_at certificate_key))))
 
 unfoldable pub new_view_at : View → Reading NewView
 new_view_at = made (λ p. record { v = p.0; reports = p.1 }) (both (number_at 8) (frames_at (marked 2 14 report_at)))
@@ -116,7 +124,8 @@ unfoldable pub ask_update_at : View → Reading AskUpdate
 ask_update_at = made (λ p. record { j = p.0; k = p.1 }) (both (number_at 4) (number_at 8))
 
 unfoldable pub give_at : View → Reading Give
-give_at = made (λ p. record { request = p.0; acks = p.1 }) (both (signed_at (marked 2 2 request_at) None) (frames_at (marked 2 3 ack_at)))
+give_at = made (λ p. record { request = p.0; acks = p.1 })
+    (both (signed_at (marked 2 2 request_at) None) (frames_at (marked 2 3 ack_at)))
 
 unfoldable pub ask_order_at : View → Reading AskOrder
 ask_order_at = made (λ n. record { s = n }) (number_at 8)
@@ -136,19 +145,22 @@ unfoldable pub what_at : View → Reading NoticeKind
 what_at = chosen 1 what_cases
 
 unfoldable pub notice_at : View → Reading Notice
-notice_at = made (λ p. record { what = p.0; t = p.1.0; number = p.1.1 }) (both what_at (both (number_at 8) (number_at 4)))
+notice_at = made (λ p. record { what = p.0; t = p.1.0; number = p.1.1 })
+    (both what_at (both (number_at 8) (number_at 4)))
 
 unfoldable pub order_at : View → Reading Order
 order_at = chosen 1 (case 1 (λ p. order.Write p.0 p.1) (both (number_at 4) (number_at 2))
     (case 2 order.Notice notice_at unknown))
 
 unfoldable pub voucher_at : View → Reading Voucher
-voucher_at = made (λ p. record { client = p.0; number = p.1.0; order = p.1.1 }) (both (number_at 4) (both (number_at 8) order_at))
+voucher_at = made (λ p. record { client = p.0; number = p.1.0; order = p.1.1 })
+    (both (number_at 4) (both (number_at 8) order_at))
 
 -- a body of any kind, by its number
 abbrev pub measure_kinds : Cases Body
 measure_kinds = case 8 body.Ping ping_at (case 9 body.Pong pong_at (case 10 body.Rtt rtt_at
-    (case 11 body.TatReport tat_report_at (case 12 body.TatBound tat_bound_at (case 13 body.Suspect suspect_at unknown)))))
+    (case 11 body.TatReport tat_report_at
+    (case 12 body.TatBound tat_bound_at (case 13 body.Suspect suspect_at unknown)))))
 
 abbrev pub view_kinds : Cases Body
 view_kinds = case 14 body.Report report_at (case 15 body.NewView new_view_at (case 16 body.AskUpdate ask_update_at
@@ -165,7 +177,7 @@ body_at = chosen 2 kinds
 
 -- a frame that fills its bytes, of which there are at most 1 GiB
 unfoldable pub frame_at : List ℕ → Result (Signed Body) FormRefusal
-frame_at bytes = if nat_lt (2 ^ 30) (length bytes) then Err (fault.TooLong 0)
+frame_at bytes = if nat_lt MOST_BODY_BYTES (length bytes) then Err (fault.TooLong 0)
     else (signed_at body_at None (at 0 bytes) >>= λ frame. end_at frame.1 >>= λ done. Ok frame.0)
 
 abbrev pub fault_in : {X : Type 0} → Result X FormRefusal → Option FormRefusal

@@ -1,11 +1,13 @@
 -- How bytes are taken apart: the pieces that every form is made of, each with its one fault. What stands at the
 -- front of the bytes is a value and what is left behind it, or the first fault and its place. The forms themselves
 -- stand in `Forms`; that they agree with the texts of `message_types`, both ways, is proved of each.
-use Rattle.std.specs.Prelude.{ℕ, zero, suc, ◌+◌, ◌^◌, Bool, true, nat_eq, nat_lt, nat_le, if◌then◌else◌, List, [], ◌∷◌, length, take, drop, Option, Some, None, Result, Ok, Err, ℤ}
+use Rattle.std.specs.Prelude.{ℕ, zero, suc, ◌+◌, Bool, true, nat_eq, nat_lt, nat_le, if◌then◌else◌, List, [], ◌∷◌}
+use Rattle.std.specs.Prelude.{length, take, drop, Option, Some, None, Result, Ok, Err, ℤ}
 use Rattle.std.specs.Int.{w64, cast_signed}
 use Rattle.byteorder.specs.Endian.{big_number}
 use Rattle.wire_parts.specs.View.{View}
 use Rattle.message_types.specs.declared.signed.Signed.{Signed}
+use Rattle.message_types.specs.declared.limits.TheConstants.{MOST_LISTED, MOST_SIGNATURE_BYTES, MOST_BODY_BYTES}
 use Rattle.message_forms.specs.declared.refusal.FormRefusal.{FormRefusal}
 use Rattle.message_forms.specs.declared.refusal.FormRefusal.TheVariants as fault
 
@@ -93,7 +95,8 @@ abbrev pub chosen : {X : Type 0} → ℕ → Cases X → View → Reading X
 chosen size cases v = number_at size v >>= λ found. cases found.0 v.place found.1
 
 -- so many items, each given the key of the one before it
-abbrev pub items_at : {X : Type 0} → (Option ℕ → View → Reading X) → (X → Option ℕ) → ℕ → Option ℕ → View → Reading (List X)
+abbrev pub items_at : {X : Type 0} → (Option ℕ → View → Reading X) → (X → Option ℕ) → ℕ →
+    Option ℕ → View → Reading (List X)
 items_at item key zero before v = Ok ([], v)
 items_at item key (suc n) before v =
     item before v >>= λ x. items_at item key n (key x.0) x.1 >>= λ xs. Ok (x.0 ∷ xs.0, xs.1)
@@ -109,8 +112,9 @@ end_at v = if nat_lt 0 (length v.rest) then Err (fault.Trailing v.place) else Ok
 -- the bytes of a body, which fill the length before them, and those of a signature
 unfoldable pub enclosed : {B : Type 0} → (View → Reading B) → View → Reading (B × List ℕ)
 enclosed body v =
-    length_at (2 ^ 30) v >>= λ size. bytes_at size.0 size.1 >>= λ piece. body (at size.1.place piece.0) >>= λ word.
-    end_at word.1 >>= λ done. length_at 65536 piece.1 >>= λ count. bytes_at count.0 count.1 >>= λ sig.
+    length_at MOST_BODY_BYTES v >>= λ size. bytes_at size.0 size.1
+    >>= λ piece. body (at size.1.place piece.0) >>= λ word.
+    end_at word.1 >>= λ done. length_at MOST_SIGNATURE_BYTES piece.1 >>= λ count. bytes_at count.0 count.1 >>= λ sig.
     Ok ((word.0, sig.0), sig.1)
 
 abbrev pub as_signed : {B : Type 0} → ℕ × (B × List ℕ) → Signed B
@@ -125,7 +129,7 @@ signer_of frame = Some frame.signer
 
 -- a list of frames whose signers rise
 abbrev pub frames_at : {B : Type 0} → (View → Reading B) → View → Reading (List (Signed B))
-frames_at body v = list_at 14 (signed_at body) signer_of v
+frames_at body v = list_at MOST_LISTED (signed_at body) signer_of v
 
 abbrev pub no_key : {X : Type 0} → X → Option ℕ
 no_key x = None

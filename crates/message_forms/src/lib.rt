@@ -18,10 +18,10 @@ pub use crate::read::read_frame;
 pub use crate::refusal::FormRefusal;
 pub use crate::write::{text_of, word_text, write_frame};
 pub use crate::written::Written;
-pub use message_digests::{rows_digest, update_digest};
 pub use message_types::{
     AskOrder, AskUpdate, Body, Certificate, Commit, Frame, FrameList, Give, GiveOrdered, Mark,
     NewView, Notice, NoticeKind, Op, Order, Ping, Plan, PoAck, PoRequest, PoSummary, Pong,
     PrePrepare, Prepare, Report, Rows, Rtt, Signed, Suspect, TatBound, TatReport, Update, Voucher,
+    rows_digest, update_digest,
 };
 pub use plain_lists::Want;

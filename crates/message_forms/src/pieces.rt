@@ -5,7 +5,7 @@ ghost use Rattle.message_forms.specs.Gives.{Gives};
 
 use crate::form_reader::FormReader;
 use crate::refusal::FormRefusal;
-use message_types::Signed;
+use message_types::{MOST_BODY_BYTES, MOST_LISTED, MOST_SIGNATURE_BYTES, Signed};
 use plain_lists::{Bytes, Items};
 use std::alloc::Global;
 
@@ -117,11 +117,11 @@ fn enclosed<B: Readable>(
 ) -> Result<(B, Bytes), FormRefusal>
     ensures { Gives result reader.new (enclosed B.form reader.old) }
 {
-    let size = length(reader, 1_073_741_824)?;
+    let size = length(reader, MOST_BODY_BYTES)?;
     let mut part = reader.part(u64::from(size))?;
     let body = B::read(alloc, &mut part)?;
     part.end()?;
-    let count = length(reader, 65_536)?;
+    let count = length(reader, MOST_SIGNATURE_BYTES)?;
     let sig = reader.bytes(u64::from(count))?;
     Ok((body, Bytes::from_slice(alloc, sig)?))
 }
@@ -196,5 +196,5 @@ pub fn frames<B: Readable>(
 ) -> Result<Items<Signed<B>>, FormRefusal>
     ensures { Gives result reader.new (frames_at B.form reader.old) }
 {
-    list(alloc, reader, 14)
+    list(alloc, reader, MOST_LISTED)
 }

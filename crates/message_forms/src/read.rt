@@ -12,8 +12,8 @@ use crate::pieces::{Readable, frames, signed};
 use crate::refusal::FormRefusal;
 use crate::words::{ack, commit, mark, prepare, report, request, rows, summary, update};
 use message_types::{
-    AskOrder, AskUpdate, Body, Frame, Give, GiveOrdered, NewView, Notice, NoticeKind, Order, Ping,
-    Pong, PrePrepare, Rtt, Suspect, TatBound, TatReport, Voucher,
+    AskOrder, AskUpdate, Body, Frame, Give, GiveOrdered, MOST_BODY_BYTES, NewView, Notice,
+    NoticeKind, Order, Ping, Pong, PrePrepare, Rtt, Suspect, TatBound, TatReport, Voucher,
 };
 use std::alloc::Global;
 
@@ -241,7 +241,7 @@ impl Readable for Body {
 fn frame(alloc: Global, bytes: &[u8]) -> Result<Frame, FormRefusal>
     ensures { Answers result (frame_at bytes.now) }
 {
-    if bytes.len() > 1_073_741_824 {
+    if bytes.len() > MOST_BODY_BYTES as usize {
         return Err(FormRefusal::TooLong { place: 0 });
     }
     let mut reader = FormReader::over(bytes);

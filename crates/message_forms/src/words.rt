@@ -7,7 +7,8 @@ use crate::form_reader::FormReader;
 use crate::pieces::{Listed, Readable, frames, list, mark16, number_above, signed};
 use crate::refusal::FormRefusal;
 use message_types::{
-    Certificate, Commit, Mark, Op, PoAck, PoRequest, PoSummary, Prepare, Report, Rows, Update,
+    Certificate, Commit, MOST_CERTIFICATES, MOST_LISTED, Mark, Op, PoAck, PoRequest, PoSummary,
+    Prepare, Report, Rows, Update,
 };
 use plain_lists::Vector;
 use std::alloc::Global;
@@ -128,7 +129,7 @@ impl Listed for u64 {
 fn row(alloc: Global, reader: &mut FormReader<'_>) -> Result<Vector, FormRefusal>
     ensures { Gives result reader.new (row_at reader.old) }
 {
-    list(alloc, reader, 14)
+    list(alloc, reader, MOST_LISTED)
 }
 
 impl Listed for Vector {
@@ -226,7 +227,7 @@ pub fn rows(alloc: Global, reader: &mut FormReader<'_>) -> Result<Rows, FormRefu
     ensures { Gives result reader.new (rows_at reader.old) }
 {
     mark16(reader, 0x00f0)?;
-    list(alloc, reader, 14)
+    list(alloc, reader, MOST_LISTED)
 }
 
 #[tactic(auto, unfolding(crate::specs::Forms::certificate_at))]
@@ -274,7 +275,7 @@ pub fn report(alloc: Global, reader: &mut FormReader<'_>) -> Result<Report, Form
     let v = reader.u64()?;
     let base = reader.u64()?;
     let marks = frames(alloc, reader)?;
-    let certificates = list(alloc, reader, 16)?;
+    let certificates = list(alloc, reader, MOST_CERTIFICATES)?;
     Ok(Report {
         v,
         base,

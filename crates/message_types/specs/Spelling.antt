@@ -10,6 +10,7 @@ use Rattle.message_types.specs.declared.ordering.Certificate.{Certificate}
 use Rattle.message_types.specs.declared.views.Report.{Report}
 use Rattle.message_types.specs.declared.body.Body.{Body}
 use Rattle.message_types.specs.declared.body.Body.TheVariants as body
+use Rattle.message_types.specs.declared.limits.TheConstants.{MOST_LISTED, MOST_CERTIFICATES, MOST_SIGNATURE_BYTES}
 
 -- each number is below the next
 abbrev pub is_rising : List ℕ → Bool
@@ -20,24 +21,24 @@ is_rising (x ∷ y ∷ rest) = nat_lt x y && is_rising (y ∷ rest)
 abbrev pub signers_of : {B : Type 0} → List (Signed B) → List ℕ
 signers_of frames = map (λ f. f.signer) frames
 
--- a signature has at most 65,536 bytes
+-- a signature is within its limit
 abbrev pub signature_fits : {B : Type 0} → Signed B → Bool
-signature_fits frame = nat_le (length frame.sig) 65536
+signature_fits frame = nat_le (length frame.sig) MOST_SIGNATURE_BYTES
 
--- a list of at most 14 frames, each spelled, whose signers rise
+-- a list of frames within its limit, each spelled, whose signers rise
 abbrev pub frames_fit : {B : Type 0} → (B → Bool) → List (Signed B) → Bool
 frames_fit body_fits frames =
-    nat_le (length frames) 14 && is_rising (signers_of frames)
+    nat_le (length frames) MOST_LISTED && is_rising (signers_of frames)
     && list_all (λ f. body_fits f.body && signature_fits f) frames
 
 abbrev pub always_fits : {B : Type 0} → B → Bool
 always_fits b = true
 
 abbrev pub row_fits : List ℕ → Bool
-row_fits row = nat_le (length row) 14
+row_fits row = nat_le (length row) MOST_LISTED
 
 abbrev pub rows_fit : List (List ℕ) → Bool
-rows_fit rows = nat_le (length rows) 14 && list_all row_fits rows
+rows_fit rows = nat_le (length rows) MOST_LISTED && list_all row_fits rows
 
 abbrev pub request_fits : PoRequest → Bool
 request_fits b = signature_fits b.update
@@ -48,11 +49,12 @@ summary_fits b = row_fits b.numbers
 abbrev pub certificate_fits : Certificate → Bool
 certificate_fits c = rows_fit c.rows && frames_fit always_fits c.prepares
 
--- at most 16 certificates, of rising numbers
+-- no more certificates than a report may have, of rising numbers
 abbrev pub report_fits : Report → Bool
 report_fits b =
     frames_fit always_fits b.marks
-    && nat_le (length b.certificates) 16 && is_rising (map (λ c. c.s) b.certificates) && list_all certificate_fits b.certificates
+    && nat_le (length b.certificates) MOST_CERTIFICATES && is_rising (map (λ c. c.s) b.certificates)
+    && list_all certificate_fits b.certificates
 
 abbrev pub body_fits : Body → Bool
 body_fits (body.PoRequest b) = request_fits b

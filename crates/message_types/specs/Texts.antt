@@ -80,7 +80,8 @@ abbrev pub mark_text : Mark → List ℕ
 mark_text b = u16_bytes 21 ++ u64_bytes b.s
 
 abbrev pub certificate_text : Certificate → List ℕ
-certificate_text c = u64_bytes c.s ++ u64_bytes c.v ++ rows_text c.rows ++ list_text (signed_text prepare_text) c.prepares
+certificate_text c = u64_bytes c.s ++ u64_bytes c.v ++ rows_text c.rows
+    ++ list_text (signed_text prepare_text) c.prepares
 
 abbrev pub report_text : Report → List ℕ
 report_text b =
@@ -93,7 +94,8 @@ body_text (body.Update b) = update_text b
 body_text (body.PoRequest b) = request_text b
 body_text (body.PoAck b) = ack_text b
 body_text (body.PoSummary b) = summary_text b
-body_text (body.PrePrepare b) = u16_bytes 5 ++ u64_bytes b.v ++ u64_bytes b.s ++ list_text (signed_text summary_text) b.frames
+body_text (body.PrePrepare b) = u16_bytes 5 ++ u64_bytes b.v ++ u64_bytes b.s
+    ++ list_text (signed_text summary_text) b.frames
 body_text (body.Prepare b) = prepare_text b
 body_text (body.Commit b) = commit_text b
 body_text (body.Ping b) = u16_bytes 8 ++ u64_bytes b.number
@@ -107,7 +109,8 @@ body_text (body.NewView b) = u16_bytes 15 ++ u64_bytes b.v ++ list_text (signed_
 body_text (body.AskUpdate b) = u16_bytes 16 ++ u32_bytes b.j ++ u64_bytes b.k
 body_text (body.Give b) = u16_bytes 17 ++ signed_text request_text b.request ++ list_text (signed_text ack_text) b.acks
 body_text (body.AskOrder b) = u16_bytes 18 ++ u64_bytes b.s
-body_text (body.GiveOrdered b) = u16_bytes 19 ++ u64_bytes b.s ++ u64_bytes b.v ++ rows_text b.rows ++ list_text (signed_text commit_text) b.commits
+body_text (body.GiveOrdered b) = u16_bytes 19 ++ u64_bytes b.s ++ u64_bytes b.v ++ rows_text b.rows
+    ++ list_text (signed_text commit_text) b.commits
 body_text (body.Voucher b) = u16_bytes 20 ++ u32_bytes b.client ++ u64_bytes b.number ++ order_text b.order
 body_text (body.Mark b) = mark_text b
 

@@ -1,17 +1,11 @@
-ghost use Rattle.std.specs.Prelude.{◌≡◌, ◌↔◌, IsTrue, IfOk};
+ghost use Rattle.std.specs.Prelude.{◌≡◌, ◌↔◌, IsTrue};
 
-use plain_lists::{Copied, Same, Want};
+use plain_lists::Same;
 
 /// A question for the time of a round trip.
-#[derive(Clone, Copy, Debug, PartialEq, Eq)]
+#[derive(Clone, Copy, PartialEq, Eq)]
 pub struct Ping {
     pub number: u64,
-}
-
-impl Copied for Ping {
-    fn copy(&self) -> Result<Self, Want> {
-        Ok(*self)
-    }
 }
 
 impl Same for Ping {
@@ -21,16 +15,10 @@ impl Same for Ping {
 }
 
 /// The answer to a ping of master `to`.
-#[derive(Clone, Copy, Debug, PartialEq, Eq)]
+#[derive(Clone, Copy, PartialEq, Eq)]
 pub struct Pong {
     pub to: u32,
     pub number: u64,
-}
-
-impl Copied for Pong {
-    fn copy(&self) -> Result<Self, Want> {
-        Ok(*self)
-    }
 }
 
 impl Same for Pong {
@@ -40,17 +28,11 @@ impl Same for Pong {
 }
 
 /// The ticks that a ping to master `to` and its answer took.
-#[derive(Clone, Copy, Debug, PartialEq, Eq)]
+#[derive(Clone, Copy, PartialEq, Eq)]
 pub struct Rtt {
     pub to: u32,
     pub number: u64,
     pub ticks: u64,
-}
-
-impl Copied for Rtt {
-    fn copy(&self) -> Result<Self, Want> {
-        Ok(*self)
-    }
 }
 
 impl Same for Rtt {
@@ -60,16 +42,10 @@ impl Same for Rtt {
 }
 
 /// The ticks for which a master has waited for the leader of view `v` (Prime's TAT-MEASURE).
-#[derive(Clone, Copy, Debug, PartialEq, Eq)]
+#[derive(Clone, Copy, PartialEq, Eq)]
 pub struct TatReport {
     pub v: u64,
     pub ticks: u64,
-}
-
-impl Copied for TatReport {
-    fn copy(&self) -> Result<Self, Want> {
-        Ok(*self)
-    }
 }
 
 impl Same for TatReport {
@@ -79,16 +55,10 @@ impl Same for TatReport {
 }
 
 /// The ticks that a master finds a correct leader may take in view `v` (Prime's TAT-UB).
-#[derive(Clone, Copy, Debug, PartialEq, Eq)]
+#[derive(Clone, Copy, PartialEq, Eq)]
 pub struct TatBound {
     pub v: u64,
     pub ticks: u64,
-}
-
-impl Copied for TatBound {
-    fn copy(&self) -> Result<Self, Want> {
-        Ok(*self)
-    }
 }
 
 impl Same for TatBound {
@@ -98,15 +68,9 @@ impl Same for TatBound {
 }
 
 /// A vote against the leader of view `v` (Prime's NEW-LEADER).
-#[derive(Clone, Copy, Debug, PartialEq, Eq)]
+#[derive(Clone, Copy, PartialEq, Eq)]
 pub struct Suspect {
     pub v: u64,
-}
-
-impl Copied for Suspect {
-    fn copy(&self) -> Result<Self, Want> {
-        Ok(*self)
-    }
 }
 
 impl Same for Suspect {

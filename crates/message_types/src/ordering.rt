@@ -45,17 +45,11 @@ impl Same for PrePrepare {
 }
 
 /// A master takes the rows of this digest for number `s` in view `v`.
-#[derive(Clone, Copy, Debug, PartialEq, Eq)]
+#[derive(Clone, Copy, PartialEq, Eq)]
 pub struct Prepare {
     pub v: u64,
     pub s: u64,
     pub digest: [u8; 32],
-}
-
-impl Copied for Prepare {
-    fn copy(&self) -> Result<Self, Want> {
-        Ok(*self)
-    }
 }
 
 impl Same for Prepare {
@@ -65,17 +59,11 @@ impl Same for Prepare {
 }
 
 /// A master knows that a quorum prepared the rows of this digest for number `s` in view `v`.
-#[derive(Clone, Copy, Debug, PartialEq, Eq)]
+#[derive(Clone, Copy, PartialEq, Eq)]
 pub struct Commit {
     pub v: u64,
     pub s: u64,
     pub digest: [u8; 32],
-}
-
-impl Copied for Commit {
-    fn copy(&self) -> Result<Self, Want> {
-        Ok(*self)
-    }
 }
 
 impl Same for Commit {
@@ -85,15 +73,9 @@ impl Same for Commit {
 }
 
 /// A master has ordered all numbers up to `s`: a checkpoint mark, as in PBFT.
-#[derive(Clone, Copy, Debug, PartialEq, Eq)]
+#[derive(Clone, Copy, PartialEq, Eq)]
 pub struct Mark {
     pub s: u64,
-}
-
-impl Copied for Mark {
-    fn copy(&self) -> Result<Self, Want> {
-        Ok(*self)
-    }
 }
 
 impl Same for Mark {

@@ -33,17 +33,11 @@ impl Same for PoRequest {
 }
 
 /// A master acknowledges request number `k` of master `j`, whose update has this digest (Prime's PO-ACK).
-#[derive(Clone, Copy, Debug, PartialEq, Eq)]
+#[derive(Clone, Copy, PartialEq, Eq)]
 pub struct PoAck {
     pub j: u32,
     pub k: u64,
     pub digest: [u8; 32],
-}
-
-impl Copied for PoAck {
-    fn copy(&self) -> Result<Self, Want> {
-        Ok(*self)
-    }
 }
 
 impl Same for PoAck {

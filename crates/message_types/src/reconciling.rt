@@ -6,16 +6,10 @@ use crate::signed::Signed;
 use plain_lists::{Copied, Items, Same, Want};
 
 /// A master asks for request number `k` of master `j`.
-#[derive(Clone, Copy, Debug, PartialEq, Eq)]
+#[derive(Clone, Copy, PartialEq, Eq)]
 pub struct AskUpdate {
     pub j: u32,
     pub k: u64,
-}
-
-impl Copied for AskUpdate {
-    fn copy(&self) -> Result<Self, Want> {
-        Ok(*self)
-    }
 }
 
 impl Same for AskUpdate {
@@ -56,15 +50,9 @@ impl Same for Give {
 }
 
 /// A master asks for the rows of number `s`.
-#[derive(Clone, Copy, Debug, PartialEq, Eq)]
+#[derive(Clone, Copy, PartialEq, Eq)]
 pub struct AskOrder {
     pub s: u64,
-}
-
-impl Copied for AskOrder {
-    fn copy(&self) -> Result<Self, Want> {
-        Ok(*self)
-    }
 }
 
 impl Same for AskOrder {

@@ -11,13 +11,22 @@ pub struct Signed<B: Drop> {
     pub sig: Bytes,
 }
 
-impl<B: Copied> Copied for Signed<B> {
-    fn copy(&self) -> Result<Self, Want> {
+impl<B: Drop> Signed<B> {
+    /// Another body under the same signer and signature, whose bytes are shared.
+    pub fn with_body<C: Drop>(&self, body: C) -> Result<Signed<C>, Want>
+        ensures { IfOk result (λ made. made ≡ record { signer = self.now.signer; body = body; sig = self.now.sig }) }
+    {
         Ok(Signed {
             signer: self.signer,
-            body: self.body.copy()?,
+            body,
             sig: self.sig.copy()?,
         })
+    }
+}
+
+impl<B: Copied> Copied for Signed<B> {
+    fn copy(&self) -> Result<Self, Want> {
+        self.with_body(self.body.copy()?)
     }
 }
 

@@ -1,6 +1,6 @@
-ghost use Rattle.std.specs.Prelude.{◌≡◌, ◌↔◌, IsTrue, IfOk};
+ghost use Rattle.std.specs.Prelude.{◌≡◌, ◌↔◌, IsTrue};
 
-use plain_lists::{Copied, Same, Want};
+use plain_lists::Same;
 
 /// What a client asks for: a proxy tells a point's value, an operator sets one or acknowledges an alarm.
 #[derive(Clone, Copy, Debug, PartialEq, Eq)]
@@ -16,12 +16,6 @@ pub struct Update {
     pub client: u32,
     pub t: u64,
     pub op: Op,
-}
-
-impl Copied for Update {
-    fn copy(&self) -> Result<Self, Want> {
-        Ok(*self)
-    }
 }
 
 impl Same for Update {

@@ -93,9 +93,3 @@ impl Copied for Plan {
         })
     }
 }
-
-impl Same for Plan {
-    fn is_same(&self, other: &Self) -> bool {
-        self.base == other.base && self.rows.is_same(&other.rows)
-    }
-}

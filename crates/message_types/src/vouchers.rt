@@ -1,6 +1,6 @@
-ghost use Rattle.std.specs.Prelude.{◌≡◌, ◌↔◌, IsTrue, IfOk};
+ghost use Rattle.std.specs.Prelude.{◌≡◌, ◌↔◌, IsTrue};
 
-use plain_lists::{Copied, Same, Want};
+use plain_lists::Same;
 
 /// What a notice on a screen tells.
 #[derive(Clone, Copy, Debug, PartialEq, Eq)]
@@ -24,12 +24,6 @@ pub struct Notice {
     pub number: u32,
 }
 
-impl Copied for Notice {
-    fn copy(&self) -> Result<Self, Want> {
-        Ok(*self)
-    }
-}
-
 impl Same for Notice {
     fn is_same(&self, other: &Self) -> bool {
         *self == *other
@@ -43,12 +37,6 @@ pub enum Order {
     Notice(Notice),
 }
 
-impl Copied for Order {
-    fn copy(&self) -> Result<Self, Want> {
-        Ok(*self)
-    }
-}
-
 impl Same for Order {
     fn is_same(&self, other: &Self) -> bool {
         *self == *other
@@ -56,17 +44,11 @@ impl Same for Order {
 }
 
 /// A master vouches for order number `number` of a client, from 1.
-#[derive(Clone, Copy, Debug, PartialEq, Eq)]
+#[derive(Clone, Copy, PartialEq, Eq)]
 pub struct Voucher {
     pub client: u32,
     pub number: u64,
     pub order: Order,
-}
-
-impl Copied for Voucher {
-    fn copy(&self) -> Result<Self, Want> {
-        Ok(*self)
-    }
 }
 
 impl Same for Voucher {

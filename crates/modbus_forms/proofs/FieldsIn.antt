@@ -1,5 +1,6 @@
 -- Fields read one after the other, as the bytes that they were read from.
-use Rattle.std.proofs.Common.{◌≡◌, ◌<◌, ◌≤◌, ◌+◌, ◌^◌, ℕ, List, [], ◌∷◌, ◌++◌, length, take, drop, sym, ap, ◌∙◌, arith, length-append, append_assoc, refl}
+use Rattle.std.proofs.Common.{◌≡◌, ◌<◌, ◌≤◌, ◌+◌, ◌^◌, ℕ, List, [], ◌∷◌, ◌++◌, length, take, drop, sym, ap, ◌∙◌}
+use Rattle.std.proofs.Common.{arith, length-append, append_assoc, refl}
 use Rattle.std.proofs.lemmas.List.{take-append-drop, append-nil, nil_from_length, drop_at}
 use Rattle.wire_parts.specs.View.{View, Takes}
 use Rattle.wire_parts.specs.Fields.{u8_bytes, u16_bytes, u16_at}
@@ -8,7 +9,8 @@ use Rattle.modbus_forms.specs.Requests.{pair_text, many_text}
 use Rattle.modbus_forms.specs.Frame.{header_text}
 
 -- a field that was read stands in front
-pub first_is : (bytes : List ℕ) (a b : View) (x : ℕ) → a.rest ≡ bytes → x < 2 ^ 16 → Takes a b (u16_bytes x) → u16_at bytes ≡ x
+pub first_is : (bytes : List ℕ) (a b : View) (x : ℕ) → a.rest ≡ bytes → x < 2 ^ 16 →
+    Takes a b (u16_bytes x) → u16_at bytes ≡ x
 first_is bytes a b x is fits takes = ap u16_at (sym is ∙ takes.bytes) ∙ u16_at-u16_bytes x b.rest fits
 
 -- and what follows it is left
@@ -26,8 +28,10 @@ second_is bytes a b c x y is fits one two =
 pub pair_is : (bytes : List ℕ) (a b c : View) (x y : ℕ) → a.rest ≡ bytes → length bytes ≡ 4
     → Takes a b (u16_bytes x) → Takes b c (u16_bytes y) → bytes ≡ pair_text x y
 pair_is bytes a b c x y is four one two =
-    let none : c.rest ≡ [] = nil_from_length c.rest (omega (arith, ap length is, left_is a b x one, left_is b c y two)) in
-    sym is ∙ one.bytes ∙ ap (λ r. u16_bytes x ++ r) (two.bytes ∙ ap (λ r. u16_bytes y ++ r) none ∙ append-nil (u16_bytes y))
+    let none : c.rest ≡ [] = nil_from_length c.rest
+    (omega (arith, ap length is, left_is a b x one, left_is b c y two)) in
+    sym is ∙ one.bytes ∙ ap (λ r. u16_bytes x ++ r) (two.bytes ∙ ap (λ r. u16_bytes y ++ r) none
+    ∙ append-nil (u16_bytes y))
 
 -- four bytes have room for two fields
 pub none_short : (bytes : List ℕ) (a b : View) (x : ℕ) → a.rest ≡ bytes → length bytes ≡ 4
@@ -41,10 +45,19 @@ pub header_is : (bytes rest : List ℕ) (a b c d e : View) (t p s u : ℕ) → a
     → bytes ≡ header_text t p s u ++ rest
 header_is bytes rest a b c d e t p s u is back seven one two three four =
     let none : e.rest ≡ [] = nil_from_length e.rest
-    (omega (arith, ap length is, left_is a b t one, left_is b c p two, left_is c d s three, ap length four.bytes, length-append (u8_bytes u) e.rest)) in
+    (omega (
+      arith,
+      ap length is,
+      left_is a b t one,
+      left_is b c p two,
+      left_is c d s three,
+      ap length four.bytes,
+      length-append (u8_bytes u) e.rest,
+    )) in
     let last : d.rest ≡ u8_bytes u = four.bytes ∙ ap (λ r. u8_bytes u ++ r) none in
     let head : take 7 bytes ≡ header_text t p s u = sym is ∙ one.bytes
-    ∙ ap (λ r. u16_bytes t ++ r) (two.bytes ∙ ap (λ r. u16_bytes p ++ r) (three.bytes ∙ ap (λ r. u16_bytes s ++ r) last)) in
+    ∙ ap (λ r. u16_bytes t ++ r)
+    (two.bytes ∙ ap (λ r. u16_bytes p ++ r) (three.bytes ∙ ap (λ r. u16_bytes s ++ r) last)) in
     sym (take-append-drop 7 bytes) ∙ ap (λ h. h ++ drop 7 bytes) head ∙ ap (λ r. header_text t p s u ++ r) (sym back)
 
 -- place and quantity, the number of bytes, and these
@@ -57,7 +70,8 @@ many_is rest front back p q n bytes is one two count =
 pub many_place : (rest : List ℕ) (p q : ℕ) (bytes : List ℕ) → rest ≡ many_text p q bytes → p < 2 ^ 16 → u16_at rest ≡ p
 many_place rest p q bytes is fits = ap u16_at is ∙ u16_at-u16_bytes p (u16_bytes q ++ (length bytes ∷ bytes)) fits
 
-pub many_quantity : (rest : List ℕ) (p q : ℕ) (bytes : List ℕ) → rest ≡ many_text p q bytes → q < 2 ^ 16 → u16_at (drop 2 rest) ≡ q
+pub many_quantity : (rest : List ℕ) (p q : ℕ) (bytes : List ℕ) → rest ≡ many_text p q bytes →
+    q < 2 ^ 16 → u16_at (drop 2 rest) ≡ q
 many_quantity rest p q bytes is fits =
     ap (λ r. u16_at (drop 2 r)) is
     ∙ ap u16_at (drop_at (u16_bytes p) (u16_bytes q ++ (length bytes ∷ bytes)) 2 (length-u16_bytes p))

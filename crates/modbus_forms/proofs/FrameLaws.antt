@@ -1,5 +1,6 @@
 -- Which fault bytes with a given header have.
-use Rattle.std.proofs.Common.{◌≡◌, ◌≢◌, ◌<◌, ◌≤◌, ◌+◌, ◌^◌, ℕ, Bool, true, false, List, [], ◌∷◌, ◌++◌, length, take, drop, sym, ap, ◌∙◌, arith, length-append, append_assoc, refl}
+use Rattle.std.proofs.Common.{◌≡◌, ◌≢◌, ◌<◌, ◌≤◌, ◌+◌, ◌^◌, ℕ, Bool, true, false, List, [], ◌∷◌, ◌++◌, length, take}
+use Rattle.std.proofs.Common.{drop, sym, ap, ◌∙◌, arith, length-append, append_assoc, refl}
 use Rattle.std.specs.Prelude.{◌&&◌, not, nat_eq, nat_lt, nat_le, if◌then◌else◌, Option, Some, None}
 use Rattle.std.proofs.lemmas.List.{drop_at}
 use Rattle.std.proofs.lemmas.Bool.Decides.{nat_tests}
@@ -30,10 +31,13 @@ length-header t p s u =
 
 headed_text : (t p s u : ℕ) (rest : List ℕ) → p < 2 ^ 16 → s < 2 ^ 16 → Headed (header_text t p s u ++ rest) p s rest
 headed_text t p s u rest fp fs =
-    let flat : header_text t p s u ++ rest ≡ u16_bytes t ++ (u16_bytes p ++ (u16_bytes s ++ (u8_bytes u ++ rest))) = simp append_assoc in
+    let flat : header_text t p s u ++ rest ≡ u16_bytes t ++ (u16_bytes p ++ (u16_bytes s ++ (u8_bytes u ++ rest))) =
+    simp append_assoc in
     let two : drop 2 (header_text t p s u ++ rest) ≡ u16_bytes p ++ (u16_bytes s ++ (u8_bytes u ++ rest)) =
-    ap (drop 2) flat ∙ drop_at (u16_bytes t) (u16_bytes p ++ (u16_bytes s ++ (u8_bytes u ++ rest))) 2 (length-u16_bytes t) in
-    let front : header_text t p s u ++ rest ≡ (u16_bytes t ++ u16_bytes p) ++ (u16_bytes s ++ (u8_bytes u ++ rest)) = simp append_assoc in
+    ap (drop 2) flat ∙ drop_at (u16_bytes t) (u16_bytes p ++ (u16_bytes s ++ (u8_bytes u ++ rest)))
+    2 (length-u16_bytes t) in
+    let front : header_text t p s u ++ rest ≡ (u16_bytes t ++ u16_bytes p) ++ (u16_bytes s ++ (u8_bytes u ++ rest)) =
+    simp append_assoc in
     let four : drop 4 (header_text t p s u ++ rest) ≡ u16_bytes s ++ (u8_bytes u ++ rest) =
     ap (drop 4) front ∙ drop_at (u16_bytes t ++ u16_bytes p) (u16_bytes s ++ (u8_bytes u ++ rest)) 4
     (omega (arith, length-append (u16_bytes t) (u16_bytes p), length-u16_bytes t, length-u16_bytes p)) in
@@ -44,7 +48,8 @@ headed_text t p s u rest fp fs =
       pdu_is = drop_at (header_text t p s u) rest 7 (length-header t p s u);
     }
 
-pub headed : (bytes : List ℕ) (t p s u : ℕ) (rest : List ℕ) → p < 2 ^ 16 → s < 2 ^ 16 → bytes ≡ header_text t p s u ++ rest
+pub headed : (bytes : List ℕ) (t p s u : ℕ) (rest : List ℕ) → p < 2 ^ 16 → s < 2 ^ 16 →
+    bytes ≡ header_text t p s u ++ rest
     → Headed bytes p s rest
 headed bytes t p s u rest fp fs is =
     let h = headed_text t p s u rest fp fs in
@@ -59,27 +64,31 @@ pub too_short : (bytes : List ℕ) → length bytes < 7 → frame_fault bytes �
 unfolding frame_fault
 too_short bytes less = let a : nat_lt (length bytes) 7 ≡ true = grind (arith, nat_tests) in rw a refl
 
-pub other_protocol : (bytes rest : List ℕ) (p s : ℕ) → Headed bytes p s rest → p ≢ 0 → frame_fault bytes ≡ Some fault.BadProtocol
+pub other_protocol : (bytes rest : List ℕ) (p s : ℕ) → Headed bytes p s rest → p ≢ 0 →
+    frame_fault bytes ≡ Some fault.BadProtocol
 unfolding frame_fault
 other_protocol bytes rest p s h other =
     let a : nat_lt (length bytes) 7 ≡ false = let l = h.long in grind (arith, nat_tests) in
     let b : nat_eq p 0 ≡ false = grind (arith, nat_tests) in
     rw (a, h.protocol_is, b) refl
 
-pub no_size : (bytes rest : List ℕ) (p s : ℕ) → Headed bytes p s rest → p ≡ 0 → is_size s ≡ false → frame_fault bytes ≡ Some fault.BadLength
+pub no_size : (bytes rest : List ℕ) (p s : ℕ) → Headed bytes p s rest → p ≡ 0 → is_size s ≡ false →
+    frame_fault bytes ≡ Some fault.BadLength
 unfolding frame_fault
 no_size bytes rest p s h zero_is wrong =
     let a : nat_lt (length bytes) 7 ≡ false = let l = h.long in grind (arith, nat_tests) in
     rw (a, h.protocol_is, zero_is, h.size_is, wrong) refl
 
-pub cut : (bytes rest : List ℕ) (p s : ℕ) → Headed bytes p s rest → p ≡ 0 → is_size s ≡ true → length bytes < 6 + s → frame_fault bytes ≡ Some fault.Short
+pub cut : (bytes rest : List ℕ) (p s : ℕ) → Headed bytes p s rest → p ≡ 0 → is_size s ≡ true → length bytes < 6 + s →
+    frame_fault bytes ≡ Some fault.Short
 unfolding frame_fault
 cut bytes rest p s h zero_is right less =
     let a : nat_lt (length bytes) 7 ≡ false = let l = h.long in grind (arith, nat_tests) in
     let b : nat_lt (length bytes) (6 + s) ≡ true = grind (arith, nat_tests) in
     rw (a, h.protocol_is, zero_is, h.size_is, right, b) refl
 
-pub left_over : (bytes rest : List ℕ) (p s : ℕ) → Headed bytes p s rest → p ≡ 0 → is_size s ≡ true → 6 + s < length bytes → frame_fault bytes ≡ Some fault.Trailing
+pub left_over : (bytes rest : List ℕ) (p s : ℕ) → Headed bytes p s rest → p ≡ 0 → is_size s ≡ true →
+    6 + s < length bytes → frame_fault bytes ≡ Some fault.Trailing
 unfolding frame_fault
 left_over bytes rest p s h zero_is right more =
     let a : nat_lt (length bytes) 7 ≡ false = let l = h.long in grind (arith, nat_tests) in
@@ -87,7 +96,8 @@ left_over bytes rest p s h zero_is right more =
     let c : nat_lt (6 + s) (length bytes) ≡ true = grind (arith, nat_tests) in
     rw (a, h.protocol_is, zero_is, h.size_is, right, b, c) refl
 
-pub whole : (bytes rest : List ℕ) (p s : ℕ) → Headed bytes p s rest → p ≡ 0 → is_size s ≡ true → 6 + s ≡ length bytes → frame_fault bytes ≡ None
+pub whole : (bytes rest : List ℕ) (p s : ℕ) → Headed bytes p s rest → p ≡ 0 → is_size s ≡ true →
+    6 + s ≡ length bytes → frame_fault bytes ≡ None
 unfolding frame_fault
 whole bytes rest p s h zero_is right same =
     let a : nat_lt (length bytes) 7 ≡ false = let l = h.long in grind (arith, nat_tests) in
@@ -96,7 +106,8 @@ whole bytes rest p s h zero_is right same =
     rw (a, h.protocol_is, zero_is, h.size_is, right, b, c) refl
 
 -- the frame of a PDU that fills its length
-pub framed_is : (bytes : List ℕ) (t p s u : ℕ) (rest : List ℕ) → bytes ≡ header_text t p s u ++ rest → p ≡ 0 → 6 + s ≡ length bytes
+pub framed_is : (bytes : List ℕ) (t p s u : ℕ) (rest : List ℕ) → bytes ≡ header_text t p s u ++ rest →
+    p ≡ 0 → 6 + s ≡ length bytes
     → length bytes ≡ 7 + length rest → bytes ≡ frame_text t u rest
 unfolding frame_text
 framed_is bytes t p s u rest is zero_is same long =
@@ -105,13 +116,15 @@ framed_is bytes t p s u rest is zero_is same long =
 
 -- sizes that a message may have
 pub has_size : (s : ℕ) → 2 ≤ s → s ≤ 254 → is_size s ≡ true
-has_size s low high = let a : nat_le 2 s ≡ true = grind (arith, nat_tests) in let b : nat_le s 254 ≡ true = grind (arith, nat_tests) in rw (a, b) refl
+has_size s low high = let a : nat_le 2 s ≡ true = grind (arith, nat_tests) in let b : nat_le s 254 ≡ true =
+    grind (arith, nat_tests) in rw (a, b) refl
 
 pub low_size : (s : ℕ) → s < 2 → is_size s ≡ false
 low_size s low = let a : nat_le 2 s ≡ false = grind (arith, nat_tests) in rw a refl
 
 pub high_size : (s : ℕ) → 254 < s → is_size s ≡ false
-high_size s high = let a : nat_le 2 s ≡ true = grind (arith, nat_tests) in let b : nat_le s 254 ≡ false = grind (arith, nat_tests) in rw (a, b) refl
+high_size s high = let a : nat_le 2 s ≡ true = grind (arith, nat_tests) in let b : nat_le s 254 ≡ false =
+    grind (arith, nat_tests) in rw (a, b) refl
 
 -- the frame of a message has no fault
 pub framed_faultless : (t u : ℕ) (pdu : List ℕ) → 1 ≤ length pdu → length pdu ≤ 253
@@ -119,5 +132,8 @@ pub framed_faultless : (t u : ℕ) (pdu : List ℕ) → 1 ≤ length pdu → len
 unfolding frame_text
 framed_faultless t u pdu some few =
     let h = headed_text t 0 (1 + length pdu) u pdu (omega arith) (omega arith) in
-    let l = h.long in
-    (whole (header_text t 0 (1 + length pdu) u ++ pdu) pdu 0 (1 + length pdu) h refl (has_size (1 + length pdu) (omega arith) (omega arith)) (omega arith), h.pdu_is)
+    let l = h.long in (
+      whole (header_text t 0 (1 + length pdu) u ++ pdu) pdu 0 (1 + length pdu) h refl
+          (has_size (1 + length pdu) (omega arith) (omega arith)) (omega arith),
+      h.pdu_is,
+    )

@@ -1,5 +1,6 @@
 -- A request is read back from its text, and the text has no fault.
-use Rattle.std.proofs.Common.{◌≡◌, ◌≢◌, ◌<◌, ◌≤◌, ◌+◌, ◌^◌, ℕ, Bool, true, false, List, [], ◌∷◌, ◌++◌, length, take, drop, sym, ap, ◌∙◌, arith, length-append, append_assoc, refl, ◌⊎◌, inl, inr, eq-eqb}
+use Rattle.std.proofs.Common.{◌≡◌, ◌≢◌, ◌<◌, ◌≤◌, ◌+◌, ◌^◌, ℕ, Bool, true, false, List, [], ◌∷◌, ◌++◌, length, take}
+use Rattle.std.proofs.Common.{drop, sym, ap, ◌∙◌, arith, length-append, append_assoc, refl, ◌⊎◌, inl, inr, eq-eqb}
 use Rattle.std.specs.Prelude.{◌&&◌, ◌||◌, not, nat_eq, nat_le, if◌then◌else◌, slice_index}
 use Rattle.std.proofs.lemmas.List.{drop_at, append-nil}
 use Rattle.std.proofs.lemmas.Bool.{and_parts, or_cases, eqb-true, ne_eqb, true≢false, not-true, leb-true}
@@ -9,7 +10,8 @@ use Rattle.wire_parts.specs.Fields.{u16_bytes, u16_at}
 use Rattle.wire_parts.specs.FieldLaws.{length-u16_bytes, u16_at-u16_bytes}
 use Rattle.modbus_forms.specs.declared.request.RequestPdu.{RequestPdu}
 use Rattle.modbus_forms.specs.declared.request.RequestPdu.TheVariants as request
-use Rattle.modbus_forms.specs.Requests.{pair_text, many_text, request_pdu_text, request_pdu_fits, reads_or_writes_one, writes_many, is_request_sized}
+use Rattle.modbus_forms.specs.Requests.{pair_text, many_text, request_pdu_text, request_pdu_fits, reads_or_writes_one}
+use Rattle.modbus_forms.specs.Requests.{writes_many, is_request_sized}
 use Rattle.modbus_forms.specs.Widths.{FitsRequestPdu}
 
 -- the fields of a pair, and those in front of bytes
@@ -19,7 +21,8 @@ first_of_pair x y fits = u16_at-u16_bytes x (u16_bytes y) fits
 
 pub second_of_pair : (x y : ℕ) → y < 2 ^ 16 → u16_at (drop 2 (pair_text x y)) ≡ y
 second_of_pair x y fits =
-    ap u16_at (drop_at (u16_bytes x) (u16_bytes y) 2 (length-u16_bytes x) ∙ sym (append-nil (u16_bytes y))) ∙ u16_at-u16_bytes y [] fits
+    ap u16_at (drop_at (u16_bytes x) (u16_bytes y) 2 (length-u16_bytes x) ∙ sym (append-nil (u16_bytes y)))
+    ∙ u16_at-u16_bytes y [] fits
 
 pub length-pair : (x y : ℕ) → length (pair_text x y) ≡ 4
 length-pair x y = omega (arith, length-append (u16_bytes x) (u16_bytes y), length-u16_bytes x, length-u16_bytes y)
@@ -51,16 +54,19 @@ request_of (f ∷ rest) = request_in f rest
 bytes_of_many : (p q : ℕ) (bytes : List ℕ) → drop 3 (drop 2 (many_text p q bytes)) ≡ bytes
 bytes_of_many p q bytes =
     ap (drop 3) (behind_first p q bytes ∙ append-cons (u16_bytes q) (length bytes) bytes)
-    ∙ drop_at (u16_bytes q ++ length bytes ∷ []) bytes 3 (omega (arith, length-append (u16_bytes q) (length bytes ∷ []), length-u16_bytes q)) where
+    ∙ drop_at (u16_bytes q ++ length bytes ∷ []) bytes 3
+    (omega (arith, length-append (u16_bytes q) (length bytes ∷ []), length-u16_bytes q)) where
       append-cons : (xs : List ℕ) (y : ℕ) (ys : List ℕ) → xs ++ (y ∷ ys) ≡ (xs ++ y ∷ []) ++ ys
       append-cons xs y ys = sym (append_assoc xs (y ∷ []) ys)
 
 -- which function it is
 pub either : (a b f : ℕ) → (nat_eq f a || nat_eq f b) ≡ true → (f ≡ a) ⊎ (f ≡ b)
-either a b f h = elim (or_cases (nat_eq f a) (nat_eq f b) h) [ inl e ↦ inl (eqb-true f a e) | inr e ↦ inr (eqb-true f b e) ]
+either a b f h = elim (or_cases (nat_eq f a) (nat_eq f b) h)
+    [ inl e ↦ inl (eqb-true f a e) | inr e ↦ inr (eqb-true f b e) ]
 
 low_other : (f k : ℕ) → (nat_le 1 f && nat_le f 6) ≡ false → (nat_le 1 k && nat_le k 6) ≡ true → nat_eq f k ≡ false
-low_other f k isnt is_one = ne_eqb f k (λ e. true≢false (sym is_one ∙ ap (λ n. nat_le 1 n && nat_le n 6) (sym e) ∙ isnt))
+low_other f k isnt is_one =
+    ne_eqb f k (λ e. true≢false (sym is_one ∙ ap (λ n. nat_le 1 n && nat_le n 6) (sym e) ∙ isnt))
 
 high_other : (f k : ℕ) → writes_many f ≡ false → writes_many k ≡ true → nat_eq f k ≡ false
 high_other f k isnt is_one = ne_eqb f k (λ e. true≢false (sym is_one ∙ ap writes_many (sym e) ∙ isnt))
@@ -87,7 +93,11 @@ read_registers_back : (f p q : ℕ) → p < 2 ^ 16 → q < 2 ^ 16 → (nat_eq f 
     → request_in f (pair_text p q) ≡ request.ReadRegisters f p q
 unfolding request_in
 read_registers_back f p q fp fq is =
-    let not_bits : (nat_eq f 1 || nat_eq f 2) ≡ false = elim (either 3 4 f is) [ inl e ↦ ap (λ n. nat_eq n 1 || nat_eq n 2) e | inr e ↦ ap (λ n. nat_eq n 1 || nat_eq n 2) e ] in
+    let not_bits : (nat_eq f 1 || nat_eq f 2) ≡ false =
+    elim (either 3 4 f is) [
+      | inl e ↦ ap (λ n. nat_eq n 1 || nat_eq n 2) e
+      | inr e ↦ ap (λ n. nat_eq n 1 || nat_eq n 2) e
+    ] in
     rw (not_bits, is, first_of_pair p q fp, second_of_pair p q fq) refl
 
 other_back : (f : ℕ) (bytes : List ℕ) → IsOther f → request_in f bytes ≡ request.Other f bytes
@@ -110,16 +120,25 @@ request_back (request.ReadBits f p q) fits wide = read_bits_back f p q wide.0 wi
 request_back (request.ReadRegisters f p q) fits wide = read_registers_back f p q wide.0 wide.1 fits
 request_back (request.WriteCoil p v) fits wide = rw (first_of_pair p v wide.0, second_of_pair p v wide.1) refl
 request_back (request.WriteRegister p v) fits wide = rw (first_of_pair p v wide.0, second_of_pair p v wide.1) refl
-request_back (request.WriteCoils p q bytes) fits wide = rw (first_of_many p q bytes wide.0, second_of_many p q bytes wide.1, bytes_of_many p q bytes) refl
-request_back (request.WriteRegisters p q bytes) fits wide = rw (first_of_many p q bytes wide.0, second_of_many p q bytes wide.1, bytes_of_many p q bytes) refl
+request_back (request.WriteCoils p q bytes) fits wide =
+    rw (first_of_many p q bytes wide.0, second_of_many p q bytes wide.1, bytes_of_many p q bytes) refl
+request_back (request.WriteRegisters p q bytes) fits wide =
+    rw (first_of_many p q bytes wide.0, second_of_many p q bytes wide.1, bytes_of_many p q bytes) refl
 request_back (request.Other f bytes) fits wide =
-    other_back f bytes (is_other f (and_parts (not (reads_or_writes_one f || writes_many f)) (nat_le (length bytes) 252) fits).0)
+    other_back f bytes (is_other f
+    (and_parts (not (reads_or_writes_one f || writes_many f)) (nat_le (length bytes) 252) fits).0)
 
 -- a request that fits has the size of its function's
 
 pub length-many : (p q : ℕ) (bytes : List ℕ) → length (many_text p q bytes) ≡ 5 + length bytes
 length-many p q bytes =
-    omega (arith, length-append (u16_bytes p) (u16_bytes q ++ (length bytes ∷ bytes)), length-append (u16_bytes q) (length bytes ∷ bytes), length-u16_bytes p, length-u16_bytes q)
+    omega (
+      arith,
+      length-append (u16_bytes p) (u16_bytes q ++ (length bytes ∷ bytes)),
+      length-append (u16_bytes q) (length bytes ∷ bytes),
+      length-u16_bytes p,
+      length-u16_bytes q,
+    )
 
 count_of_many : (p q : ℕ) (bytes : List ℕ) → slice_index (many_text p q bytes) 4 ≡ length bytes
 count_of_many p q bytes =
@@ -127,18 +146,22 @@ count_of_many p q bytes =
     ∙ ap (λ n. slice_index ((u16_bytes p ++ u16_bytes q) ++ (length bytes ∷ bytes)) n) (sym (length-pair p q))
     ∙ get_or-append_seam (u16_bytes p ++ u16_bytes q) (length bytes) bytes 0
 
-many_sized : (p q : ℕ) (bytes : List ℕ) → nat_eq (length (many_text p q bytes)) (5 + slice_index (many_text p q bytes) 4) ≡ true
-many_sized p q bytes = rw (length-many p q bytes, count_of_many p q bytes) (eq-eqb (5 + length bytes) (5 + length bytes) refl)
+many_sized : (p q : ℕ) (bytes : List ℕ) →
+    nat_eq (length (many_text p q bytes)) (5 + slice_index (many_text p q bytes) 4) ≡ true
+many_sized p q bytes = rw (length-many p q bytes, count_of_many p q bytes)
+    (eq-eqb (5 + length bytes) (5 + length bytes) refl)
 
 pair_sized : (p q : ℕ) → nat_eq (length (pair_text p q)) 4 ≡ true
 pair_sized p q = rw (length-pair p q) refl
 
 pub request_sized : (r : RequestPdu) → request_pdu_fits r ≡ true → is_request_sized (request_pdu_text r) ≡ true
 request_sized (request.ReadBits f p q) fits =
-    let one : reads_or_writes_one f ≡ true = elim (either 1 2 f fits) [ inl e ↦ ap reads_or_writes_one e | inr e ↦ ap reads_or_writes_one e ] in
+    let one : reads_or_writes_one f ≡ true =
+    elim (either 1 2 f fits) [ inl e ↦ ap reads_or_writes_one e | inr e ↦ ap reads_or_writes_one e ] in
     rw (one, pair_sized p q) refl
 request_sized (request.ReadRegisters f p q) fits =
-    let one : reads_or_writes_one f ≡ true = elim (either 3 4 f fits) [ inl e ↦ ap reads_or_writes_one e | inr e ↦ ap reads_or_writes_one e ] in
+    let one : reads_or_writes_one f ≡ true =
+    elim (either 3 4 f fits) [ inl e ↦ ap reads_or_writes_one e | inr e ↦ ap reads_or_writes_one e ] in
     rw (one, pair_sized p q) refl
 request_sized (request.WriteCoil p v) fits = pair_sized p v
 request_sized (request.WriteRegister p v) fits = pair_sized p v
@@ -163,11 +186,17 @@ request_few (request.ReadRegisters f p q) fits = omega (arith, length-pair p q)
 request_few (request.WriteCoil p v) fits = omega (arith, length-pair p v)
 request_few (request.WriteRegister p v) fits = omega (arith, length-pair p v)
 request_few (request.WriteCoils p q bytes) fits = omega (arith, length-many p q bytes, leb-true (length bytes) 247 fits)
-request_few (request.WriteRegisters p q bytes) fits = omega (arith, length-many p q bytes, leb-true (length bytes) 247 fits)
+request_few (request.WriteRegisters p q bytes) fits =
+    omega (arith, length-many p q bytes, leb-true (length bytes) 247 fits)
 request_few (request.Other f bytes) fits =
-    omega (arith, leb-true (length bytes) 252 (and_parts (not (reads_or_writes_one f || writes_many f)) (nat_le (length bytes) 252) fits).1)
+    omega (
+      arith,
+      leb-true (length bytes) 252
+          (and_parts (not (reads_or_writes_one f || writes_many f)) (nat_le (length bytes) 252) fits).1,
+    )
 
 -- two requests of one text are one
-pub request_inj : (r s : RequestPdu) → request_pdu_fits r ≡ true → request_pdu_fits s ≡ true → FitsRequestPdu r → FitsRequestPdu s
+pub request_inj : (r s : RequestPdu) → request_pdu_fits r ≡ true → request_pdu_fits s ≡ true →
+    FitsRequestPdu r → FitsRequestPdu s
     → request_pdu_text r ≡ request_pdu_text s → r ≡ s
 request_inj r s fr fs wr ws same = sym (request_back r fr wr) ∙ ap request_of same ∙ request_back s fs ws

@@ -1,13 +1,16 @@
--- The frame of every message (MODBUS Messaging on TCP/IP Implementation Guide V1.0b, section 3.1.3): a header of 7 bytes
--- and the protocol data unit (PDU), which begins with the function. Each field is big-endian (V1.1b3, section 4.2).
-use Rattle.std.specs.Prelude.{ℕ, ◌+◌, Bool, ◌&&◌, not, nat_eq, nat_lt, nat_le, if◌then◌else◌, List, [], ◌∷◌, ◌++◌, length, drop, Option, Some, None}
+-- The frame of every message (MODBUS Messaging on TCP/IP Implementation Guide V1.0b, section 3.1.3): a header of 7
+-- bytes and the protocol data unit (PDU), which begins with the function. Each field is big-endian (V1.1b3, section
+-- 4.2).
+use Rattle.std.specs.Prelude.{ℕ, ◌+◌, Bool, ◌&&◌, not, nat_eq, nat_lt, nat_le, if◌then◌else◌, List, [], ◌∷◌, ◌++◌}
+use Rattle.std.specs.Prelude.{length, drop, Option, Some, None}
 use Rattle.wire_parts.specs.Fields.{u8_bytes, u16_bytes, u16_at}
 use Rattle.modbus_forms.specs.declared.refusal.ModbusRefusal.{ModbusRefusal}
 use Rattle.modbus_forms.specs.declared.refusal.ModbusRefusal.TheVariants as fault
 
 -- the transaction, the protocol (Modbus is 0), how many bytes follow, and the unit
 abbrev pub header_text : ℕ → ℕ → ℕ → ℕ → List ℕ
-header_text transaction protocol size unit = u16_bytes transaction ++ (u16_bytes protocol ++ (u16_bytes size ++ u8_bytes unit))
+header_text transaction protocol size unit = u16_bytes transaction
+    ++ (u16_bytes protocol ++ (u16_bytes size ++ u8_bytes unit))
 
 -- a PDU behind its header
 unfoldable pub frame_text : ℕ → ℕ → List ℕ → List ℕ
@@ -39,4 +42,5 @@ frame_fault bytes =
 
 -- then the PDU has to have the size of its function's message
 abbrev pub first_fault : (List ℕ → Bool) → List ℕ → Option ModbusRefusal
-first_fault is_sized bytes = elim (frame_fault bytes) [ Some e ↦ Some e | None ↦ if is_sized (pdu_of bytes) then None else Some fault.BadLength ]
+first_fault is_sized bytes =
+    elim (frame_fault bytes) [ Some e ↦ Some e | None ↦ if is_sized (pdu_of bytes) then None else Some fault.BadLength ]

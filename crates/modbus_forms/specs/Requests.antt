@@ -1,5 +1,6 @@
 -- How requests are spelled (V1.1b3, sections 6.1 to 6.6, 6.11 and 6.12).
-use Rattle.std.specs.Prelude.{ℕ, ◌+◌, Bool, true, false, ◌&&◌, ◌||◌, not, nat_eq, nat_le, if◌then◌else◌, List, [], ◌∷◌, ◌++◌, length, drop, Option, slice_index}
+use Rattle.std.specs.Prelude.{ℕ, ◌+◌, Bool, true, false, ◌&&◌, ◌||◌, not, nat_eq, nat_le, if◌then◌else◌, List, []}
+use Rattle.std.specs.Prelude.{◌∷◌, ◌++◌, length, drop, Option, slice_index}
 use Rattle.wire_parts.specs.Fields.{u16_bytes, u16_at}
 use Rattle.modbus_forms.specs.declared.refusal.ModbusRefusal.{ModbusRefusal}
 use Rattle.modbus_forms.specs.declared.request.Request.{Request}

@@ -1,4 +1,5 @@
--- What a screen has done, and what it shows: the notices among the orders done. A vote with a write counts for nothing there.
+-- What a screen has done, and what it shows: the notices among the orders done. A vote with a write counts for nothing
+-- there.
 use Rattle.std.specs.Prelude.{ℕ, Bool, true, false, List, [], ◌∷◌}
 use Rattle.std.specs.List.{flat_map}
 use Rattle.message_types.specs.declared.vouchers.Notice.{Notice}
@@ -23,8 +24,8 @@ notices orders = flat_map notice_in orders
 abbrev pub board_of : (client n f : ℕ) → List Vote → List Notice
 board_of client n f votes = notices (orders_done is_notice client n f votes)
 
--- a screen: its number, the masters' number, how many of them may be intruded, how many commands were given, and the votes
--- taken that count
+-- a screen: its number, the masters' number, how many of them may be intruded, how many commands were given, and the
+-- votes taken that count
 pub record Desk : Type 0 where
   pub client : ℕ
   pub n : ℕ

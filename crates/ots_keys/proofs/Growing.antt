@@ -1,12 +1,14 @@
 -- The digits of a hash, read one by one.
-use Rattle.std.proofs.Common.{◌≡◌, ◌≢◌, ◌≤◌, ◌<◌, ◌+◌, ℕ, List, ◌++◌, length, slice_index, slice_set, sym, ap, ◌∙◌, arith, below_more, get_or-set_same, get_or-set_other}
+use Rattle.std.proofs.Common.{◌≡◌, ◌≢◌, ◌≤◌, ◌<◌, ◌+◌, ℕ, List, ◌++◌, length, slice_index, slice_set, sym, ap, ◌∙◌}
+use Rattle.std.proofs.Common.{arith, below_more, get_or-set_same, get_or-set_other}
 use Rattle.wire_parts.specs.Fields.{u16_bytes}
 use Rattle.ots_keys.specs.declared.parameters.Ots.{Ots}
 use Rattle.ots_keys.specs.Parameters.{width, top_digit}
 use Rattle.ots_keys.specs.Digits.{coef, checksum, digit}
 
 -- the digit that stands in a hash with its checksum
-pub digit_is : (ots : Ots) (hash : List ℕ) (i : ℕ) (text : List ℕ) (d : ℕ) → text ≡ hash ++ u16_bytes (checksum ots hash)
+pub digit_is : (ots : Ots) (hash : List ℕ) (i : ℕ) (text : List ℕ) (d : ℕ) →
+    text ≡ hash ++ u16_bytes (checksum ots hash)
     → d ≡ coef text i (width ots) → d ≡ digit ots hash i
 unfolding digit
 digit_is ots hash i text d e f = f ∙ ap (λ t. coef t i (width ots)) e

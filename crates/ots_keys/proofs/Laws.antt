@@ -15,18 +15,22 @@ use Rattle.lane_chains.specs.Hash.{hash_under}
 use Rattle.lane_chains.specs.Chains.{joined, chain}
 use Rattle.lane_chains.proofs.Growing.{joined-cong}
 pub use Rattle.lane_chains.proofs.HashLaws.{length-hash_under}
-use Rattle.ots_keys.specs.Keys.{secret, public_key, key_of_ends, chain_end, signature, signed_element, candidate, finished_element, IsSignatureForm, randomizer, randomizer_in, message_hash, element_in, public_tag}
+use Rattle.ots_keys.specs.Keys.{secret, public_key, key_of_ends, chain_end, signature, signed_element, candidate}
+use Rattle.ots_keys.specs.Keys.{finished_element, IsSignatureForm, randomizer, randomizer_in, message_hash}
+use Rattle.ots_keys.specs.Keys.{element_in, public_tag}
 
 pub length-public_key : (ots : Ots) (id : List ℕ) (q : ℕ) (seed : List ℕ) → length (public_key ots id q seed) ≡ 32
 unfolding public_key
 length-public_key ots id q seed = length-hash_under _ _ _ _
 
 -- a chain's values have 32 bytes where its start has
-pub length-chain : (id : List ℕ) (q i from n : ℕ) (start : List ℕ) → length start ≡ 32 → length (chain id q i from n start) ≡ 32
+pub length-chain : (id : List ℕ) (q i from n : ℕ) (start : List ℕ) → length start ≡ 32 →
+    length (chain id q i from n start) ≡ 32
 length-chain id q i from zero start h = h
 length-chain id q i from (suc n) start h = length-hash_under _ _ _ _
 
-length-signed_element : (ots : Ots) (id : List ℕ) (q : ℕ) (seed hash : List ℕ) (i : ℕ) → length (signed_element ots id q seed hash i) ≡ 32
+length-signed_element : (ots : Ots) (id : List ℕ) (q : ℕ) (seed hash : List ℕ) (i : ℕ) →
+    length (signed_element ots id q seed hash i) ≡ 32
 unfolding secret
 length-signed_element ots id q seed hash i = length-chain id q i 0 _ _ (length-hash_under _ _ _ _)
 
@@ -38,7 +42,8 @@ length-joined f h (suc n) =
     let piece = h n in
     omega (arith, before, length-append (joined f n) (f n))
 
-pub length-signature : (ots : Ots) (id : List ℕ) (q : ℕ) (seed message : List ℕ) → length (signature ots id q seed message) ≡ signature_len ots
+pub length-signature : (ots : Ots) (id : List ℕ) (q : ℕ) (seed message : List ℕ) →
+    length (signature ots id q seed message) ≡ signature_len ots
 unfolding signature
 length-signature ots id q seed message =
     let c = randomizer id q seed in
@@ -51,7 +56,8 @@ length-signature ots id q seed message =
     omega (arith, whole, front, elements, c_len, length-u32_bytes (type_code ots))
 
 -- piece i of pieces of 32 bytes
-pub joined-at : (f : ℕ → List ℕ) → ((i : ℕ) → length (f i) ≡ 32) → (n i : ℕ) → i < n → take 32 (drop (32 * i) (joined f n)) ≡ f i
+pub joined-at : (f : ℕ → List ℕ) → ((i : ℕ) → length (f i) ≡ 32) → (n i : ℕ) → i < n →
+    take 32 (drop (32 * i) (joined f n)) ≡ f i
 joined-at f h zero i lt = absurd (omega arith)
 joined-at f h (suc n) i lt = elim (cases_lt i n) [
   | inl before ↦
@@ -62,11 +68,13 @@ joined-at f h (suc n) i lt = elim (cases_lt i n) [
   | inr after ↦
       let last : i ≡ n = omega arith in
       let piece = h n in
-      rw last (ap (take 32) (drop_at (joined f n) (f n) (32 * n) (length-joined f h n)) ∙ take_all 32 (f n) (omega arith))
+      rw last (ap (take 32) (drop_at (joined f n) (f n) (32 * n) (length-joined f h n))
+      ∙ take_all 32 (f n) (omega arith))
 ]
 
 -- steps from where earlier steps ended
-chain-chain : (id : List ℕ) (q i a n : ℕ) (start : List ℕ) → chain id q i a n (chain id q i 0 a start) ≡ chain id q i 0 (a + n) start
+chain-chain : (id : List ℕ) (q i a n : ℕ) (start : List ℕ) →
+    chain id q i a n (chain id q i 0 a start) ≡ chain id q i 0 (a + n) start
 chain-chain id q i a zero start = let e : a + 0 ≡ a = omega arith in rw e refl
 chain-chain id q i a (suc n) start =
     let e : a + suc n ≡ suc (a + n) = omega arith in
@@ -92,7 +100,8 @@ element_in-signature code c f n i code_len c_len pieces lt =
 
 -- an element of a signature, finished, is the end of its chain
 finished-signed : (ots : Ots) (id : List ℕ) (q : ℕ) (seed hash sig : List ℕ) (i : ℕ)
-    → element_in sig i ≡ signed_element ots id q seed hash i → finished_element ots id q hash sig i ≡ chain_end ots id q seed i
+    → element_in sig i ≡ signed_element ots id q seed hash i →
+    finished_element ots id q hash sig i ≡ chain_end ots id q seed i
 finished-signed ots id q seed hash sig i e =
     let d = digit ots hash i in
     let whole : d + (top_digit ots - d) ≡ top_digit ots = omega (arith, digit_le ots hash i) in
@@ -100,7 +109,8 @@ finished-signed ots id q seed hash sig i e =
     ∙ ap (λ n. chain id q i 0 n (secret id q seed i)) whole
 
 -- a signature has the form of one
-pub signature_form : (ots : Ots) (id : List ℕ) (q : ℕ) (seed message : List ℕ) → IsSignatureForm ots (signature ots id q seed message)
+pub signature_form : (ots : Ots) (id : List ℕ) (q : ℕ) (seed message : List ℕ) →
+    IsSignatureForm ots (signature ots id q seed message)
 unfolding signature
 signature_form ots id q seed message =
     let c = randomizer id q seed in

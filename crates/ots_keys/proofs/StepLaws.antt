@@ -1,5 +1,6 @@
 -- The steps of a key's chains, as lists of which the first stand for chains.
-use Rattle.std.proofs.Common.{◌≡◌, ◌≤◌, ◌<◌, ◌+◌, ◌-◌, ◌*◌, ℕ, List, length, take, drop, slice_index, refl, ap, ◌∙◌, arith}
+use Rattle.std.proofs.Common.{◌≡◌, ◌≤◌, ◌<◌, ◌+◌, ◌-◌, ◌*◌, ℕ, List, length, take, drop, slice_index, refl, ap, ◌∙◌}
+use Rattle.std.proofs.Common.{arith}
 use Rattle.std.specs.Prelude.{replicate}
 use Rattle.std.proofs.lemmas.List.{drop-drop, get_or-replicate, get_or-take, length-take-le}
 use Rattle.lane_chains.specs.Chains.{chain, value_at, end_of, AreSteps}
@@ -24,7 +25,8 @@ pub count_is : (n a : ℕ) → n ≤ 265 → length (take n (replicate 265 a)) �
 count_is n a few = length-take-le n (replicate 265 a) few
 
 pub are_steps : (ots : Ots) (from to : List ℕ) → length from ≡ 265 → length to ≡ 265
-    → ((i : ℕ) → i < chains ots → slice_index from i ≤ slice_index to i) → ((i : ℕ) → i < chains ots → slice_index to i ≤ 256)
+    → ((i : ℕ) → i < chains ots → slice_index from i ≤ slice_index to i) →
+    ((i : ℕ) → i < chains ots → slice_index to i ≤ 256)
     → AreSteps (take (chains ots) from) (take (chains ots) to)
 are_steps ots from to len_from len_to order top =
     let n = chains ots in
@@ -45,7 +47,8 @@ are_steps ots from to len_from len_to order top =
     }
 
 end_is : (id : List ℕ) (q : ℕ) (from to starts : List ℕ) (n i f t : ℕ) (start : List ℕ) → i < n → slice_index from i ≡ f
-    → slice_index to i ≡ t → value_at starts i ≡ start → end_of id q (take n from) (take n to) starts i ≡ chain id q i f (t - f) start
+    → slice_index to i ≡ t → value_at starts i ≡ start →
+    end_of id q (take n from) (take n to) starts i ≡ chain id q i f (t - f) start
 end_is id q from to starts n i f t start lt e_from e_to e_start =
     rw (get_or-take n from i 0 lt, get_or-take n to i 0 lt, e_from, e_to, e_start) refl
 
@@ -54,14 +57,17 @@ pub secret_is : (id : List ℕ) (q : ℕ) (seed seeds : List ℕ) (n i : ℕ) �
     → end_of id q (take n (replicate 265 255)) (take n (replicate 265 256)) seeds i ≡ secret id q seed i
 unfolding secret
 secret_is id q seed seeds n i lt few e =
-    end_is id q (replicate 265 255) (replicate 265 256) seeds n i 255 256 seed lt (same_at 255 i (omega arith)) (same_at 256 i (omega arith)) e
+    end_is id q (replicate 265 255) (replicate 265 256) seeds n i 255 256 seed lt (same_at 255 i (omega arith))
+    (same_at 256 i (omega arith)) e
 
-pub chain_end_is : (ots : Ots) (id : List ℕ) (q : ℕ) (seed starts : List ℕ) (n i top : ℕ) → i < n → n ≤ 265 → top ≡ top_digit ots
+pub chain_end_is : (ots : Ots) (id : List ℕ) (q : ℕ) (seed starts : List ℕ) (n i top : ℕ) → i < n →
+    n ≤ 265 → top ≡ top_digit ots
     → value_at starts i ≡ secret id q seed i
     → end_of id q (take n (replicate 265 0)) (take n (replicate 265 top)) starts i ≡ chain_end ots id q seed i
 chain_end_is ots id q seed starts n i top lt few e_top e =
     let whole : top - 0 ≡ top_digit ots = omega arith in
-    end_is id q (replicate 265 0) (replicate 265 top) starts n i 0 top (secret id q seed i) lt (same_at 0 i (omega arith))
+    end_is id q (replicate 265 0) (replicate 265 top) starts n i 0 top (secret id q seed i)
+    lt (same_at 0 i (omega arith))
     (same_at top i (omega arith)) e
     ∙ ap (λ (m : ℕ). chain id q i 0 m (secret id q seed i)) whole
 
@@ -74,11 +80,13 @@ signed_is ots id q seed hash starts digits n i lt few e_digit e =
     end_is id q (replicate 265 0) digits starts n i 0 d (secret id q seed i) lt (same_at 0 i (omega arith)) e_digit e
     ∙ ap (λ (m : ℕ). chain id q i 0 m (secret id q seed i)) whole
 
-pub finished_is : (ots : Ots) (id : List ℕ) (q : ℕ) (hash sig digits : List ℕ) (n i top : ℕ) → i < n → n ≤ 265 → top ≡ top_digit ots
+pub finished_is : (ots : Ots) (id : List ℕ) (q : ℕ) (hash sig digits : List ℕ) (n i top : ℕ) → i < n →
+    n ≤ 265 → top ≡ top_digit ots
     → slice_index digits i ≡ digit ots hash i
     → end_of id q (take n digits) (take n (replicate 265 top)) (drop 36 sig) i ≡ finished_element ots id q hash sig i
 finished_is ots id q hash sig digits n i top lt few e_top e_digit =
     let d = digit ots hash i in
     let element : value_at (drop 36 sig) i ≡ element_in sig i = ap (take 32) (drop-drop (32 * i) 36 sig) in
-    end_is id q digits (replicate 265 top) (drop 36 sig) n i d top (element_in sig i) lt e_digit (same_at top i (omega arith)) element
+    end_is id q digits (replicate 265 top) (drop 36 sig) n i d top (element_in sig i) lt e_digit
+    (same_at top i (omega arith)) element
     ∙ ap (λ (t : ℕ). chain id q i d (t - d) (element_in sig i)) e_top

@@ -3,7 +3,7 @@ ghost use Rattle.ots_keys.specs.declared.parameters.Ots.{Ots};
 ghost use Rattle.ots_keys.specs.Parameters.{type_code, width, chains, checksum_shift, top_digit, signature_len};
 
 /// A parameter set of RFC 8554, section 4.1: digits of 1, 2, 4 or 8 bits.
-#[derive(Clone, Copy, Debug, PartialEq, Eq)]
+#[derive(Clone, Copy, PartialEq, Eq)]
 pub enum Ots {
     W1,
     W2,

@@ -1,5 +1,5 @@
 //! The text of parts of a request.
-use part_runs::{PartsFault, parts_text};
+use part_runs::{PartsRefusal, parts_text};
 use scenario_file::Scenario;
 use std::process::Abort;
 use std::test::Fail;
@@ -9,7 +9,7 @@ fn what_nobody_has_certified_has_no_parts(rt: HostRuntime) -> Result<(), Fail> {
     let scenario = Scenario::s1(rt.alloc())?;
     let none = matches!(
         parts_text(rt.alloc(), &scenario, &[], 2, 1),
-        Err(PartsFault::NotCertified)
+        Err(PartsRefusal::NotCertified)
     );
     assert!(rt; none);
     Ok(())

@@ -1,5 +1,5 @@
 //! Texts rebuilt from the lines of parts, in a group of four masters of which one may be intruded.
-use part_runs::{RebuildFault, rebuilt_text};
+use part_runs::{RebuildRefusal, rebuilt_text};
 use scenario_file::Scenario;
 use std::alloc::Global;
 use std::process::Abort;
@@ -9,10 +9,10 @@ use std::test::Fail;
 const DIGEST: &str = "digest 5307c0b0ae6aacdcf5076254f1ff92f98e7d8fce3c1c9479bd37fe10d735561a\n";
 
 /// What is printed for these lines behind the digest's.
-fn rebuilt(alloc: Global, scenario: &Scenario, lines: &str) -> Result<Vec<u8>, RebuildFault> {
-    let mut text = Vec::from_slice(alloc, DIGEST.as_bytes()).map_err(|_| RebuildFault::Want)?;
+fn rebuilt(alloc: Global, scenario: &Scenario, lines: &str) -> Result<Vec<u8>, RebuildRefusal> {
+    let mut text = Vec::from_slice(alloc, DIGEST.as_bytes()).map_err(|_| RebuildRefusal::Want)?;
     text.extend_from_slice(lines.as_bytes())
-        .map_err(|_| RebuildFault::Want)?;
+        .map_err(|_| RebuildRefusal::Want)?;
     rebuilt_text(alloc, scenario, &text)
 }
 
@@ -34,15 +34,15 @@ fn one_right_part_is_too_few(rt: HostRuntime) -> Result<(), Fail> {
     let lines = "m1 19 00010001030000000000\nm2 19 00010002060000000001\n";
     let none = matches!(
         rebuilt(rt.alloc(), &scenario, lines),
-        Err(RebuildFault::NoText)
+        Err(RebuildRefusal::NoText)
     );
     assert!(rt; none);
     Ok(())
 }
 
-fn bad_line(answer: &Result<Vec<u8>, RebuildFault>) -> Option<u64> {
+fn bad_line(answer: &Result<Vec<u8>, RebuildRefusal>) -> Option<u64> {
     match answer {
-        Err(RebuildFault::BadLine { line }) => Some(*line),
+        Err(RebuildRefusal::BadLine { line }) => Some(*line),
         _ => None,
     }
 }

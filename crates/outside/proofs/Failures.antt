@@ -1,3 +1,5 @@
+-- One more failure that is noted under a name makes the count of that name greater by one: the count of a list
+-- with one more is the sum of both, and a name is the same as itself.
 use Rattle.std.proofs.Common.{◌≡◌, ℕ, ◌<◌, List, [], ◌∷◌, ◌++◌, true, cond, refl, arith}
 use Rattle.std.specs.List.{count_by}
 use Rattle.std.specs.Str.{bytes_eq}

@@ -1,5 +1,5 @@
 pub mod Faults
-pub mod Kept
+pub mod Keepers
 pub mod Piece
 pub mod Shelf
 pub mod Tray

@@ -26,8 +26,8 @@ pub record Outlet : Type 0 where
   pub faults : ℕ
   pub written : Option (List ℕ)
 
--- What a put does to a writer that tells its bytes: it takes the whole piece at Ok, and some beginning of it at a fault. It
--- wants no memory.
+-- What a put does to a writer that tells its bytes: it takes the whole piece at Ok, and some beginning of it at a
+-- fault. It wants no memory.
 abbrev pub WritesPiece : Option (List ℕ) → List ℕ → Result (Unit {0}) PutAnswer → Option (List ℕ) → Type 0
 WritesPiece before piece (Ok _) after = Appends before after piece
 WritesPiece before piece (Err answer.Failed) after = (count : ℕ) × Appends before after (take count piece)

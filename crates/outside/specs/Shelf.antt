@@ -1,4 +1,5 @@
-use Rattle.std.specs.Prelude.{◌≡◌, ℕ, ◌+◌, ◌≤◌, ◌<◌, List, [], ◌∷◌, ◌++◌, Option, None, Some, Result, Ok, Err, length, count_by, IsSome, if◌then◌else◌, nat_eq, min, ◌^◌, ◌-◌, string_bytes}
+use Rattle.std.specs.Prelude.{◌≡◌, ℕ, ◌+◌, ◌≤◌, ◌<◌, List, [], ◌∷◌, ◌++◌, Option, None, Some, Result, Ok, Err, length}
+use Rattle.std.specs.Prelude.{count_by, IsSome, if◌then◌else◌, nat_eq, min, ◌^◌, ◌-◌, string_bytes}
 use Rattle.std.specs.List.{list_any}
 use Rattle.std.specs.Str.{bytes_eq}
 use Rattle.std.specs.declared.vec.Vec.{Vec}
@@ -65,7 +66,8 @@ found shelf name =
 abbrev pub ShelfLoads : Shelf → List ℕ → Result (Vec ℕ Global) LoadAnswer → Shelf → Type 0
 ShelfLoads before name (Err answer.Want) after = after ≡ before
 ShelfLoads before name (Err answer.Failed) after =
-    (found before name ≡ None) × (after ≡ record before { calls = next_call before.calls; failed = before.failed ++ name ∷ [] })
+    (found before name ≡ None)
+    × (after ≡ record before { calls = next_call before.calls; failed = before.failed ++ name ∷ [] })
 ShelfLoads before name (Err answer.TooLong) after =
     IsSome (found before name) × (after ≡ record before { calls = next_call before.calls })
 ShelfLoads before name (Ok _) after =

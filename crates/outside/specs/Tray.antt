@@ -20,6 +20,7 @@ put_fails tray = list_any (nat_eq (next_call tray.calls)) tray.failing
 abbrev pub TrayPuts : Tray → List ℕ → Result (Unit {0}) PutAnswer → Tray → Type 0
 TrayPuts before piece (Err answer.Want) after = after ≡ before
 TrayPuts before piece (Err answer.Failed) after =
-    (put_fails before ≡ true) × (after ≡ record before { calls = next_call before.calls; faults = next_call before.faults })
+    (put_fails before ≡ true)
+    × (after ≡ record before { calls = next_call before.calls; faults = next_call before.faults })
 TrayPuts before piece (Ok _) after =
     (put_fails before ≡ false) × (after ≡ record before { put = before.put ++ piece; calls = next_call before.calls })

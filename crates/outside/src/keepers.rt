@@ -1,6 +1,6 @@
 ghost use Rattle.std.specs.Prelude.{◌≡◌, ◌≤◌, ℕ, List, Option, IsErrOf};
 ghost use Rattle.outside.specs.Faults.{HasRisen};
-ghost use Rattle.outside.specs.Kept.{AppendGives, EntriesGive, KeepCounts};
+ghost use Rattle.outside.specs.Keepers.{AppendGives, EntriesGive, KeepCounts};
 
 use thiserror::Error;
 

@@ -1,6 +1,6 @@
 ghost use Rattle.std.specs.Prelude.{◌≡◌, ◌≤◌, ℕ, List, [], Option, None, Some, IsErrOf, IfOk};
 ghost use Rattle.outside.specs.Faults.{HasRisen};
-ghost use Rattle.outside.specs.Kept.{AppendGives, EntriesGive, KeepCounts, BinderAppends, BinderReads, lists_of};
+ghost use Rattle.outside.specs.Keepers.{AppendGives, EntriesGive, KeepCounts, BinderAppends, BinderReads, lists_of};
 
 use crate::keepers::{KeepAnswer, Keeper};
 use std::alloc::{AllocError, Global};
@@ -17,7 +17,7 @@ pub struct MemoryKeeper {
 }
 
 impl Model for MemoryKeeper {
-    ghost use Rattle.outside.specs.Kept.{Binder, lists_of};
+    ghost use Rattle.outside.specs.Keepers.{Binder, lists_of};
 
     ghost Value = { Binder };
 

@@ -1,5 +1,6 @@
 -- Legal histories and own lists, entry by entry.
-use Rattle.std.proofs.Common.{◌≡◌, ℕ, ◌+◌, ◌<◌, List, [], ◌∷◌, ◌++◌, length, sym, ◌∙◌, ap, subst, inl, inr, ◌⊎◌, arith}
+use Rattle.std.proofs.Common.{◌≡◌, ℕ, ◌+◌, ◌<◌, List, [], ◌∷◌, ◌++◌, length, sym, ◌∙◌, ap, subst, inl, inr, ◌⊎◌}
+use Rattle.std.proofs.Common.{arith}
 use Rattle.std.proofs.lemmas.List.{length-append}
 use Rattle.history_rules.specs.Events.{Entry}
 use Rattle.history_rules.specs.Setup.{Setup, own}
@@ -18,8 +19,10 @@ last_or_before {list} {before} {e} {x} s = elim (stands_cases s (stands_last lis
   | inr apart ↦ elim apart [
     | inl earlier ↦ inr earlier
     | inr later ↦
-        let long : length before ≡ length list + length (e ∷ later.after) = ap length later.whole ∙ length-append list (e ∷ later.after) in
-        let whole : length (list ++ e ∷ []) ≡ length before + length (x ∷ s.after) = ap length s.whole ∙ length-append before (x ∷ s.after) in
+        let long : length before ≡ length list + length (e ∷ later.after) = ap length later.whole
+        ∙ length-append list (e ∷ later.after) in
+        let whole : length (list ++ e ∷ []) ≡ length before + length (x ∷ s.after) =
+        ap length s.whole ∙ length-append before (x ∷ s.after) in
         let short : length (list ++ e ∷ []) ≡ length list + 1 = length-append list (e ∷ []) in
         absurd (omega arith)
   ]
@@ -37,7 +40,8 @@ one_more_is_legal w history e legal may = record { entries = λ before x s. at b
   where
     at : (before : List Entry) (x : Entry) → ((before ≡ history) × (x ≡ e)) ⊎ Stands history before x
         → IsLegalEntry w before x
-    at before x (inl last) = subst (λ (b : List Entry). IsLegalEntry w b x) (sym last.0) (subst (λ (y : Entry). IsLegalEntry w history y) (sym last.1) may)
+    at before x (inl last) = subst (λ (b : List Entry). IsLegalEntry w b x) (sym last.0)
+        (subst (λ (y : Entry). IsLegalEntry w history y) (sym last.1) may)
     at before x (inr s) = legal.entries before x s
 
 pub none_is_own : (w : Setup) (actor : ℕ) → IsOwnHistory w actor []
@@ -49,7 +53,8 @@ one_more_is_own w actor list e is may = record { entries = λ before x s. at bef
   where
     at : (before : List Entry) (x : Entry) → ((before ≡ list) × (x ≡ e)) ⊎ Stands list before x
         → IsOwnEntry w actor before x
-    at before x (inl last) = subst (λ (b : List Entry). IsOwnEntry w actor b x) (sym last.0) (subst (λ (y : Entry). IsOwnEntry w actor list y) (sym last.1) may)
+    at before x (inl last) = subst (λ (b : List Entry). IsOwnEntry w actor b x) (sym last.0)
+        (subst (λ (y : Entry). IsOwnEntry w actor list y) (sym last.1) may)
     at before x (inr s) = is.entries before x s
 
 pub own_entry_is_legal : (w : Setup) (history : List Entry) (actor : ℕ) (e : Entry)

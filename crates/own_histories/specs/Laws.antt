@@ -8,11 +8,13 @@ use Rattle.own_histories.specs.Own.{IsOwnEntry, IsOwnHistory, AreOwnHistories, H
 
 -- Of a legal history each actor's own entries are an own history of that actor.
 abbrev pub OwnOfLegal : Type 0
-OwnOfLegal = (w : Setup) (history : List Entry) (actor : ℕ) → IsLegal w history → IsOwnHistory w actor (own history actor)
+OwnOfLegal = (w : Setup) (history : List Entry) (actor : ℕ) → IsLegal w history →
+    IsOwnHistory w actor (own history actor)
 
 -- Own histories of all actors, with each stamp once, merge to a legal history ..
 abbrev pub MergedIsLegal : Type 0
-MergedIsLegal = (w : Setup) (lists : List (List Entry)) → AreOwnHistories w lists → HasEachStampOnce lists → IsLegal w (merged lists)
+MergedIsLegal = (w : Setup) (lists : List (List Entry)) → AreOwnHistories w lists → HasEachStampOnce lists →
+    IsLegal w (merged lists)
 
 -- .. and they are the actors' own entries of it.
 abbrev pub MergedHasOwnLists : Type 0
@@ -25,7 +27,8 @@ abbrev pub NoneIsLegal : Type 0
 NoneIsLegal = (w : Setup) → IsLegal w []
 
 abbrev pub OneMoreIsLegal : Type 0
-OneMoreIsLegal = (w : Setup) (history : List Entry) (e : Entry) → IsLegal w history → IsLegalEntry w history e → IsLegal w (history ++ e ∷ [])
+OneMoreIsLegal = (w : Setup) (history : List Entry) (e : Entry) → IsLegal w history → IsLegalEntry w history e →
+    IsLegal w (history ++ e ∷ [])
 
 -- The list of no entries is each actor's own history, and so is an own history with one more entry of the actor's own.
 abbrev pub NoneIsOwn : Type 0
@@ -33,10 +36,13 @@ NoneIsOwn = (w : Setup) (actor : ℕ) → IsOwnHistory w actor []
 
 abbrev pub OneMoreIsOwn : Type 0
 OneMoreIsOwn =
-    (w : Setup) (actor : ℕ) (list : List Entry) (e : Entry) → IsOwnHistory w actor list → IsOwnEntry w actor list e → IsOwnHistory w actor (list ++ e ∷ [])
+    (w : Setup) (actor : ℕ) (list : List Entry) (e : Entry) → IsOwnHistory w actor list → IsOwnEntry w actor list e →
+    IsOwnHistory w actor (list ++ e ∷ [])
 
--- What an actor that is there can add to its own entries of a history may come after that history, with its length as stamp.
+-- What an actor that is there can add to its own entries of a history may come after that history, with its length as
+-- stamp.
 abbrev pub OwnEntryIsLegal : Type 0
 OwnEntryIsLegal =
-    (w : Setup) (history : List Entry) (actor : ℕ) (e : Entry) → actor < w.group.n + w.group.clients → e.stamp ≡ length history
+    (w : Setup) (history : List Entry) (actor : ℕ) (e : Entry) → actor < w.group.n + w.group.clients →
+    e.stamp ≡ length history
     → IsOwnEntry w actor (own history actor) e → IsLegalEntry w history e

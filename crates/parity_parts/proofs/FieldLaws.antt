@@ -1,13 +1,12 @@
--- The laws of the field that interpolation needs. Products are sums of shifted copies, and so linear on both sides,
--- and as
--- shifts are linear, two products by different elements may be taken in either order. What is left, that the inverses
--- that
--- are kept in a table are inverses and that 1 is neutral, is computed for each element.
+-- The laws of the field that interpolation needs. Products are sums of shifted copies, and so linear on both sides, and
+-- as shifts are linear, two products by different elements may be taken in either order. What is left, that the
+-- inverses that are kept in a table are inverses and that 1 is neutral, is computed for each element.
 use Rattle.std.proofs.Common.{◌≡◌, ◌≢◌, ◌∙◌, ◌<◌, ◌≤◌, ◌+◌, ◌-◌, ◌*◌, ◌/◌, ◌%◌, ◌^◌, ◌==◌, ◌&&◌, ℕ, zero, suc, Bool}
 use Rattle.std.proofs.Common.{true, false, refl, sym, ap, ap₂, arith, bit_xor, true≢false, eqb-true, eq-eqb, ◌||◌}
 use Rattle.std.proofs.Common.{ne_eqb, ltb-true, nat_lt}
 use lib.Bits.{xor_assoc, xor_self, xor_zero_r, xor_zero_l, xor_block, xor_lt}
 use Rattle.std.proofs.lemmas.Nat.{xor_comm, xor_mod, xor_shr}
+use Rattle.std.proofs.lemmas.Bool.{and_parts}
 use Rattle.parity_parts.specs.Field.{inverse, times_x, product_by, product}
 
 -- ---- Sums.
@@ -188,18 +187,14 @@ unfoldable all_below : ℕ → (ℕ → Bool) → Bool
 all_below zero test = true
 all_below (suc n) test = test n && all_below n test
 
-both_true : (p q : Bool) → (p && q) ≡ true → (p ≡ true) × (q ≡ true)
-both_true true q h = (refl, h)
-both_true false q h = absurd (true≢false (sym h))
-
 below_at : (n : ℕ) (test : ℕ → Bool) (k : ℕ) → all_below n test ≡ true → k < n → test k ≡ true
 unfolding all_below
 below_at zero test k h below = absurd (omega arith)
 below_at (suc n) test k h below =
-    choose (k == n) refl (λ lower. below_at n test k (both_true _ _ h).1 lower)
+    choose (k == n) refl (λ lower. below_at n test k (and_parts _ _ h).1 lower)
   where
     choose : (is_last : Bool) → (k == n) ≡ is_last → (k < n → test k ≡ true) → test k ≡ true
-    choose true e before = ap test (eqb-true k n e) ∙ (both_true _ _ h).0
+    choose true e before = ap test (eqb-true k n e) ∙ (and_parts _ _ h).0
     choose false e before =
         let other : k ≢ n = λ same. true≢false (sym (eq-eqb k n same) ∙ e) in
         before (omega arith)
@@ -220,7 +215,7 @@ inverse_is a some below =
     let test = below_at 16 (λ a. a == 0 || (nat_lt (inverse a) 256 && product a (inverse a) == 1)) a inverses_are
     below in
     let none : (a == 0) ≡ false = ne_eqb a 0 some in
-    let both = both_true _ _ (rw none at test) in
+    let both = and_parts _ _ (rw none at test) in
     (ltb-true _ _ both.0, eqb-true _ _ both.1)
 
 -- each element is a product with 1, and products may be turned, so that the law at 1 is the law everywhere

@@ -1,6 +1,7 @@
 -- Where f + 1 parts are those of one text of the digest, a text is found, and what is found has the digest.
 use Rattle.std.proofs.Common.{◌≡◌, ◌∙◌, ◌+◌, ◌≤◌, ◌⊎◌, inl, inr, ◌++◌, ℕ, zero, suc, Bool, true, false, cond, List}
-use Rattle.std.proofs.Common.{[], ◌∷◌, ◌&&◌, Option, Some, None, map, take, length, nat_eq, if◌then◌else◌, refl, sym, ap, arith}
+use Rattle.std.proofs.Common.{[], ◌∷◌, ◌&&◌, Option, Some, None, map, take, length, nat_eq, if◌then◌else◌, refl, sym}
+use Rattle.std.proofs.Common.{ap, arith}
 use Rattle.std.specs.List.{AllByRecursion, filter, list_all}
 use Rattle.std.specs.Str.{bytes_eq}
 use Rattle.std.proofs.lemmas.Bool.{and_parts, and_from, eq-eqb, eqb-true}
@@ -8,12 +9,15 @@ use Rattle.std.proofs.lemmas.List.{length-take-le}
 use Rattle.std.proofs.lemmas.List.FromFn.{length-map-range_with_len}
 use Rattle.std.proofs.lemmas.Slice.Eq.{bytes_eq-Decides}
 use Rattle.sha2.specs.Sha256.{sha256}
-use Rattle.parity_parts.specs.Parts.{AreBytes, AreDifferent, Fits, IsPartOf, first_length, is_part_of, joined, joined_byte}
+use Rattle.parity_parts.specs.Parts.{AreBytes, AreDifferent, Fits, IsPartOf, first_length, is_part_of, joined}
+use Rattle.parity_parts.specs.Parts.{joined_byte}
 use Rattle.parity_parts.specs.Parts.{masters, part_bytes, width}
-use Rattle.parity_parts.specs.Rebuilding.{CanBePart, HasEnoughOf, else_by, first_text, have_one_length, rebuilt, sets, text_of}
+use Rattle.parity_parts.specs.Rebuilding.{CanBePart, HasEnoughOf, else_by, first_text, have_one_length, rebuilt, sets}
+use Rattle.parity_parts.specs.Rebuilding.{text_of}
 use Rattle.parity_parts.specs.declared.part.Part.{Part}
 use Rattle.parity_parts.proofs.Joins.{first_own, own_joined}
-use Rattle.parity_parts.proofs.Sublists.{all_passing, all_take, different_passing, different_take, passing, small_ones}
+use Rattle.parity_parts.proofs.Sublists.{all_passing, all_take, different_passing, different_take, passing}
+use Rattle.parity_parts.proofs.Sublists.{small_ones}
 
 -- ---- A set of one length may be joined.
 
@@ -131,7 +135,8 @@ own_parts f whole (p ∷ ps) own =
       own_parts f whole ps own.1,
     )
 
-own_length : (f size : ℕ) (whole : List ℕ) (set : List Part) → size ≡ length whole → AllByRecursion (IsPartOf f whole) set
+own_length : (f size : ℕ) (whole : List ℕ) (set : List Part) → size ≡ length whole →
+    AllByRecursion (IsPartOf f whole) set
     → list_all (λ part. nat_eq part.length size) set ≡ true
 own_length f size whole [] is own = refl
 own_length f size whole (p ∷ ps) is own =

@@ -117,9 +117,11 @@ symbols_length : (parts : List Part) (place : ℕ) → length (symbols parts pla
 symbols_length [] place = refl
 symbols_length (p ∷ ps) place = let rest = symbols_length ps place in omega arith
 
-pub solves : (parts : List Part) → AreSmall (masters parts) → AreDifferent (masters parts) → (place : ℕ) → Solves parts place
+pub solves : (parts : List Part) → AreSmall (masters parts) → AreDifferent (masters parts) →
+    (place : ℕ) → Solves parts place
 solves parts small differ place bytes =
-    interpolated_takes (masters parts) (symbols parts place) (masters_length parts ∙ sym (symbols_length parts place)) small
+    interpolated_takes (masters parts) (symbols parts place)
+    (masters_length parts ∙ sym (symbols_length parts place)) small
     differ bytes
 
 pub only_solution : (parts : List Part) → AreSmall (masters parts) → AreDifferent (masters parts) → (place : ℕ)

@@ -1,7 +1,6 @@
 -- Interpolation is exact: the polynomial that it gives takes the values at the points, and no other of its length does.
 -- Both are by induction on the points: a polynomial is y + (X + x) Q with y its value at x, and Q takes the quotients
--- at the
--- other points exactly where the whole takes the values.
+-- at the other points exactly where the whole takes the values.
 use Rattle.std.proofs.Common.{◌≡◌, ◌≢◌, ◌∙◌, ◌<◌, ℕ, List, [], ◌∷◌, length, map, refl, sym, ap}
 use Rattle.std.proofs.Common.{ap₂}
 use Rattle.std.proofs.Common.{arith, bit_xor}

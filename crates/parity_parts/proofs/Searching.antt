@@ -50,7 +50,8 @@ search_step f digest chosen count p ps =
 
 -- ---- The ways in which the search ends.
 
-all_chosen_at : (f : ℕ) (digest : List ℕ) (chosen others : List Part) (missing : ℕ) (text : Option (List ℕ)) → missing ≡ 0
+all_chosen_at : (f : ℕ) (digest : List ℕ) (chosen others : List Part) (missing : ℕ) (text : Option (List ℕ)) →
+    missing ≡ 0
     → text ≡ text_of f digest chosen → text ≡ first_text f digest (behind_chosen chosen (sets missing others))
 all_chosen_at f digest chosen others zero text none is =
     is ∙ sym (else_none (text_of f digest chosen))

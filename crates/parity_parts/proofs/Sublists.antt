@@ -1,4 +1,5 @@
--- What holds of parts holds of some of them: of those at the front, of all but one, of those that pass a test, of the first.
+-- What holds of parts holds of some of them: of those at the front, of all but one, of those that pass a test, of the
+-- first.
 use Rattle.std.proofs.Common.{◌≡◌, ◌≢◌, ◌≤◌, ◌++◌, ℕ, zero, suc, Bool, true, false, cond, List, [], ◌∷◌, take}
 use Rattle.std.proofs.Common.{◌-◌, ◌∙◌, ap, drop, get_or, length, refl, arith, sym, subst}
 use Rattle.std.proofs.lemmas.List.{take_all}

@@ -1,24 +1,19 @@
 -- One part more among those that are looked at: its master, where the part is wrong.
-use Rattle.std.proofs.Common.{◌≡◌, ◌∙◌, ◌<◌, ◌⊎◌, inl, inr, ◌++◌, ℕ, Bool, true, false, List, [], ◌∷◌, ◌&&◌, ◌||◌, not}
+use Rattle.std.proofs.Common.{◌≡◌, ◌∙◌, ◌<◌, ◌++◌, ℕ, Bool, true, false, List, [], ◌∷◌, ◌&&◌, ◌||◌, not}
 use Rattle.std.proofs.Common.{◌+◌, length, get_or, take, nat_eq, if◌then◌else◌, refl, sym, ap}
 use Rattle.std.proofs.lemmas.List.{take_more}
 use Rattle.std.specs.List.{list_any}
-use Rattle.std.proofs.lemmas.Bool.{cases_eq, eq-eqb, false≢true, ne_eqb, true≢false}
+use Rattle.std.proofs.lemmas.Bool.{false≢true, true≢false}
 use Rattle.std.proofs.lemmas.List.Folds.{list_any-append}
 use Rattle.quorum_sets.specs.Masters.{has_master, with_master}
 use Rattle.quorum_sets.proofs.MastersLemmas.{has_master-voters_below, voters_same}
 use Rattle.parity_parts.specs.Parts.{is_part_of}
 use Rattle.parity_parts.specs.Rebuilding.{wrong_masters}
 use Rattle.parity_parts.specs.declared.part.Part.{Part}
+use Rattle.plain_lists.proofs.Booleans.{nat_eq-flipped}
 
-turned_at : (x m : ℕ) → (x ≡ m) ⊎ (x ≡ m → ⊥) → nat_eq x m ≡ nat_eq m x
-turned_at x m (inl is) = eq-eqb x m is ∙ sym (eq-eqb m x (sym is))
-turned_at x m (inr other) = ne_eqb x m other ∙ sym (ne_eqb m x (λ is. other (sym is)))
-
-turned : (x m : ℕ) → nat_eq x m ≡ nat_eq m x
-turned x m = turned_at x m (cases_eq x m)
-
-one_more : (here before is_wrong : Bool) → is_wrong ≡ true → (here || before) ≡ (before || ((here && is_wrong) || false))
+one_more : (here before is_wrong : Bool) → is_wrong ≡ true →
+    (here || before) ≡ (before || ((here && is_wrong) || false))
 one_more true true is_wrong is = refl
 one_more true false true is = refl
 one_more true false false is = absurd (false≢true is)
@@ -43,7 +38,7 @@ wrong_more_at f text parts p true is =
     (λ x. list_any (is_wrong_at f text x) (parts ++ p ∷ [])) 14
     (λ x below. ap (λ b. nat_eq x p.master || b)
     (has_master-voters_below (λ y. list_any (is_wrong_at f text y) parts) 14 x below)
-    ∙ ap (λ b. b || list_any (is_wrong_at f text x) parts) (turned x p.master)
+    ∙ ap (λ b. b || list_any (is_wrong_at f text x) parts) (nat_eq-flipped x p.master)
     ∙ one_more (nat_eq p.master x) (list_any (is_wrong_at f text x) parts) (not (is_part_of f text p)) is
     ∙ sym (list_any-append (is_wrong_at f text x) parts (p ∷ [])))
 wrong_more_at f text parts p false is =
@@ -59,8 +54,10 @@ wrong_more f text parts p old new is_right before told is =
     ∙ ap (λ (masters : List ℕ). if not (is_part_of f text p) then with_master masters p.master else masters) before
     ∙ wrong_more_at f text parts p (not (is_part_of f text p)) refl
 
-pub wrong_more_taken : (f : ℕ) (text : List ℕ) (parts : List Part) (i : ℕ) (p : Part) (old new : List ℕ) (is_right : Bool)
-    → i < length parts → p ≡ get_or parts i p → old ≡ wrong_masters f text (take i parts) → is_right ≡ is_part_of f text p
+pub wrong_more_taken : (f : ℕ) (text : List ℕ) (parts : List Part) (i : ℕ) (p : Part)
+    (old new : List ℕ) (is_right : Bool)
+    → i < length parts → p ≡ get_or parts i p → old ≡ wrong_masters f text (take i parts) →
+    is_right ≡ is_part_of f text p
     → new ≡ (if not is_right then with_master old p.master else old) → new ≡ wrong_masters f text (take (i + 1) parts)
 wrong_more_taken f text parts i p old new is_right below is before told added =
     wrong_more f text (take i parts) p old new is_right before told added

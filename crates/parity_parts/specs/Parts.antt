@@ -60,8 +60,7 @@ abbrev pub IsPartOf : ℕ → List ℕ → Part → Type 0
 IsPartOf f text part = (part.length ≡ length text) × (part.bytes ≡ part_bytes f part.master text)
 
 -- ---- The joined text: at each place the coefficients of the polynomial that takes the parts' bytes there at their
--- masters'
--- numbers are the pieces' bytes.
+-- masters' numbers are the pieces' bytes.
 
 abbrev pub masters : List Part → List ℕ
 masters = map (λ part. part.master)

@@ -1,11 +1,14 @@
--- A text rebuilt from parts of which some may be wrong: the first set of f + 1 parts of one length whose joined text has the
--- digest gives it. That a digest tells which parts are right is this project's own way; the code itself could correct fewer.
-use Rattle.std.specs.Prelude.{◌≤◌, ◌<◌, ◌≡◌, ℕ, Bool, zero, suc, List, [], ◌∷◌, ◌++◌, Option, Some, None, ◌&&◌, not, map}
+-- A text rebuilt from parts of which some may be wrong: the first set of f + 1 parts of one length whose joined text
+-- has the digest gives it. That a digest tells which parts are right is this project's own way; the code itself could
+-- correct fewer.
+use Rattle.std.specs.Prelude.{◌≤◌, ◌<◌, ◌≡◌, ℕ, Bool, zero, suc, List, [], ◌∷◌, ◌++◌, Option, Some, None, ◌&&◌, not}
+use Rattle.std.specs.Prelude.{map}
 use Rattle.std.specs.Prelude.{nat_eq, if◌then◌else◌, filter, length, Result, Ok, Err}
 use Rattle.std.specs.List.{list_all, list_any}
 use Rattle.std.specs.Str.{bytes_eq}
 use Rattle.sha2.specs.Sha256.{sha256}
 use Rattle.quorum_sets.specs.Masters.{voters}
+use Rattle.quorum_sets.specs.declared.limits.TheConstants.{MOST_MASTERS}
 use Rattle.parity_parts.specs.Parts.{Fits, first_length, is_part_of, joined}
 use Rattle.parity_parts.specs.declared.part.Part.{Part}
 use Rattle.parity_parts.specs.declared.rebuilding.Rebuilt.{Rebuilt}
@@ -16,8 +19,8 @@ use Rattle.parity_parts.specs.declared.rebuilding.RebuildAnswer.TheVariants.{NoT
 abbrev pub CanBePart : ℕ → ℕ → Part → Type 0
 CanBePart n f part = (1 ≤ part.length) × (part.length ≤ 65536) × Fits n f part.length part
 
--- The sets of so many of the parts, each in the parts' order, by the order of their first parts, then their second ones, and
--- so on.
+-- The sets of so many of the parts, each in the parts' order, by the order of their first parts, then their second
+-- ones, and so on.
 abbrev pub sets : ℕ → List Part → List (List Part)
 sets zero parts = [] ∷ []
 sets (suc count) [] = []
@@ -51,7 +54,7 @@ rebuilt f digest parts = first_text f digest (sets (suc f) parts)
 -- the masters whose part isn't that of the text
 abbrev pub wrong_masters : ℕ → List ℕ → List Part → List ℕ
 wrong_masters f text parts =
-    voters (λ m. list_any (λ part. nat_eq part.master m && not (is_part_of f text part)) parts) 14
+    voters (λ m. list_any (λ part. nat_eq part.master m && not (is_part_of f text part)) parts) MOST_MASTERS
 
 -- what is answered: the text, or that there is none
 abbrev pub IsRebuilt : Option (List ℕ) → Result Rebuilt RebuildAnswer → Type 0

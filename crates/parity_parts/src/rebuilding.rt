@@ -11,7 +11,7 @@ ghost use Rattle.parity_parts.specs.declared.rebuilding.RebuildAnswer.TheVariant
 use crate::joining::join;
 use crate::part::{Part, part_of};
 use plain_lists::{Bytes, Copied, Want};
-use quorum_sets::{Sizes, VoterSet};
+use quorum_sets::{MOST_MASTERS, Sizes, VoterSet};
 use sha2::{Digest, Sha256};
 use std::alloc::Global;
 use thiserror::Error;
@@ -129,7 +129,7 @@ fn is_part_of(alloc: Global, sizes: &Sizes, text: &[u8], part: &Part) -> Result<
 }
 
 fn add_if(masters: &mut VoterSet, master: u32, is_there: bool)
-    requires { master < 14 }
+    requires { master < MOST_MASTERS }
     ensures { masters.new ≡ (if is_there then with_master masters.old master else masters.old) }
 {
     if is_there {

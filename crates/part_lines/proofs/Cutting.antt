@@ -1,27 +1,26 @@
 -- A text of parts cut at its line feeds and read line by line.
-use Rattle.std.proofs.Common.{◌≡◌, ◌<◌, ◌≤◌, ◌+◌, ℕ, zero, suc, Bool, true, false, if◌then◌else◌, nat_le, ◌==◌, List, [], ◌∷◌, ◌++◌, length, Result, Ok, Err, append_assoc, append-nil, refl, sym, ◌∙◌, ap, arith}
-use Rattle.std.proofs.lemmas.List.Splits.{length-slice_split}
-use Rattle.script_grammar.specs.declared.fault.Fault.{Fault}
-use Rattle.script_grammar.specs.declared.fault.Fault.TheVariants as line
+use Rattle.std.proofs.Common.{◌≡◌, ◌<◌, ◌≤◌, ◌+◌, ℕ, zero, suc, Bool, true, false, if◌then◌else◌, nat_le, List, []}
+use Rattle.std.proofs.Common.{◌∷◌, ◌++◌, length, Result, Ok, Err, append_assoc, append-nil, refl, sym, ◌∙◌, ap, arith}
+use Rattle.script_grammar.specs.declared.fault.LineRefusal.{LineRefusal}
+use Rattle.script_grammar.specs.declared.fault.LineRefusal.TheVariants as line
 use Rattle.script_grammar.specs.Faults.{Answer, Answers, Refuses, bad}
 use Rattle.run_lines.specs.Runs.{pieces, is_empty}
 use Rattle.parity_parts.specs.declared.part.Part.{Part}
 use Rattle.part_lines.specs.declared.told.Told.{Told}
-use Rattle.part_lines.specs.declared.fault.RebuildFault.{RebuildFault}
-use Rattle.part_lines.specs.declared.fault.RebuildFault.TheVariants as fault
-use Rattle.part_lines.specs.Reading.{Reading, bad_line, and_then, from_least, before, each_line, rising, told, behind_digest, told_by, told_in, digest_in, part_in}
+use Rattle.part_lines.specs.declared.fault.RebuildRefusal.{RebuildRefusal}
+use Rattle.part_lines.specs.declared.fault.RebuildRefusal.TheVariants as fault
+use Rattle.part_lines.specs.Reading.{Reading, bad_line, and_then, from_least, before, each_line, rising, told}
+use Rattle.part_lines.specs.Reading.{behind_digest, told_by, told_in, digest_in, part_in}
 use Rattle.part_lines.specs.Rebuilding.{RefusesText, ReadsText, fault_at}
-
--- a text has one piece at least
-pieces_some : (text : List ℕ) → 0 < length (pieces text)
-pieces_some text = omega (arith, length-slice_split (λ b. b == 10) text)
+use Rattle.run_lines.proofs.Cutting.{pieces_some}
 
 -- what parts give, behind others
 abbrev pub behind : List Part → Reading (List Part) → Reading (List Part)
 behind front (Ok rest) = Ok (front ++ rest)
 behind front (Err refused) = Err refused
 
-one_behind : (front : List Part) (part : Part) (r : Reading (List Part)) → behind front (before part r) ≡ behind (front ++ part ∷ []) r
+one_behind : (front : List Part) (part : Part) (r : Reading (List Part)) →
+    behind front (before part r) ≡ behind (front ++ part ∷ []) r
 one_behind front part (Ok rest) = ap Ok (sym (append_assoc front (part ∷ []) rest))
 one_behind front part (Err e) = refl
 
@@ -40,8 +39,10 @@ pub lines_at : {A : Type 0} (read : List ℕ → Answer A) (text line after : Li
 lines_at read text line after cut = ap (each_line read) cut ∙ one_line read line (pieces after) (pieces_some after)
 
 -- a part is read
-pub part_more : (read : List ℕ → Answer Part) (least number : ℕ) (front : List Part) (part : Part) (line rest after : List ℕ) (all : Reading (List Part))
-    → behind front (rising least number (each_line read (pieces rest))) ≡ all → pieces rest ≡ line ∷ pieces after → and_then (from_least least) (read line) ≡ Ok part
+pub part_more : (read : List ℕ → Answer Part) (least number : ℕ) (front : List Part) (part : Part)
+    (line rest after : List ℕ) (all : Reading (List Part))
+    → behind front (rising least number (each_line read (pieces rest))) ≡ all → pieces rest ≡ line ∷ pieces after →
+    and_then (from_least least) (read line) ≡ Ok part
     → behind (front ++ part ∷ []) (rising (part.master + 1) (number + 1) (each_line read (pieces after))) ≡ all
 part_more read least number front part line rest after all so_far cut this =
     let left : Reading (List Part) = rising (part.master + 1) (number + 1) (each_line read (pieces after)) in
@@ -56,12 +57,15 @@ part_more read least number front part line rest after all so_far cut this =
     ]
 
     step : and_then (from_least least) (read line) ≡ Ok part
-        → rising least number (read line ∷ each_line read (pieces after)) ≡ before part (rising (part.master + 1) (number + 1) (each_line read (pieces after)))
+        → rising least number (read line ∷ each_line read (pieces after)) ≡ before part
+        (rising (part.master + 1) (number + 1) (each_line read (pieces after)))
     step is = ap by is
 
 -- a line has a fault
-pub part_fault : (read : List ℕ → Answer Part) (least number : ℕ) (front : List Part) (e : Fault) (line rest after : List ℕ) (all : Reading (List Part))
-    → behind front (rising least number (each_line read (pieces rest))) ≡ all → pieces rest ≡ line ∷ pieces after → and_then (from_least least) (read line) ≡ Err e
+pub part_fault : (read : List ℕ → Answer Part) (least number : ℕ) (front : List Part) (e : LineRefusal)
+    (line rest after : List ℕ) (all : Reading (List Part))
+    → behind front (rising least number (each_line read (pieces rest))) ≡ all → pieces rest ≡ line ∷ pieces after →
+    and_then (from_least least) (read line) ≡ Err e
     → all ≡ bad_line number
 part_fault read least number front e line rest after all so_far cut this =
     sym so_far ∙ ap (behind front) (ap (rising least number) (lines_at read rest line after cut) ∙ ap by this)
@@ -73,30 +77,36 @@ part_fault read least number front e line rest after all so_far cut this =
     ]
 
 -- a fault that is right of a line is right of the text
-pub fault_of_text : {A B : Type 0} (e : Fault) (right : Result A Fault) (number : ℕ) (all : Reading B) → Refuses e right → (right ≡ Err e → all ≡ bad_line number)
+pub fault_of_text : {A B : Type 0} (e : LineRefusal) (right : Result A LineRefusal) (number : ℕ) (all : Reading B) →
+    Refuses e right → (right ≡ Err e → all ≡ bad_line number)
     → RefusesText (fault_at number e) all
 fault_of_text line.BadLine right number all is follows = follows is
 fault_of_text line.NoActor right number all is follows = follows is
 fault_of_text line.Want right number all is follows = tt
 
 -- nothing stands behind the last line, or something does
-pub parts_end : (read : List ℕ → Answer Part) (least number : ℕ) (front : List Part) (all : Reading (List Part)) (rest : List ℕ)
-    → behind front (rising least number (each_line read (pieces rest))) ≡ all → pieces rest ≡ rest ∷ [] → is_empty rest ≡ true → all ≡ Ok front
+pub parts_end : (read : List ℕ → Answer Part) (least number : ℕ) (front : List Part)
+    (all : Reading (List Part)) (rest : List ℕ)
+    → behind front (rising least number (each_line read (pieces rest))) ≡ all → pieces rest ≡ rest ∷ [] →
+    is_empty rest ≡ true → all ≡ Ok front
 parts_end read least number front all rest so_far last none =
     sym so_far
     ∙ ap (λ ps. behind front (rising least number (each_line read ps))) last
     ∙ ap (λ (b : Bool). behind front (rising least number (if b then [] else bad ∷ []))) none
     ∙ ap Ok (append-nil front)
 
-pub parts_unended : (read : List ℕ → Answer Part) (least number : ℕ) (front : List Part) (all : Reading (List Part)) (rest : List ℕ)
-    → behind front (rising least number (each_line read (pieces rest))) ≡ all → pieces rest ≡ rest ∷ [] → is_empty rest ≡ false → all ≡ bad_line number
+pub parts_unended : (read : List ℕ → Answer Part) (least number : ℕ) (front : List Part)
+    (all : Reading (List Part)) (rest : List ℕ)
+    → behind front (rising least number (each_line read (pieces rest))) ≡ all → pieces rest ≡ rest ∷ [] →
+    is_empty rest ≡ false → all ≡ bad_line number
 parts_unended read least number front all rest so_far last some =
     sym so_far
     ∙ ap (λ ps. behind front (rising least number (each_line read ps))) last
     ∙ ap (λ (b : Bool). behind front (rising least number (if b then [] else bad ∷ []))) some
 
 -- The first line of all.
-told_passed : (n f : ℕ) (line : List ℕ) (parts : List (List ℕ)) → 0 < length parts → told_by n f (line ∷ parts) ≡ behind_digest n f (digest_in line) parts
+told_passed : (n f : ℕ) (line : List ℕ) (parts : List (List ℕ)) → 0 < length parts →
+    told_by n f (line ∷ parts) ≡ behind_digest n f (digest_in line) parts
 told_passed n f line [] some = absurd (omega arith)
 told_passed n f line (next ∷ more) some = refl
 
@@ -110,8 +120,10 @@ unfolding told_in
 told_of_one n f text last = ap (told_by n f) last
 
 -- its digest and its parts are read
-pub told_whole : (n f : ℕ) (text line rest digest : List ℕ) (parts : List Part) → pieces text ≡ line ∷ pieces rest → digest_in line ≡ Ok digest
-    → rising 0 2 (each_line (part_in n f) (pieces rest)) ≡ Ok parts → told_in n f text ≡ Ok (record { digest = digest; parts = parts })
+pub told_whole : (n f : ℕ) (text line rest digest : List ℕ) (parts : List Part) → pieces text ≡ line ∷ pieces rest →
+    digest_in line ≡ Ok digest
+    → rising 0 2 (each_line (part_in n f) (pieces rest)) ≡ Ok parts →
+    told_in n f text ≡ Ok (record { digest = digest; parts = parts })
 told_whole n f text line rest digest parts cut first others =
     told_by_digest n f text line rest cut
     ∙ ap (λ (a : Answer (List ℕ)). behind_digest n f a (pieces rest)) first

@@ -1,13 +1,15 @@
 -- What the words of a line say.
-use Rattle.std.proofs.Common.{◌≡◌, ◌≢◌, ◌≤◌, ◌-◌, ◌==◌, ℕ, Bool, true, false, if◌then◌else◌, List, [], ◌∷◌, Result, Ok, Err, IfOk, refl, sym, ◌∙◌, ap, arith}
+use Rattle.std.proofs.Common.{◌≡◌, ◌≢◌, ◌≤◌, ◌-◌, ◌==◌, ℕ, Bool, true, false, if◌then◌else◌, List, [], ◌∷◌, Result}
+use Rattle.std.proofs.Common.{Ok, Err, IfOk, refl, sym, ◌∙◌, ap, arith}
 use Rattle.std.specs.Str.{IsUtf8, is_utf8}
 use Rattle.std.proofs.lemmas.Str.{IsUtf8-from_is_utf8, is_utf8-from_IsUtf8}
-use Rattle.script_grammar.specs.declared.fault.Fault.{Fault}
+use Rattle.script_grammar.specs.declared.fault.LineRefusal.{LineRefusal}
 use Rattle.script_grammar.specs.Faults.{Answer, Answers, bad, both}
 use Rattle.script_grammar.specs.Lines.{words_of}
 use Rattle.script_grammar.specs.Numbers.{number_in}
 use Rattle.part_lines.specs.Reading.{line_words, master_in}
-use Rattle.part_lines.proofs.Steps.{both_read, number_read}
+use Rattle.part_lines.proofs.Steps.{number_read}
+use Rattle.script_grammar.proofs.FaultLaws.{both_read}
 
 -- a line that is text, and one that isn't
 pub text_line : (line : List ℕ) → IsUtf8 line → line_words line ≡ Ok (words_of line)
@@ -33,7 +35,8 @@ no_master n (letter ∷ digits) none = by (letter == 109) refl
     by false is = refl
 
 -- a length that was read is within its range
-pub length_read : (a : Answer ℕ) (b : Answer (List ℕ)) (size : List ℕ) (read : Result (ℕ × (ℕ × List ℕ)) Fault) → Answers read (both a (both (number_in 1 65536 size) b))
+pub length_read : (a : Answer ℕ) (b : Answer (List ℕ)) (size : List ℕ) (read : Result (ℕ × (ℕ × List ℕ)) LineRefusal)
+    → Answers read (both a (both (number_in 1 65536 size) b))
     → IfOk read (λ fields. fields.1.0 ≤ 65536)
 length_read a b size (Ok p) is =
     let first = both_read a (both (number_in 1 65536 size) b) p is in

@@ -37,7 +37,8 @@ own_part f text master = record { master = master; length = length text; bytes =
 
 -- the line is that of a master's part of this text
 abbrev pub is_own_line : ℕ → ℕ → List ℕ → List ℕ → Bool
-is_own_line n f text line = list_any (λ master. bytes_eq line (spaced (part_words (own_part f text master)))) (numbers_below n)
+is_own_line n f text line =
+    list_any (λ master. bytes_eq line (spaced (part_words (own_part f text master)))) (numbers_below n)
 
 -- of the lines of a text of parts at least f + 1 are those of masters' parts of this text
 abbrev pub HasEnoughLines : Contents → List ℕ → List ℕ → Type 0
@@ -50,8 +51,8 @@ pub record IsRebuilt (c : Contents) (bytes : List ℕ) (told : Told) : Type 0 wh
   pub digest : sha256 text ≡ told.digest
   pub printed : rebuilt_in c bytes ≡ Ok (rebuilt_lines text (wrong_masters c.settings.f text told.parts))
 
--- From a text of parts that is in its form and has the digest of some text, and at least f + 1 lines of that text's parts, a
--- text of the digest is rebuilt, whatever the other lines are.
+-- From a text of parts that is in its form and has the digest of some text, and at least f + 1 lines of that text's
+-- parts, a text of the digest is rebuilt, whatever the other lines are.
 abbrev pub EnoughLinesRebuild : Type 0
 EnoughLinesRebuild =
     (c : Contents) (bytes text : List ℕ) (told : Told) → IsGroup c.settings.f c.settings.k

@@ -1,16 +1,16 @@
 -- What a text of parts tells: a digest, and parts whose masters rise. (This project's own.)
-use Rattle.std.specs.Prelude.{◌≡◌, ℕ, ◌+◌, ◌-◌, ◌==◌, codes, Bool, if◌then◌else◌, List, [], ◌∷◌, length, nat_eq, nat_le, Result, Ok, Err}
+use Rattle.std.specs.Prelude.{◌≡◌, ℕ, ◌+◌, ◌-◌, ◌==◌, codes, Bool, if◌then◌else◌, List, [], ◌∷◌, length, nat_eq}
+use Rattle.std.specs.Prelude.{nat_le, Result, Ok, Err}
 use Rattle.std.specs.Str.{bytes_eq, is_utf8}
 use Rattle.hex.specs.Hex.{decode_of, decode_sized}
 use Rattle.parity_parts.specs.declared.part.Part.{Part}
 use Rattle.parity_parts.specs.Parts.{width}
 use Rattle.script_grammar.specs.Faults.{Answer, bad, both}
 use Rattle.script_grammar.specs.Lines.{words_of}
-use Rattle.script_grammar.specs.Numbers.{number_in}
-use Rattle.run_lines.specs.Reading.{hex_bytes}
+use Rattle.script_grammar.specs.Numbers.{number_in, hex_bytes}
 use Rattle.run_lines.specs.Runs.{pieces, is_empty}
-use Rattle.part_lines.specs.declared.fault.RebuildFault.{RebuildFault}
-use Rattle.part_lines.specs.declared.fault.RebuildFault.TheVariants as fault
+use Rattle.part_lines.specs.declared.fault.RebuildRefusal.{RebuildRefusal}
+use Rattle.part_lines.specs.declared.fault.RebuildRefusal.TheVariants as fault
 use Rattle.part_lines.specs.declared.told.Told.{Told}
 
 -- what is read of what was read before
@@ -32,7 +32,8 @@ master_in n (letter ∷ digits) = if letter == 109 then number_in 0 (n - 1) digi
 
 -- a part has as many bytes as the parts of a text of its length
 abbrev pub fitting : ℕ → ℕ × (ℕ × List ℕ) → Answer Part
-fitting f p = if nat_eq (length p.1.1) (width f p.1.0) then Ok (record { master = p.0; length = p.1.0; bytes = p.1.1 }) else bad
+fitting f p = if nat_eq (length p.1.1) (width f p.1.0) then Ok
+    (record { master = p.0; length = p.1.0; bytes = p.1.1 }) else bad
 
 -- a line is text
 unfoldable pub line_words : List ℕ → Answer (List (List ℕ))
@@ -43,7 +44,8 @@ digest_of_words (name ∷ digits ∷ []) = if bytes_eq name (codes "digest") the
 digest_of_words _ = bad
 
 abbrev pub fields_of_words : ℕ → List (List ℕ) → Answer (ℕ × (ℕ × List ℕ))
-fields_of_words n (name ∷ size ∷ digits ∷ []) = both (master_in n name) (both (number_in 1 65536 size) (bytes_of digits))
+fields_of_words n (name ∷ size ∷ digits ∷ []) =
+    both (master_in n name) (both (number_in 1 65536 size) (bytes_of digits))
 fields_of_words n _ = bad
 
 -- the digest that a line gives
@@ -61,7 +63,7 @@ each_line read (last ∷ []) = if is_empty last then [] else bad ∷ []
 each_line read (line ∷ next ∷ more) = read line ∷ each_line read (next ∷ more)
 
 abbrev pub Reading : Type 0 → Type 0
-Reading A = Result A RebuildFault
+Reading A = Result A RebuildRefusal
 
 abbrev pub bad_line : {A : Type 0} → ℕ → Reading A
 bad_line number = Err (fault.BadLine number)
@@ -95,7 +97,7 @@ told_by n f [] = bad_line 1
 told_by n f (last ∷ []) = bad_line 1
 told_by n f (line ∷ next ∷ more) = behind_digest n f (digest_in line) (next ∷ more)
 
--- the digest and the parts of a whole text for a group of n masters of which f may be intruded, or the number of its first
--- line that isn't of its form
+-- the digest and the parts of a whole text for a group of n masters of which f may be intruded, or the number of its
+-- first line that isn't of its form
 unfoldable pub told_in : ℕ → ℕ → List ℕ → Reading Told
 told_in n f bytes = told_by n f (pieces bytes)

@@ -4,10 +4,10 @@ use Rattle.quorum_sets.specs.Quorum.{group_size}
 use Rattle.scenario_file.specs.Reading.{Contents}
 use Rattle.parity_parts.specs.declared.part.Part.{Part}
 use Rattle.parity_parts.specs.Rebuilding.{rebuilt, wrong_masters}
-use Rattle.script_grammar.specs.declared.fault.Fault.{Fault}
-use Rattle.script_grammar.specs.declared.fault.Fault.TheVariants as line
-use Rattle.part_lines.specs.declared.fault.RebuildFault.{RebuildFault}
-use Rattle.part_lines.specs.declared.fault.RebuildFault.TheVariants as fault
+use Rattle.script_grammar.specs.declared.fault.LineRefusal.{LineRefusal}
+use Rattle.script_grammar.specs.declared.fault.LineRefusal.TheVariants as line
+use Rattle.part_lines.specs.declared.fault.RebuildRefusal.{RebuildRefusal}
+use Rattle.part_lines.specs.declared.fault.RebuildRefusal.TheVariants as fault
 use Rattle.part_lines.specs.declared.told.Told.{Told}
 use Rattle.part_lines.specs.Reading.{Reading, told_in}
 use Rattle.part_lines.specs.Texts.{rebuilt_lines}
@@ -30,12 +30,12 @@ unfoldable pub rebuilt_in : Contents → List ℕ → Reading (List ℕ)
 rebuilt_in c bytes = rebuilt_of c.settings.f (told_for c bytes)
 
 -- the fault of a text whose line of that number has a fault
-abbrev pub fault_at : ℕ → Fault → RebuildFault
+abbrev pub fault_at : ℕ → LineRefusal → RebuildRefusal
 fault_at number line.Want = fault.Want
 fault_at number other = fault.BadLine number
 
 -- a fault is the right answer, unless memory ran out
-abbrev pub RefusesText : {A : Type 0} → RebuildFault → Reading A → Type 0
+abbrev pub RefusesText : {A : Type 0} → RebuildRefusal → Reading A → Type 0
 RefusesText (fault.BadLine number) right = right ≡ Err (fault.BadLine number)
 RefusesText fault.NoText right = right ≡ Err fault.NoText
 RefusesText fault.Want right = Unit {0}

@@ -1,12 +1,12 @@
--- A text of parts: the digest of a text, and the parts of it that masters have, a line each; and what is printed of a text
--- that is rebuilt from such lines. (This project's own.)
+-- A text of parts: the digest of a text, and the parts of it that masters have, a line each; and what is printed of a
+-- text that is rebuilt from such lines. (This project's own.)
 use Rattle.std.specs.Prelude.{ℕ, List, [], ◌∷◌, ◌++◌, codes, decimal}
 use Rattle.std.specs.List.{flat_map}
 use Rattle.hex.specs.Hex.{encode_lower}
 use Rattle.parity_parts.specs.declared.part.Part.{Part}
 
--- the words of each kind of line: a digest; a part, by its master, the text's length and the part's bytes; a text; and a
--- master whose part is wrong
+-- the words of each kind of line: a digest; a part, by its master, the text's length and the part's bytes; a text; and
+-- a master whose part is wrong
 abbrev pub digest_words : List ℕ → List (List ℕ)
 digest_words digest = codes "digest" ∷ encode_lower digest ∷ []
 

@@ -3,12 +3,12 @@ ghost use Rattle.std.specs.Prelude.{◌≡◌};
 ghost use Rattle.part_lines.specs.Rebuilding.{fault_at};
 
 use plain_lists::Want;
-use script_grammar::Fault;
+use script_grammar::LineRefusal;
 use thiserror::Error;
 
 /// Why no text is rebuilt from a text of parts.
 #[derive(Clone, Copy, Debug, PartialEq, Eq, Error)]
-pub enum RebuildFault {
+pub enum RebuildRefusal {
     /// The first line that isn't of its form, or whose master doesn't rise. Lines are counted from 1.
     #[error("BadLine {line}")]
     BadLine { line: u64 },
@@ -19,23 +19,23 @@ pub enum RebuildFault {
     Want,
 }
 
-impl From<Want> for RebuildFault {
+impl From<Want> for RebuildRefusal {
     ghost use Rattle.std.specs.Prelude.{◌≡◌};
-    ghost use Rattle.part_lines.specs.declared.fault.RebuildFault.TheVariants.{Want as WantFault};
+    ghost use Rattle.part_lines.specs.declared.fault.RebuildRefusal.TheVariants.{Want as WantFault};
 
     ghost from_gives = { λ _ fault. fault ≡ WantFault };
 
-    fn from(_refused: Want) -> RebuildFault {
-        RebuildFault::Want
+    fn from(_refused: Want) -> RebuildRefusal {
+        RebuildRefusal::Want
     }
 }
 
 /// A fault of the line of this number.
-pub(crate) fn at(fault: Fault, line: u64) -> RebuildFault
+pub(crate) fn at(fault: LineRefusal, line: u64) -> RebuildRefusal
     ensures { result ≡ fault_at line fault }
 {
     match fault {
-        Fault::Want => RebuildFault::Want,
-        Fault::BadLine | Fault::NoActor => RebuildFault::BadLine { line },
+        LineRefusal::Want => RebuildRefusal::Want,
+        LineRefusal::BadLine | LineRefusal::NoActor => RebuildRefusal::BadLine { line },
     }
 }

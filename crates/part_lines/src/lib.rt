@@ -10,7 +10,7 @@ mod printing;
 mod rebuilding;
 mod told;
 
-pub use crate::fault::RebuildFault;
+pub use crate::fault::RebuildRefusal;
 pub use crate::printing::{put_digest, put_part};
 pub use crate::rebuilding::rebuilt_text;
 pub use crate::told::{Told, read_told};

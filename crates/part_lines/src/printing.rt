@@ -71,7 +71,7 @@ fn put_wrong_if(text: &mut String, master: u32, is_wrong: bool) -> Result<(), Wa
 
 /// Appends a line for each wrong master.
 fn put_all_wrong(text: &mut String, wrong: &VoterSet) -> Result<(), Want>
-    requires { wrong.now ≡ voters (has_master wrong.now) 14 }
+    requires { wrong.now ≡ voters (has_master wrong.now) MOST_MASTERS }
     ensures { OnOk result (string_bytes text.new ≡ string_bytes text.old ++ flat_map (λ master. line_of (wrong_words master)) wrong.now) }
 {
     for master in 0..MOST_MASTERS {
@@ -82,7 +82,7 @@ fn put_all_wrong(text: &mut String, wrong: &VoterSet) -> Result<(), Want>
 
 /// What is printed of a text that is rebuilt.
 pub(crate) fn text_of(alloc: Global, made: &Rebuilt) -> Result<Vec<u8>, Want>
-    requires { made.now.wrong ≡ voters (has_master made.now.wrong) 14 }
+    requires { made.now.wrong ≡ voters (has_master made.now.wrong) MOST_MASTERS }
     ensures { IfOk result (λ text. text.items ≡ rebuilt_lines made.now.text made.now.wrong) }
 {
     let mut text = String::new(alloc);

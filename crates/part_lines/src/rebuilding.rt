@@ -3,7 +3,7 @@ ghost use Rattle.std.specs.Prelude.{◌≡◌, Ok, IfOk, IfErr};
 ghost use Rattle.scenario_file.specs.Reading.{contents};
 ghost use Rattle.part_lines.specs.Rebuilding.{RefusesText, rebuilt_in};
 
-use crate::fault::RebuildFault;
+use crate::fault::RebuildRefusal;
 use crate::printing::text_of;
 use crate::told::read_told;
 use parity_parts::{RebuildAnswer, rebuild};
@@ -17,14 +17,14 @@ pub fn rebuilt_text(
     alloc: Global,
     scenario: &Scenario,
     bytes: &[u8],
-) -> Result<Vec<u8>, RebuildFault>
+) -> Result<Vec<u8>, RebuildRefusal>
     ensures text { IfOk result (λ text. rebuilt_in (contents scenario.now) bytes.now ≡ Ok text.items) }
     ensures fault { IfErr result (λ fault. RefusesText fault (rebuilt_in (contents scenario.now) bytes.now)) }
 {
     let told = read_told(alloc, &scenario.sizes, bytes)?;
     match rebuild(alloc, &scenario.sizes, &told.digest, told.parts.as_slice()) {
         Ok(made) => Ok(text_of(alloc, &made)?),
-        Err(RebuildAnswer::NoText) => Err(RebuildFault::NoText),
-        Err(RebuildAnswer::Want) => Err(RebuildFault::Want),
+        Err(RebuildAnswer::NoText) => Err(RebuildRefusal::NoText),
+        Err(RebuildAnswer::Want) => Err(RebuildRefusal::Want),
     }
 }

@@ -1,4 +1,3 @@
-pub mod Numbered
 pub mod Shown
 pub mod Printing
 pub mod Printed

@@ -1,5 +1,7 @@
 -- What is printed for a request: its digest and parts of texts of that digest, whose masters rise. So it is read again.
-use Rattle.std.proofs.Common.{◌≡◌, ℕ, zero, suc, ◌+◌, ◌*◌, ◌/◌, ◌%◌, ◌^◌, ◌<◌, ◌≤◌, Bool, true, false, cond, if◌then◌else◌, List, [], ◌∷◌, ◌++◌, Option, Some, None, Ok, length, append-nil, refl, sym, ◌∙◌, ap, subst, arith}
+use Rattle.std.proofs.Common.{◌≡◌, ℕ, zero, suc, ◌+◌, ◌*◌, ◌/◌, ◌%◌, ◌^◌, ◌<◌, ◌≤◌, Bool, true, false, cond}
+use Rattle.std.proofs.Common.{if◌then◌else◌, List, [], ◌∷◌, ◌++◌, Option, Some, None, Ok, length, append-nil, refl}
+use Rattle.std.proofs.Common.{sym, ◌∙◌, ap, subst, arith}
 use Rattle.std.specs.Prelude.{slice_index}
 use Rattle.std.specs.Int.{w32, w64, byte_at, bytes_high_first, to_be_bytes, cast_unsigned}
 use Rattle.std.specs.List.{AllByRecursion, filter_map, flat_map}
@@ -65,22 +67,30 @@ unfolding u64_bytes
 eight_bytes x = field_bytes 8 x
 
 op_bytes : (o : Op) → AreBytes (op_text o)
-op_bytes (op.Reading point value) =
-    ((omega arith), both_bytes (u32_bytes point) (i64_bytes value) (four_bytes point) (eight_bytes (cast_unsigned w64 value)))
-op_bytes (op.Set point value) =
-    ((omega arith), both_bytes (u32_bytes point) (i64_bytes value) (four_bytes point) (eight_bytes (cast_unsigned w64 value)))
+op_bytes (op.Reading point value) = (
+  (omega arith),
+  both_bytes (u32_bytes point) (i64_bytes value) (four_bytes point)
+      (eight_bytes (cast_unsigned w64 value)),
+)
+op_bytes (op.Set point value) = (
+  (omega arith),
+  both_bytes (u32_bytes point) (i64_bytes value) (four_bytes point)
+      (eight_bytes (cast_unsigned w64 value)),
+)
 op_bytes (op.Ack alarm) = ((omega arith), four_bytes alarm)
 
 pub update_bytes : (u : Update) → AreBytes (update_text u)
 update_bytes u =
     both_bytes ((u16_bytes 1 ++ u32_bytes u.client) ++ u64_bytes u.t) (op_text u.op)
     (both_bytes (u16_bytes 1 ++ u32_bytes u.client) (u64_bytes u.t)
-    (both_bytes (u16_bytes 1) (u32_bytes u.client) (two_bytes 1) (four_bytes u.client)) (eight_bytes u.t)) (op_bytes u.op)
+    (both_bytes (u16_bytes 1) (u32_bytes u.client) (two_bytes 1) (four_bytes u.client)) (eight_bytes u.t))
+    (op_bytes u.op)
 
 words_bytes : (h : List ℕ) (n : ℕ) → AreBytes (digest_bytes h n)
 unfolding digest_bytes
 words_bytes h zero = tt
-words_bytes h (suc n) = both_bytes (digest_bytes h n) (to_be_bytes w32 (slice_index h n)) (words_bytes h n) (field_bytes 4 (slice_index h n))
+words_bytes h (suc n) = both_bytes (digest_bytes h n) (to_be_bytes w32 (slice_index h n)) (words_bytes h n)
+    (field_bytes 4 (slice_index h n))
 
 pub digest_are_bytes : (m : List ℕ) → AreBytes (sha256 m)
 unfolding sha256
@@ -93,24 +103,35 @@ pub record AreOf (f n : ℕ) (digest : List ℕ) (parts : List Part) : Type 0 wh
   pub low : AllByRecursion (λ (part : Part). part.master < n) parts
   pub own : AllByRecursion (IsOfDigest f digest) parts
 
-rise_more : (least n : ℕ) (parts : List Part) (part : Part) → RiseFrom least parts → AllByRecursion (λ (p : Part). p.master < n) parts → least ≤ n → part.master ≡ n
+rise_more : (least n : ℕ) (parts : List Part) (part : Part) → RiseFrom least parts →
+    AllByRecursion (λ (p : Part). p.master < n) parts → least ≤ n → part.master ≡ n
     → RiseFrom least (parts ++ part ∷ [])
 rise_more least n [] part rise low before is = (omega arith, tt)
-rise_more least n (p ∷ parts) part rise low before is = (rise.0, rise_more (p.master + 1) n parts part rise.1 low.1 (let under = low.0 in omega (arith, under)) is)
+rise_more least n (p ∷ parts) part rise low before is =
+    (rise.0, rise_more (p.master + 1) n parts part rise.1 low.1 (let under = low.0 in omega (arith, under)) is)
 
-pub all_more : (P : Part → Type 0) (parts : List Part) (part : Part) → AllByRecursion P parts → P part → AllByRecursion P (parts ++ part ∷ [])
+pub all_more : (P : Part → Type 0) (parts : List Part) (part : Part) → AllByRecursion P parts → P part →
+    AllByRecursion P (parts ++ part ∷ [])
 all_more P [] part are is = (is, tt)
 all_more P (p ∷ parts) part are is = (are.0, all_more P parts part are.1 is)
 
-all_lower : (n : ℕ) (parts : List Part) → AllByRecursion (λ (p : Part). p.master < n) parts → AllByRecursion (λ (p : Part). p.master < suc n) parts
+all_lower : (n : ℕ) (parts : List Part) → AllByRecursion (λ (p : Part). p.master < n) parts →
+    AllByRecursion (λ (p : Part). p.master < suc n) parts
 all_lower n [] low = tt
 all_lower n (p ∷ parts) low = let under = low.0 in (omega (arith, under), all_lower n parts low.1)
 
-one_less : (f n : ℕ) (digest : List ℕ) (parts : List Part) → AreOf f n digest parts → AreOf f (suc n) digest (parts ++ [])
+one_less : (f n : ℕ) (digest : List ℕ) (parts : List Part) → AreOf f n digest parts →
+    AreOf f (suc n) digest (parts ++ [])
 one_less f n digest parts are =
-    subst (AreOf f (suc n) digest) (sym (append-nil parts)) record { rise = are.rise; low = all_lower n parts are.low; own = are.own }
+    subst (AreOf f (suc n) digest) (sym (append-nil parts)) record {
+      rise = are.rise;
+      low =
+          all_lower n parts are.low;
+      own = are.own;
+    }
 
-one_more : (f n : ℕ) (digest : List ℕ) (parts : List Part) (u : Update) → AreOf f n digest parts → digest_of_update u ≡ digest
+one_more : (f n : ℕ) (digest : List ℕ) (parts : List Part) (u : Update) → AreOf f n digest parts →
+    digest_of_update u ≡ digest
     → AreOf f (suc n) digest (parts ++ own_part f (update_text u) n ∷ [])
 unfolding digest_of_update
 one_more f n digest parts u are is =
@@ -127,34 +148,43 @@ one_more f n digest parts u are is =
       };
     }
 
-of_master : (f n : ℕ) (digest : List ℕ) (parts : List Part) (found : Option Update) → AreOf f n digest parts → AreOf f (suc n) digest (parts ++ part_if f digest n found)
+of_master : (f n : ℕ) (digest : List ℕ) (parts : List Part) (found : Option Update) → AreOf f n digest parts →
+    AreOf f (suc n) digest (parts ++ part_if f digest n found)
 of_master f n digest parts None are = one_less f n digest parts are
 of_master f n digest parts (Some u) are = by (bytes_eq (digest_of_update u) digest) refl
   where
-    by : (b : Bool) → bytes_eq (digest_of_update u) digest ≡ b → AreOf f (suc n) digest (parts ++ (if b then own_part f (update_text u) n ∷ [] else []))
+    by : (b : Bool) → bytes_eq (digest_of_update u) digest ≡ b →
+        AreOf f (suc n) digest (parts ++ (if b then own_part f (update_text u) n ∷ [] else []))
     by true is = one_more f n digest parts u are ((bytes_eq-Decides (digest_of_update u) digest).0 is)
     by false other = one_less f n digest parts are
 
-pub are_of : (f n : ℕ) (digest : List ℕ) (found : ℕ → Option Update) → AreOf f n digest (flat_map (λ master. part_if f digest master (found master)) (numbers_below n))
+pub are_of : (f n : ℕ) (digest : List ℕ) (found : ℕ → Option Update) →
+    AreOf f n digest (flat_map (λ master. part_if f digest master (found master)) (numbers_below n))
 unfolding numbers_below
 are_of f zero digest found = record { rise = tt; low = tt; own = tt }
 are_of f (suc n) digest found =
     let part_of : ℕ → List Part = λ master. part_if f digest master (found master) in
     subst (AreOf f (suc n) digest)
-    (sym (flat_map-append part_of (numbers_below n) (n ∷ []) ∙ ap (λ (ps : List Part). flat_map part_of (numbers_below n) ++ ps) (append-nil (part_of n))))
+    (sym (flat_map-append part_of (numbers_below n) (n ∷ [])
+    ∙ ap (λ (ps : List Part). flat_map part_of (numbers_below n) ++ ps) (append-nil (part_of n))))
     (of_master f n digest (flat_map part_of (numbers_below n)) (found n) (are_of f n digest found))
 
 -- ---- They are read again.
 
-pub written : (f n : ℕ) (digest : List ℕ) (parts : List Part) → AllByRecursion (λ (part : Part). part.master < n) parts → AllByRecursion (IsOfDigest f digest) parts
+pub written : (f n : ℕ) (digest : List ℕ) (parts : List Part) → AllByRecursion (λ (part : Part). part.master < n)
+    parts → AllByRecursion (IsOfDigest f digest) parts
     → AllByRecursion (IsWritten n f) parts
 written f n digest [] low own = tt
 written f n digest (p ∷ parts) low own =
-    let its = own.0 in
-    (subst (IsWritten n f) (sym its.own) (own_written n f p.master its.text low.0 its.some its.few its.bytes), written f n digest parts low.1 own.1)
+    let its = own.0 in (
+      subst (IsWritten n f) (sym its.own) (own_written n f p.master its.text low.0 its.some its.few its.bytes),
+      written f n digest parts low.1 own.1,
+    )
 
-made : (c : Contents) (printed digest : List ℕ) (parts : List Part) (f n : ℕ) → f ≡ c.settings.f → n ≡ group_size c.settings.f c.settings.k → n < 2 ^ 32
-    → printed ≡ parts_text digest parts → length digest ≡ 32 → AreBytes digest → AreOf f n digest parts → ArePrinted c printed
+made : (c : Contents) (printed digest : List ℕ) (parts : List Part) (f n : ℕ) → f ≡ c.settings.f →
+    n ≡ group_size c.settings.f c.settings.k → n < 2 ^ 32
+    → printed ≡ parts_text digest parts → length digest ≡ 32 → AreBytes digest → AreOf f n digest parts →
+    ArePrinted c printed
 unfolding told_for
 made c printed digest parts f n is all few text long are of =
     let read : told_in n f (parts_text digest parts) ≡ Ok (record { digest = digest; parts = parts }) =
@@ -169,7 +199,8 @@ made c printed digest parts f n is all few text long are of =
           ∙ read;
     }
 
-pub parts_are_printed : (c : Contents) (history : List Entry) (j k : ℕ) (printed : List ℕ) → IsGroup c.settings.f c.settings.k
+pub parts_are_printed : (c : Contents) (history : List Entry) (j k : ℕ) (printed : List ℕ) →
+    IsGroup c.settings.f c.settings.k
     → parts_in c history j k ≡ Some printed → ArePrinted c printed
 unfolding parts_in digest_of_update
 parts_are_printed c history j k printed group is = by (first_certified (setup_of c) history j k) is
@@ -190,11 +221,13 @@ parts_are_printed c history j k printed group is = by (first_certified (setup_of
         subst (λ (m : ℕ). m < 2 ^ 32) (sym size) (omega (arith, most, away))
 
     by : (found : Option Update)
-        → option_map (λ u. parts_text (digest_of_update u) (parts_by (setup_of c) history j k (digest_of_update u))) found ≡ Some printed → ArePrinted c printed
+        → option_map (λ u. parts_text (digest_of_update u) (parts_by (setup_of c) history j k (digest_of_update u)))
+        found ≡ Some printed → ArePrinted c printed
     by None is = absurd (cc)
     by (Some u) is =
         let digest : List ℕ = digest_of_update u in
         let parts : List Part = parts_by (setup_of c) history j k digest in
         let text : parts_text digest parts ≡ printed = cc in
-        made c printed digest parts f n (ap (λ (g : Group). g.f) (group_is c)) size few (sym text) (length-sha256 (update_text u)) (digest_are_bytes (update_text u))
+        made c printed digest parts f n (ap (λ (g : Group). g.f) (group_is c)) size few (sym text)
+        (length-sha256 (update_text u)) (digest_are_bytes (update_text u))
         (are_of f n digest (certified_by (setup_of c) history j k))

@@ -1,5 +1,7 @@
 -- The lines of the masters' parts, master by master.
-use Rattle.std.proofs.Common.{◌≡◌, ℕ, zero, suc, ◌+◌, ◌≤◌, Bool, true, false, cond, if◌then◌else◌, List, [], ◌∷◌, ◌++◌, Option, Some, None, length, append_assoc, append-nil, add-one, refl, sym, ◌∙◌, ap, arith}
+use Rattle.std.proofs.Common.{◌≡◌, ℕ, zero, suc, ◌+◌, ◌≤◌, Bool, true, false, cond, if◌then◌else◌, List, [], ◌∷◌}
+use Rattle.std.proofs.Common.{◌++◌, Option, Some, None, length, append_assoc, append-nil, add-one, refl, sym, ◌∙◌, ap}
+use Rattle.std.proofs.Common.{arith}
 use Rattle.std.specs.List.{flat_map}
 use Rattle.std.specs.Option.{option_map}
 use Rattle.std.proofs.lemmas.List.{length-append}
@@ -30,32 +32,44 @@ pub none_put : (g : ℕ → List Part) (old : List ℕ) → old ≡ old ++ lines
 unfolding numbers_below
 none_put g old = sym (append-nil old)
 
-pub next_put : (g : ℕ → List Part) (first old new : List ℕ) (master : ℕ) → old ≡ first ++ lines_of (flat_map g (numbers_below master))
+pub next_put : (g : ℕ → List Part) (first old new : List ℕ) (master : ℕ) →
+    old ≡ first ++ lines_of (flat_map g (numbers_below master))
     → new ≡ old ++ lines_of (g master) → new ≡ first ++ lines_of (flat_map g (numbers_below (master + 1)))
 next_put g first old new master so_far one =
     one ∙ ap (λ (bs : List ℕ). bs ++ lines_of (g master)) so_far
     ∙ append_assoc first (lines_of (flat_map g (numbers_below master))) (lines_of (g master))
-    ∙ ap (λ (bs : List ℕ). first ++ bs) (sym (flat_map-append (λ (part : Part). line_of (part_words part)) (flat_map g (numbers_below master)) (g master)))
+    ∙ ap (λ (bs : List ℕ). first ++ bs)
+    (sym (flat_map-append (λ (part : Part). line_of (part_words part))
+    (flat_map g (numbers_below master)) (g master)))
     ∙ ap (λ (ps : List Part). first ++ lines_of (flat_map g (numbers_below master) ++ ps)) (sym (append-nil (g master)))
     ∙ ap (λ (ps : List Part). first ++ lines_of ps) (sym (flat_map-append g (numbers_below master) (master ∷ [])))
     ∙ ap (λ (ms : List ℕ). first ++ lines_of (flat_map g ms)) (sym (numbers_below-suc master))
     ∙ ap (λ (n : ℕ). first ++ lines_of (flat_map g (numbers_below n))) (sym (add-one master))
 
 -- all masters have their lines
-pub all_put : (c : Contents) (history : List Entry) (j k f n most : ℕ) (digest first new : List ℕ) → n ≡ masters_in c → f ≡ c.settings.f → n ≤ most → most ≤ n
-    → new ≡ first ++ lines_of (flat_map (λ master. part_if f digest master (certified_by (setup_of c) history j k master)) (numbers_below most))
+pub all_put : (c : Contents) (history : List Entry) (j k f n most : ℕ) (digest first new : List ℕ) →
+    n ≡ masters_in c → f ≡ c.settings.f → n ≤ most → most ≤ n
+    → new ≡ first ++ lines_of
+    (flat_map (λ master. part_if f digest master (certified_by (setup_of c) history j k master))
+    (numbers_below most))
     → new ≡ first ++ lines_of (parts_by (setup_of c) history j k digest)
 all_put c history j k f n most digest first new size same low high so_far =
     let end : most ≡ n = omega arith in
     let all : most ≡ (setup_of c).group.n = end ∙ size ∙ sym (ap (λ (g : Group). g.n) (group_is c)) in
     let its : f ≡ (setup_of c).group.f = same ∙ sym (ap (λ (g : Group). g.f) (group_is c)) in
     so_far
-    ∙ ap (λ (m : ℕ). first ++ lines_of (flat_map (λ master. part_if f digest master (certified_by (setup_of c) history j k master)) (numbers_below m))) all
-    ∙ ap (λ (g : ℕ). first ++ lines_of (flat_map (λ master. part_if g digest master (certified_by (setup_of c) history j k master)) (numbers_below (setup_of c).group.n))) its
+    ∙ ap (λ (m : ℕ). first ++ lines_of
+    (flat_map (λ master. part_if f digest master (certified_by (setup_of c) history j k master))
+    (numbers_below m))) all
+    ∙ ap (λ (g : ℕ). first ++ lines_of
+    (flat_map (λ master. part_if g digest master (certified_by (setup_of c) history j k master))
+    (numbers_below (setup_of c).group.n))) its
 
 -- the digest and these lines are the text
-pub whole_text : (c : Contents) (history : List Entry) (j k : ℕ) (u : Update) (digest text : List ℕ) → Some u ≡ first_certified (setup_of c) history j k
-    → digest ≡ digest_of_update u → text ≡ line_of (digest_words digest) ++ lines_of (parts_by (setup_of c) history j k digest)
+pub whole_text : (c : Contents) (history : List Entry) (j k : ℕ) (u : Update) (digest text : List ℕ) →
+    Some u ≡ first_certified (setup_of c) history j k
+    → digest ≡ digest_of_update u → text ≡ line_of (digest_words digest)
+    ++ lines_of (parts_by (setup_of c) history j k digest)
     → parts_in c history j k ≡ Some text
 unfolding parts_in
 whole_text c history j k u digest text first is made =
@@ -64,7 +78,9 @@ whole_text c history j k u digest text first is made =
     ∙ ap (λ (d : List ℕ). Some (printed d)) (sym is)
     ∙ ap (λ (t : List ℕ). Some t) (sym made)
 
-pub no_text : (c : Contents) (history : List Entry) (j k : ℕ) → None ≡ first_certified (setup_of c) history j k → parts_in c history j k ≡ None
+pub no_text : (c : Contents) (history : List Entry) (j k : ℕ) → None ≡ first_certified (setup_of c) history j k →
+    parts_in c history j k ≡ None
 unfolding parts_in
 no_text c history j k none =
-    ap (option_map (λ (v : Update). line_of (digest_words (digest_of_update v)) ++ lines_of (parts_by (setup_of c) history j k (digest_of_update v)))) (sym none)
+    ap (option_map (λ (v : Update). line_of (digest_words (digest_of_update v))
+    ++ lines_of (parts_by (setup_of c) history j k (digest_of_update v)))) (sym none)

@@ -46,15 +46,19 @@ PartsArePrinted =
 abbrev pub lines_behind : List ℕ → List (List ℕ)
 lines_behind bytes = filter (λ line. not (is_empty line)) (drop 1 (pieces bytes))
 
--- The first line of a text of parts is that of the printed one, and at least f + 1 of its other lines stand in the printed one.
+-- The first line of a text of parts is that of the printed one, and at least f + 1 of its other lines stand in the
+-- printed one.
 pub record HasPrintedLines (c : Contents) (printed bytes : List ℕ) : Type 0 where
   pub first : take 1 (pieces bytes) ≡ take 1 (pieces printed)
-  pub enough : c.settings.f < length (filter (λ line. list_any (bytes_eq line) (lines_behind printed)) (lines_behind bytes))
+  pub enough : c.settings.f < length
+      (filter (λ line. list_any (bytes_eq line) (lines_behind printed)) (lines_behind bytes))
 
--- In a legal history, while at most f masters are intruded, no word is forged and no digest is shared: from any f + 1 of the
--- lines that are printed for a request, whatever the other lines are, a text of the printed digest is rebuilt.
+-- In a legal history, while at most f masters are intruded, no word is forged and no digest is shared: from any f + 1
+-- of the lines that are printed for a request, whatever the other lines are, a text of the printed digest is rebuilt.
 abbrev pub PrintedLinesRebuild : Type 0
 PrintedLinesRebuild =
-    (c : Contents) (history : List Entry) (j k : ℕ) (printed bytes : List ℕ) (told : Told) → IsScenario c → IsLegal (setup_of c) history
-    → Premises (setup_of c) history → parts_in c history j k ≡ Some printed → told_for c bytes ≡ Ok told → HasPrintedLines c printed bytes
+    (c : Contents) (history : List Entry) (j k : ℕ) (printed bytes : List ℕ) (told : Told) → IsScenario c →
+    IsLegal (setup_of c) history
+    → Premises (setup_of c) history → parts_in c history j k ≡ Some printed → told_for c bytes ≡ Ok told →
+    HasPrintedLines c printed bytes
     → IsRebuilt c bytes told

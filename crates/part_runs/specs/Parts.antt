@@ -1,5 +1,5 @@
--- The parts of an update that the correct masters of a history have certified. (What is certified is Prime's pre-ordering; that
--- its text is given in parts is this project's own.)
+-- The parts of an update that the correct masters of a history have certified. (What is certified is Prime's
+-- pre-ordering; that its text is given in parts is this project's own.)
 use Rattle.std.specs.Prelude.{ℕ, if◌then◌else◌, List, [], ◌∷◌, Option, Some, None}
 use Rattle.std.specs.List.{filter_map, flat_map}
 use Rattle.std.specs.Option.{option_map}
@@ -31,7 +31,8 @@ first_certified w history j k = first_of_list (filter_map (certified_by w histor
 -- a master's part of its update's text, if the update has the digest
 abbrev pub part_if : ℕ → List ℕ → ℕ → Option Update → List Part
 part_if f digest master None = []
-part_if f digest master (Some u) = if bytes_eq (digest_of_update u) digest then own_part f (update_text u) master ∷ [] else []
+part_if f digest master (Some u) = if bytes_eq (digest_of_update u) digest then own_part f
+    (update_text u) master ∷ [] else []
 
 -- the parts of the masters, in their order
 abbrev pub parts_by : Setup → List Entry → ℕ → ℕ → List ℕ → List Part
@@ -41,7 +42,8 @@ parts_by w history j k digest =
 -- the digest of the first certified update, and the parts of all that have it
 abbrev pub parts_of_first : Setup → List Entry → ℕ → ℕ → Option (List ℕ)
 parts_of_first w history j k =
-    option_map (λ u. parts_text (digest_of_update u) (parts_by w history j k (digest_of_update u))) (first_certified w history j k)
+    option_map (λ u. parts_text (digest_of_update u) (parts_by w history j k (digest_of_update u)))
+    (first_certified w history j k)
 
 -- what is printed for request k of master j in a history of a scenario; none where no correct master has it certified
 unfoldable pub parts_in : Contents → List Entry → ℕ → ℕ → Option (List ℕ)

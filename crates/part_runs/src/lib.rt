@@ -6,5 +6,5 @@ mod certified;
 pub mod laws;
 mod parts;
 
-pub use crate::parts::{PartsFault, parts_text};
-pub use part_lines::{RebuildFault, rebuilt_text};
+pub use crate::parts::{PartsRefusal, parts_text};
+pub use part_lines::{RebuildRefusal, rebuilt_text};

@@ -9,12 +9,11 @@ ghost use Rattle.history_benches.specs.Benches.{AreBenches};
 ghost use Rattle.part_lines.specs.Laws.{own_part};
 ghost use Rattle.part_lines.specs.Texts.{part_words, line_of};
 ghost use Rattle.part_runs.specs.Parts.{part_if, parts_by, parts_in};
-ghost use Rattle.part_runs.specs.declared.parts.PartsFault.TheVariants.{NotCertified};
+ghost use Rattle.part_runs.specs.declared.parts.PartsRefusal.TheVariants.{NotCertified};
 
 use crate::certified::{Request, certified_by, first_certified};
-use message_digests::update_digest;
 use message_forms::word_text;
-use message_types::Update;
+use message_types::{Update, update_digest};
 use parity_parts::part_of;
 use part_lines::{put_digest, put_part};
 use plain_lists::Want;
@@ -26,7 +25,7 @@ use world_history::Bench;
 
 /// Why there is no text of parts.
 #[derive(Clone, Copy, Debug, PartialEq, Eq, Error)]
-pub enum PartsFault {
+pub enum PartsRefusal {
     /// No correct master has the request certified.
     #[error("NotCertified")]
     NotCertified,
@@ -34,14 +33,14 @@ pub enum PartsFault {
     Want,
 }
 
-impl From<Want> for PartsFault {
+impl From<Want> for PartsRefusal {
     ghost use Rattle.std.specs.Prelude.{◌≡◌};
-    ghost use Rattle.part_runs.specs.declared.parts.PartsFault.TheVariants.{Want as WantFault};
+    ghost use Rattle.part_runs.specs.declared.parts.PartsRefusal.TheVariants.{Want as WantFault};
 
     ghost from_gives = { λ _ fault. fault ≡ WantFault };
 
-    fn from(_refused: Want) -> PartsFault {
-        PartsFault::Want
+    fn from(_refused: Want) -> PartsRefusal {
+        PartsRefusal::Want
     }
 }
 
@@ -109,7 +108,7 @@ pub fn parts_text(
     benches: &[Bench],
     originator: u32,
     number: u32,
-) -> Result<Vec<u8>, PartsFault>
+) -> Result<Vec<u8>, PartsRefusal>
     ensures text { (history : List Entry) → AreBenches (contents scenario.now) history benches.now
         → IfOk result (λ text. parts_in (contents scenario.now) history originator number ≡ Some text.items) }
     ensures none { (history : List Entry) → AreBenches (contents scenario.now) history benches.now
@@ -120,7 +119,7 @@ pub fn parts_text(
         number: u64::from(number),
     };
     let Some(update) = first_certified(benches, scenario.sizes.n, request) else {
-        return Err(PartsFault::NotCertified);
+        return Err(PartsRefusal::NotCertified);
     };
     let digest = update_digest(update);
     let mut text = String::new(alloc);

@@ -1,6 +1,7 @@
 ghost use Rattle.std.specs.Prelude.{◌≡◌, ◌↔◌, IsTrue, IfOk};
 
 use crate::want::Want;
+use std::alloc::Global;
 
 /// A value that can be copied where there is memory for it.
 pub trait Copied: Drop {
@@ -16,28 +17,22 @@ pub trait Same {
         ensures { IsTrue result ↔ (self.now ≡ other.now) };
 }
 
-impl Copied for u8 {
-    fn copy(&self) -> Result<u8, Want> {
+// What Rust copies by itself needs no memory for it.
+impl<T: Copy + Drop> Copied for T {
+    fn copy(&self) -> Result<Self, Want> {
         Ok(*self)
     }
 }
 
-impl Copied for u32 {
-    fn copy(&self) -> Result<u32, Want> {
-        Ok(*self)
+/// A copy of each element, in order.
+pub fn copy_all<T: Copied>(alloc: Global, items: &[T]) -> Result<Vec<T, Global>, Want>
+    ensures { IfOk result (λ copies. copies.items ≡ items.now) }
+{
+    let mut copies = Vec::with_capacity(alloc, items.len())?;
+    for item in items {
+        copies.push(item.copy()?)?;
     }
-}
-
-impl Copied for u64 {
-    fn copy(&self) -> Result<u64, Want> {
-        Ok(*self)
-    }
-}
-
-impl Same for u8 {
-    fn is_same(&self, other: &u8) -> bool {
-        *self == *other
-    }
+    Ok(copies)
 }
 
 impl Same for u32 {

@@ -1,6 +1,6 @@
-ghost use Rattle.std.specs.Prelude.{◌≡◌, ◌↔◌, ◌++◌, ◌∷◌, ◌<◌, List, [], length, IsTrue, OnOk, OnErr, IfOk, option_copied, slice_get};
+ghost use Rattle.std.specs.Prelude.{◌≡◌, ◌↔◌, ◌++◌, ◌∷◌, ◌<◌, List, [], length, IsTrue, OnOk, OnErr, IfOk, option_copied, option_to_list, slice_get};
 
-use crate::copied::{Copied, Same};
+use crate::copied::{Copied, Same, copy_all};
 use crate::want::Want;
 use std::alloc::Global;
 use std::marker::Model;
@@ -78,16 +78,18 @@ impl<T: Drop> Items<T> {
     }
 }
 
+impl<T: Copied> Items<T> {
+    /// The list of copies of the elements of a slice.
+    pub fn from_slice(alloc: Global, items: &[T]) -> Result<Self, Want>
+        ensures { IfOk result (λ made. made ≡ items.now) }
+    {
+        Ok(Items::from_vec(alloc, copy_all(alloc, items)?))
+    }
+}
+
 impl<T: Copied> Copied for Items<T> {
     fn copy(&self) -> Result<Self, Want> {
-        let mut copy = Vec::with_capacity(self.alloc, self.items.len())?;
-        for item in &self.items {
-            copy.push(item.copy()?)?;
-        }
-        Ok(Items {
-            alloc: self.alloc,
-            items: copy,
-        })
+        Items::from_slice(self.alloc, self.as_slice())
     }
 }
 
@@ -103,4 +105,15 @@ impl<T: Same + Drop> Same for Items<T> {
         }
         true
     }
+}
+
+/// Adds the element at the end, if there is one. Without memory for it the list stays as it was.
+pub fn extend_option<T: Drop>(list: &mut Vec<T, Global>, item: Option<T>) -> Result<(), Want>
+    ensures ok { OnOk result (list.new.items ≡ list.old.items ++ option_to_list item) }
+    ensures err { OnErr result (list.new.items ≡ list.old.items) }
+{
+    if let Some(item) = item {
+        list.push(item)?;
+    }
+    Ok(())
 }

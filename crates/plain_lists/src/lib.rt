@@ -9,8 +9,8 @@ pub mod text;
 pub mod want;
 
 pub use bytes::Bytes;
-pub use copied::{Copied, Same};
-pub use items::Items;
+pub use copied::{Copied, Same, copy_all};
+pub use items::{Items, extend_option};
 pub use text::Text;
 pub use want::Want;
 

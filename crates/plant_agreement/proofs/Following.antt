@@ -21,17 +21,22 @@ use Rattle.plant_agreement.proofs.Shown.{board_keeps_all}
 use Rattle.plant_agreement.proofs.Numbered.{enumerate_from-append, writes_are_numbered}
 
 -- longer lists of updates only append orders
-appends : (w : Setup) (plant : Plant) (screens client : ℕ) → GoesByPlant w plant screens → (xs ys : List Update) → Begins xs ys → Begins (w.orders xs client) (w.orders ys client)
+appends : (w : Setup) (plant : Plant) (screens client : ℕ) → GoesByPlant w plant screens → (xs ys : List Update) →
+    Begins xs ys → Begins (w.orders xs client) (w.orders ys client)
 appends w plant screens client goes xs ys begins =
     let more = only-appends plant screens xs begins.rest client in record {
       rest = more.0;
-      same = goes ys client ∙ ap (λ (zs : List Update). orders plant screens zs client) begins.same ∙ more.1 ∙ ap (λ (zs : List Order). zs ++ more.0) (sym (goes xs client));
+      same = goes ys client ∙ ap (λ (zs : List Update). orders plant screens zs client) begins.same ∙ more.1
+          ∙ ap (λ (zs : List Order). zs ++ more.0) (sym (goes xs client));
     }
 
 -- the setup's orders are the plant's
-by_plant : (w : Setup) (plant : Plant) (screens client : ℕ) (history : List Entry) (i : ℕ) (done : List Order) → GoesByPlant w plant screens
-    → Begins done (w.orders (executions w history i) client) → Begins done (orders plant screens (executions w history i) client)
-by_plant w plant screens client history i done goes begins = record { rest = begins.rest; same = sym (goes (executions w history i) client) ∙ begins.same }
+by_plant : (w : Setup) (plant : Plant) (screens client : ℕ) (history : List Entry) (i : ℕ) (done : List Order) →
+    GoesByPlant w plant screens
+    → Begins done (w.orders (executions w history i) client) →
+    Begins done (orders plant screens (executions w history i) client)
+by_plant w plant screens client history i done goes begins =
+    record { rest = begins.rest; same = sym (goes (executions w history i) client) ∙ begins.same }
 
 pub vouched_follow : VouchedFollow
 vouched_follow w plant screens history client sound goes done vouched =
@@ -40,16 +45,23 @@ vouched_follow w plant screens history client sound goes done vouched =
 
 -- what begins a list does so with numbers
 numbered_begins : {xs ys : List Order} → Begins xs ys → Begins (enumerate_from 1 xs) (enumerate_from 1 ys)
-numbered_begins {xs} b = record { rest = enumerate_from (1 + length xs) b.rest; same = ap (enumerate_from 1) b.same ∙ enumerate_from-append 1 xs b.rest }
+numbered_begins {xs} b = record {
+  rest = enumerate_from (1 + length xs) b.rest;
+  same = ap (enumerate_from 1) b.same
+      ∙ enumerate_from-append 1 xs b.rest;
+}
 
 pub writes_follow : WritesFollow
 writes_follow w plant screens history proxy sizes happenings sound goes votes =
     let found = done_begins w history proxy (can_write plant.points proxy) sound (appends w plant screens proxy goes) in
-    let same = after_happenings proxy w.group.n w.group.f plant.points sizes happenings ∙ ap (λ v. orders_done (can_write plant.points proxy) proxy w.group.n w.group.f v) votes in
-    let numbers = writes_are_numbered proxy w.group.n w.group.f plant.points sizes happenings ∙ ap (enumerate_from 1) same in (
+    let same = after_happenings proxy w.group.n w.group.f plant.points sizes happenings
+    ∙ ap (λ v. orders_done (can_write plant.points proxy) proxy w.group.n w.group.f v) votes in
+    let numbers = writes_are_numbered proxy w.group.n w.group.f plant.points sizes happenings
+    ∙ ap (enumerate_from 1) same in (
       found.0,
       found.1,
-      subst (λ (done : List (ℕ × Order)). Begins done (enumerate_from 1 (orders plant screens (executions w history found.0) proxy))) (sym numbers)
+      subst (λ (done : List (ℕ × Order)). Begins done
+          (enumerate_from 1 (orders plant screens (executions w history found.0) proxy))) (sym numbers)
           (numbered_begins (by_plant w plant screens proxy history found.0 _ goes found.2)),
     )
 
@@ -58,6 +70,7 @@ board_follows w plant screens history screen sound goes =
     let found = done_begins w history screen is_notice sound (appends w plant screens screen goes) in (
       found.0,
       found.1,
-      subst (λ (done : List Order). Begins done (orders plant screens (executions w history found.0) screen)) (sym (board_keeps_all screen w.group.n w.group.f (votes_taken history (w.group.n + screen))))
+      subst (λ (done : List Order). Begins done (orders plant screens (executions w history found.0) screen))
+          (sym (board_keeps_all screen w.group.n w.group.f (votes_taken history (w.group.n + screen))))
           (by_plant w plant screens screen history found.0 _ goes found.2),
     )

@@ -1,6 +1,7 @@
--- Agreement as the clients of a plant see it, as statements over every setup whose orders the plant's rules make, and every
--- sound history: what a proxy wrote and what a screen shows begin the orders that some correct master's executions make.
--- (In the manner of Spire, whose field and screens act on what its masters agreed on; the plant's rules are this project's own.)
+-- Agreement as the clients of a plant see it, as statements over every setup whose orders the plant's rules make, and
+-- every sound history: what a proxy wrote and what a screen shows begin the orders that some correct master's
+-- executions make. (In the manner of Spire, whose field and screens act on what its masters agreed on; the plant's
+-- rules are this project's own.)
 use Rattle.std.specs.Prelude.{◌≡◌, ℕ, ◌+◌, true, List, Some, map, slice_get}
 use Rattle.std.specs.List.{enumerate_from}
 use Rattle.message_types.specs.declared.updates.Update.{Update}
@@ -21,7 +22,8 @@ use Rattle.agreement.specs.Laws.{IsSound, IsVouched, Begins, votes_taken}
 
 -- the orders of the setup are those that the plant's rules make
 abbrev pub GoesByPlant : Setup → Plant → ℕ → Type 0
-GoesByPlant w plant screens = (updates : List Update) (client : ℕ) → w.orders updates client ≡ orders plant screens updates client
+GoesByPlant w plant screens = (updates : List Update) (client : ℕ) →
+    w.orders updates client ≡ orders plant screens updates client
 
 -- these begin the orders that some correct master's executions at the end of the history make for the client
 abbrev pub BeginOrders : Setup → Plant → ℕ → List Entry → ℕ → List Order → Type 0
@@ -31,7 +33,8 @@ BeginOrders w plant screens history client done =
 -- Orders of a client that are vouched for one by one, from number 1 on.
 abbrev pub VouchedFollow : Type 0
 VouchedFollow =
-    (w : Setup) (plant : Plant) (screens : ℕ) (history : List Entry) (client : ℕ) → IsSound w history → GoesByPlant w plant screens
+    (w : Setup) (plant : Plant) (screens : ℕ) (history : List Entry) (client : ℕ) → IsSound w history →
+    GoesByPlant w plant screens
     → (done : List Order) → ((x : ℕ) (o : Order) → slice_get done x ≡ Some o → IsVouched w history client (x + 1) o)
     → BeginOrders w plant screens history client done
 
@@ -39,12 +42,13 @@ VouchedFollow =
 abbrev pub numbered_order : Write → ℕ × Order
 numbered_order w = (w.number, order_of w)
 
--- What a proxy wrote, whatever happened in its field, where the vouchers that it took are those of its entries: its writes,
--- each under its number, begin the orders that some correct master's executions at the end of the history make for it,
--- numbered from 1 on. So write number x is the order that is number x of the proxy's.
+-- What a proxy wrote, whatever happened in its field, where the vouchers that it took are those of its entries: its
+-- writes, each under its number, begin the orders that some correct master's executions at the end of the history make
+-- for it, numbered from 1 on. So write number x is the order that is number x of the proxy's.
 abbrev pub WritesFollow : Type 0
 WritesFollow =
-    (w : Setup) (plant : Plant) (screens : ℕ) (history : List Entry) (proxy : ℕ) (sizes : DeviceSizes) (happenings : List Happening)
+    (w : Setup) (plant : Plant) (screens : ℕ) (history : List Entry) (proxy : ℕ) (sizes : DeviceSizes)
+    (happenings : List Happening)
     → IsSound w history → GoesByPlant w plant screens → votes_of happenings ≡ votes_taken history (w.group.n + proxy)
     → (i : ℕ) × (is_correct_master w i ≡ true)
     × Begins (map numbered_order (front_after (fresh proxy w.group.n w.group.f plant.points sizes) happenings).writes)
@@ -53,5 +57,7 @@ WritesFollow =
 -- What a screen shows, where the vouchers that it took are those of its entries.
 abbrev pub BoardFollows : Type 0
 BoardFollows =
-    (w : Setup) (plant : Plant) (screens : ℕ) (history : List Entry) (screen : ℕ) → IsSound w history → GoesByPlant w plant screens
-    → BeginOrders w plant screens history screen (map (λ n. order.Notice n) (board_of screen w.group.n w.group.f (votes_taken history (w.group.n + screen))))
+    (w : Setup) (plant : Plant) (screens : ℕ) (history : List Entry) (screen : ℕ) → IsSound w history →
+    GoesByPlant w plant screens
+    → BeginOrders w plant screens history screen
+    (map (λ n. order.Notice n) (board_of screen w.group.n w.group.f (votes_taken history (w.group.n + screen))))

@@ -1,8 +1,9 @@
--- Which words a file of words can hold, whoever is there. (The limits are those of the bodies' spellings; that a word names
--- its frames by signer, kind and number is this project's own.)
+-- Which words a file of words can hold, whoever is there. (The limits are those of the bodies' spellings; that a word
+-- names its frames by signer, kind and number is this project's own.)
 use Rattle.std.specs.Prelude.{ℕ, Bool, true, ◌&&◌, ◌||◌, List, length, map, nat_eq, nat_le}
 use Rattle.std.specs.List.{list_all}
 use Rattle.message_types.specs.Spelling.{is_rising, row_fits}
+use Rattle.message_types.specs.declared.limits.TheConstants.{MOST_LISTED, MOST_CERTIFICATES}
 use Rattle.play_words.specs.declared.words.Item.{Item}
 use Rattle.play_words.specs.declared.words.Ref.{Ref}
 use Rattle.play_words.specs.declared.words.Word.{Word}
@@ -31,13 +32,14 @@ is_of kind r = nat_eq r.kind kind && nat_le 1 r.number
 abbrev pub has_digest : Ref → Bool
 has_digest r = (nat_eq r.kind request_kind || nat_eq r.kind preprepare_kind) && nat_le 1 r.number
 
--- at most 14 frames of a kind, whose signers rise
+-- a list of frames of a kind within its limit, whose signers rise
 abbrev pub are_refs : ℕ → List Ref → Bool
-are_refs kind refs = nat_le (length refs) 14 && is_rising (map (λ r. r.actor) refs) && list_all (is_of kind) refs
+are_refs kind refs = nat_le (length refs) MOST_LISTED && is_rising (map (λ r. r.actor) refs)
+    && list_all (is_of kind) refs
 
--- at most 16 certificates, whose numbers rise
+-- no more certificates than a report may have, whose numbers rise
 abbrev pub are_items : List Item → Bool
-are_items items = nat_le (length items) 16 && is_rising (map (λ item. item.s) items)
+are_items items = nat_le (length items) MOST_CERTIFICATES && is_rising (map (λ item. item.s) items)
 
 unfoldable pub is_accepted : Word → Bool
 is_accepted (word.PoRequest k update) = is_of update_kind update

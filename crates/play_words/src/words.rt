@@ -10,23 +10,11 @@ pub struct Ref {
     pub number: u64,
 }
 
-impl Copied for Ref {
-    fn copy(&self) -> Result<Self, Want> {
-        Ok(*self)
-    }
-}
-
 /// A number and a view of which a report is to bring the certificate.
-#[derive(Clone, Copy, Debug, PartialEq, Eq)]
+#[derive(Clone, Copy, PartialEq, Eq)]
 pub struct Item {
     pub s: u64,
     pub v: u64,
-}
-
-impl Copied for Item {
-    fn copy(&self) -> Result<Self, Want> {
-        Ok(*self)
-    }
 }
 
 /// What an intruded master is made to say: bytes as they stand, or a body, whose frames and digests are those of frames

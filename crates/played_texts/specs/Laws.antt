@@ -14,7 +14,8 @@ use Rattle.run_back_laws.specs.Laws.{as_told}
 -- The history that a script and words define is told as it is: each frame in it was said where its entry tells.
 abbrev pub PlayedIsTold : Type 0
 PlayedIsTold =
-    (g : Given) (lines : List Line) (history : List Entry) → IsScenario g.scenario → are_lines_of g.scenario lines ≡ true
+    (g : Given) (lines : List Line) (history : List Entry) → IsScenario g.scenario →
+    are_lines_of g.scenario lines ≡ true
     → are_sayings_of g.scenario g.sayings ≡ true → played g lines ≡ Ok history → as_told g.scenario history ≡ history
 
 -- What the lines of a script and words put into an event is within the program's types.
@@ -27,6 +28,7 @@ IsGiven _ = Unit {0}
 -- Its printed text gives it again.
 abbrev pub PlayedTextsReadBack : Type 0
 PlayedTextsReadBack =
-    (g : Given) (lines : List Line) (history : List Entry) → IsScenario g.scenario → are_lines_of g.scenario lines ≡ true
+    (g : Given) (lines : List Line) (history : List Entry) → IsScenario g.scenario →
+    are_lines_of g.scenario lines ≡ true
     → are_sayings_of g.scenario g.sayings ≡ true → played g lines ≡ Ok history → All (λ e. IsGiven e.event) history
     → history_in g.scenario (text_of g.scenario history) ≡ Ok history

@@ -1,4 +1,8 @@
-use Rattle.std.proofs.Common.{◌≡◌, ◌≤◌, ◌<◌, ◌*◌, ◌%◌, ◌/◌, ◌+◌, ℕ, zero, suc, Bool, true, false, if◌then◌else◌, Option, Some, None, refl, sym, ◌∙◌, ap, arith, IfSome, IfNone, ℤ, pos, ◌+ℤ◌, ◌-ℤ◌, ◌*ℤ◌, ◌<ℤ◌}
+-- The raw value of a point's value is the quotient of its distance from the offset by the scale, where no rest
+-- is left. As the scale is positive, no other raw value stands for it.
+use Rattle.std.proofs.Common.{◌≡◌, ◌≤◌, ◌<◌, ◌*◌, ◌%◌, ◌/◌, ◌+◌, ℕ, zero, suc, Bool, true, false, if◌then◌else◌}
+use Rattle.std.proofs.Common.{Option, Some, None, refl, sym, ◌∙◌, ap, arith, IfSome, IfNone, ℤ, pos, ◌+ℤ◌, ◌-ℤ◌, ◌*ℤ◌}
+use Rattle.std.proofs.Common.{◌<ℤ◌}
 use Rattle.std.proofs.Math.Nat.{mul-mod_left, mul-div_cancel}
 use Rattle.std.proofs.lemmas.Int.{ints}
 use Rattle.std.proofs.lemmas.Bool.Decides.{Decides-int_eq}
@@ -10,7 +14,8 @@ use Rattle.point_table.specs.Point.{is_within, raw_of, scaled, first_that, great
 pub mul-rem : (k n : ℕ) → 1 ≤ n → (k * n) % n ≡ 0
 mul-rem k n h = mul-mod_left k n
 
-hit_step : (b : Bool) (first k : ℕ) (rest : Option ℕ) → (b ≡ true → first ≡ k) → (b ≡ false → rest ≡ Some k) → (if b then Some first else rest) ≡ Some k
+hit_step : (b : Bool) (first k : ℕ) (rest : Option ℕ) → (b ≡ true → first ≡ k) → (b ≡ false → rest ≡ Some k) →
+    (if b then Some first else rest) ≡ Some k
 hit_step true first k rest h g = ap Some (h refl)
 hit_step false first k rest h g = g refl
 
@@ -20,11 +25,13 @@ above p first k low off on =
     omega arith
 
 -- the one number that passes is the first
-first_that-hit : (p : ℕ → Bool) (first n k : ℕ) → first ≤ k → k < first + n → p k ≡ true → ((j : ℕ) → p j ≡ true → j ≡ k) → first_that p first n ≡ Some k
+first_that-hit : (p : ℕ → Bool) (first n k : ℕ) → first ≤ k → k < first + n → p k ≡ true →
+    ((j : ℕ) → p j ≡ true → j ≡ k) → first_that p first n ≡ Some k
 first_that-hit p first zero k low high on only = absurd (omega arith)
 first_that-hit p first (suc n) k low high on only =
     hit_step (p first) first k (first_that p (suc first) n) (only first)
-    (λ off. first_that-hit p (suc first) n k (let h : first < k = above p first k low off on in omega arith) (omega arith) on only)
+    (λ off. first_that-hit p (suc first) n k (let h : first < k = above p first k low off on in omega arith)
+    (omega arith) on only)
 
 miss_step : (b : Bool) (first : ℕ) (rest : Option ℕ) → b ≡ false → rest ≡ None → (if b then Some first else rest) ≡ None
 miss_step true first rest h g = absurd (cc)
@@ -37,11 +44,14 @@ first_that-none p first (suc n) off =
     miss_step (p first) first (first_that p (suc first) n) (off first (omega arith))
     (first_that-none p (suc first) n (λ j low. off j (omega arith)))
 
-as_scaled : (raw n away : ℕ) (scale offset v : ℤ) → scale ≡ pos n → v -ℤ offset ≡ pos away → raw * n ≡ away → (pos raw *ℤ scale) +ℤ offset ≡ v
+as_scaled : (raw n away : ℕ) (scale offset v : ℤ) → scale ≡ pos n → v -ℤ offset ≡ pos away → raw * n ≡ away →
+    (pos raw *ℤ scale) +ℤ offset ≡ v
 as_scaled raw n away scale offset v e d m = rw e (omega (arith, ints))
 
-as_product : (raw n away : ℕ) (scale offset v : ℤ) → scale ≡ pos n → v -ℤ offset ≡ pos away → (pos raw *ℤ scale) +ℤ offset ≡ v → raw * n ≡ away
-as_product raw n away scale offset v e d m = let m' : (pos raw *ℤ pos n) +ℤ offset ≡ v = rw e at m in omega (arith, ints)
+as_product : (raw n away : ℕ) (scale offset v : ℤ) → scale ≡ pos n → v -ℤ offset ≡ pos away →
+    (pos raw *ℤ scale) +ℤ offset ≡ v → raw * n ≡ away
+as_product raw n away scale offset v e d m = let m' : (pos raw *ℤ pos n) +ℤ offset ≡ v =
+    rw e at m in omega (arith, ints)
 
 cancelled : (j k n : ℕ) → 1 ≤ n → j * n ≡ k * n → j ≡ k
 cancelled j k n h e = sym (mul-div_cancel j h) ∙ ap (λ x. x / n) e ∙ mul-div_cancel k h
@@ -77,13 +87,16 @@ unfolding raw_of
 raw_of-outside p v out = rw out refl
 
 -- the quotient that leaves no rest is the raw value
-pub raw_of-quotient : (p : Point) (v : ℤ) (away n most : ℕ) (r : Option ℕ) → is_within p v ≡ true → v -ℤ p.offset ≡ pos away → p.scale ≡ pos n → 1 ≤ n → most ≡ greatest_raw p.area
-    → IfSome r (λ raw. (raw * n ≡ away) × (raw ≤ most)) → IfNone r ((raw : ℕ) → raw ≤ most → raw * n ≡ away → ⊥) → r ≡ raw_of p v
+pub raw_of-quotient : (p : Point) (v : ℤ) (away n most : ℕ) (r : Option ℕ) → is_within p v ≡ true →
+    v -ℤ p.offset ≡ pos away → p.scale ≡ pos n → 1 ≤ n → most ≡ greatest_raw p.area
+    → IfSome r (λ raw. (raw * n ≡ away) × (raw ≤ most)) → IfNone r ((raw : ℕ) → raw ≤ most → raw * n ≡ away → ⊥) →
+    r ≡ raw_of p v
 unfolding raw_of
 raw_of-quotient p v away n most (Some raw) within apart scale positive greatest found none =
     within_some (is_within p v) (Some raw) _ within
     (first_that-hit (λ raw. int_eq (scaled p raw) v) 0 (suc (greatest_raw p.area)) raw (omega arith) (omega arith)
     ((Decides-int_eq (scaled p raw) v).1 (as_scaled raw n away p.scale p.offset v scale apart found.0))
-    (λ j on. cancelled j raw n positive (as_product j n away p.scale p.offset v scale apart ((Decides-int_eq (scaled p j) v).0 on) ∙ sym found.0)))
+    (λ j on. cancelled j raw n positive
+    (as_product j n away p.scale p.offset v scale apart ((Decides-int_eq (scaled p j) v).0 on) ∙ sym found.0)))
 raw_of-quotient p v away n most None within apart scale positive greatest found none =
     raw_of-none p v (λ j low is. none j (omega arith) (as_product j n away p.scale p.offset v scale apart is))

@@ -40,7 +40,7 @@ impl Area {
 }
 
 /// How many places of each area a field device has.
-#[derive(Clone, Copy, Debug, PartialEq, Eq)]
+#[derive(Clone, Copy, PartialEq, Eq)]
 pub struct DeviceSizes {
     pub coils: u16,
     pub discrete: u16,
@@ -99,12 +99,6 @@ impl Point {
             return None;
         }
         raw_away(away as u128, self.scale as u128, self.area.greatest_raw())
-    }
-}
-
-impl Copied for DeviceSizes {
-    fn copy(&self) -> Result<Self, Want> {
-        Ok(*self)
     }
 }
 

@@ -1,5 +1,6 @@
 -- Choices between what a map had and what it takes.
-use Rattle.std.proofs.Common.{◌≡◌, ℕ, Bool, true, false, cond, ◌&&◌, ◌||◌, List, [], ◌∷◌, ◌++◌, Option, Some, None, nat_eq, is_some, refl, sym, ◌∙◌, ap, arith, true≢false}
+use Rattle.std.proofs.Common.{◌≡◌, ℕ, Bool, true, false, cond, ◌&&◌, ◌||◌, List, [], ◌∷◌, ◌++◌, Option, Some, None}
+use Rattle.std.proofs.Common.{nat_eq, is_some, refl, sym, ◌∙◌, ap, arith, true≢false}
 use Rattle.std.specs.List.{filter_map, find, list_any, cons_option}
 use Rattle.std.specs.Str.{bytes_eq}
 use Rattle.std.proofs.lemmas.Bool.Decides.{nat_tests}
@@ -35,14 +36,16 @@ same_ballot-same x y e =
     λ i. (first i, second i, third i)
 
 -- a value that is there stays
-pub stays : {X : Type 0} (here : Bool) (old : Option X) (x : X) → (here ≡ true → is_some old ≡ true) → old ≡ or_else old (cond here (Some x) None)
+pub stays : {X : Type 0} (here : Bool) (old : Option X) (x : X) → (here ≡ true → is_some old ≡ true) →
+    old ≡ or_else old (cond here (Some x) None)
 stays true (Some v) x there = refl
 stays true None x there = absurd (true≢false (sym (there refl)))
 stays false (Some v) x there = refl
 stays false None x there = refl
 
 -- a value that wasn't there is taken
-pub taken : {X : Type 0} (here : Bool) (old : Option X) (x : X) → (here ≡ true → old ≡ None) → cond here (Some x) old ≡ or_else old (cond here (Some x) None)
+pub taken : {X : Type 0} (here : Bool) (old : Option X) (x : X) → (here ≡ true → old ≡ None) →
+    cond here (Some x) old ≡ or_else old (cond here (Some x) None)
 taken true (Some v) x absent = absurd (true≢false (ap is_some (absent refl)))
 taken true None x absent = refl
 taken false (Some v) x absent = refl
@@ -52,7 +55,8 @@ first-alone : {X : Type 0} (o : Option X) → first_of_list (cons_option o []) �
 first-alone None = refl
 first-alone (Some x) = refl
 
-first-cons : {X : Type 0} (o : Option X) (xs ys : List X) (last : Option X) → first_of_list xs ≡ or_else (first_of_list ys) last →
+first-cons : {X : Type 0} (o : Option X) (xs ys : List X) (last : Option X) →
+    first_of_list xs ≡ or_else (first_of_list ys) last →
     first_of_list (cons_option o xs) ≡ or_else (first_of_list (cons_option o ys)) last
 first-cons None xs ys last more = more
 first-cons (Some x) xs ys last more = refl
@@ -60,14 +64,17 @@ first-cons (Some x) xs ys last more = refl
 pub first_of_list-push : {F X : Type 0} (f : F → Option X) (xs : List F) (x : F) →
     first_of_list (filter_map f (xs ++ x ∷ [])) ≡ or_else (first_of_list (filter_map f xs)) (f x)
 first_of_list-push f [] x = first-alone (f x)
-first_of_list-push f (y ∷ ys) x = first-cons (f y) (filter_map f (ys ++ x ∷ [])) (filter_map f ys) (f x) (first_of_list-push f ys x)
+first_of_list-push f (y ∷ ys) x = first-cons (f y) (filter_map f (ys ++ x ∷ [])) (filter_map f ys)
+    (f x) (first_of_list-push f ys x)
 
-find-alone : {X : Type 0} (p : X → Bool) (xs : List X) (o : Option X) → find p (xs ++ cons_option o []) ≡ or_else (find p xs) (find p (cons_option o []))
+find-alone : {X : Type 0} (p : X → Bool) (xs : List X) (o : Option X) →
+    find p (xs ++ cons_option o []) ≡ or_else (find p xs) (find p (cons_option o []))
 find-alone p [] o = refl
 find-alone p (x ∷ xs) o = by (p x) (find-alone p xs o)
   where
     by : (b : Bool) → find p (xs ++ cons_option o []) ≡ or_else (find p xs) (find p (cons_option o [])) →
-        cond b (Some x) (find p (xs ++ cons_option o [])) ≡ or_else (cond b (Some x) (find p xs)) (find p (cons_option o []))
+        cond b (Some x) (find p (xs ++ cons_option o [])) ≡ or_else (cond b (Some x) (find p xs))
+        (find p (cons_option o []))
     by true more = refl
     by false more = more
 
@@ -76,7 +83,8 @@ pub find-push : {F X : Type 0} (p : X → Bool) (f : F → Option X) (xs : List 
     find p (filter_map f (xs ++ x ∷ [])) ≡ or_else (find p (filter_map f xs)) (find p (cons_option (f x) []))
 find-push p f xs x = ap (find p) (filter_map-append f xs (x ∷ [])) ∙ find-alone p (filter_map f xs) (f x)
 
-pub list_any-push : {X : Type 0} (p : X → Bool) (xs : List X) (x : X) → list_any p (xs ++ x ∷ []) ≡ (list_any p xs || p x)
+pub list_any-push : {X : Type 0} (p : X → Bool) (xs : List X) (x : X) →
+    list_any p (xs ++ x ∷ []) ≡ (list_any p xs || p x)
 list_any-push p xs x = list_any-append p xs (x ∷ []) ∙ ap (λ b. list_any p xs || b) (or-false (p x))
 
 pub or_else-none : {X : Type 0} (o : Option X) → or_else o None ≡ o

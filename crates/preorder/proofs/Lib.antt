@@ -8,5 +8,7 @@ pub mod Doors
 pub mod Ranges
 pub mod Others
 pub mod Settled
+pub mod Settling
 pub mod Beginning
 pub mod Composed
+pub mod Viewed

@@ -1,6 +1,7 @@
--- Ranges of numbers outside which nothing is due.
-use Rattle.std.proofs.Common.{◌≡◌, ℕ, zero, suc, ◌+◌, ◌-◌, ◌<◌, ◌≤◌, Bool, true, false, cond, List, [], ◌∷◌, ◌++◌, Option, Some, None, length, refl, sym, ◌∙◌, ap, arith, add-one, is_some}
-use Rattle.std.specs.Prelude.{IsSome, slice_index}
+-- Ranges of numbers outside which nothing is due: what is due of all numbers is what is due of the range.
+use Rattle.std.proofs.Common.{◌≡◌, ℕ, zero, suc, ◌+◌, ◌-◌, ◌<◌, ◌≤◌, Bool, true, false, cond, List, [], ◌∷◌, ◌++◌}
+use Rattle.std.proofs.Common.{refl, sym, ◌∙◌, ap, arith, add-one, is_some}
+use Rattle.std.specs.Prelude.{slice_index}
 use Rattle.std.specs.List.{flat_map, list_any}
 use Rattle.std.proofs.lemmas.List.{append-nil}
 use Rattle.std.proofs.lemmas.Grind.{flat_map-append}
@@ -12,24 +13,11 @@ use Rattle.message_types.specs.Digests.{digest_of_update}
 use Rattle.quorum_sets.specs.Masters.{numbers_below}
 use Rattle.quorum_sets.proofs.MastersLemmas.{numbers_below-suc}
 use Rattle.protocol_rules.specs.Group.{Group, most_number}
-use Rattle.protocol_rules.specs.Words.{numbers_from, run_from, first_of_list}
+use Rattle.protocol_rules.specs.Words.{numbers_from, first_of_list}
 use Rattle.protocol_rules.specs.Preorder.{ack_due, acks, updates_requested, certified, vector}
 use Rattle.preorder.specs.Index.{HasPending, IsPending, Reaches}
 use Rattle.preorder.proofs.Introductions.{numbers_from-more}
-
-head : {X : Type 0} (f : ℕ → List X) (start skip count : ℕ) → ((k : ℕ) → start ≤ k → k < start + skip → f k ≡ []) →
-    flat_map f (numbers_from start (skip + count)) ≡ flat_map f (numbers_from (start + skip) count)
-unfolding numbers_from
-head f start zero count none =
-    let e : start ≡ start + 0 = omega arith in let z : 0 + count ≡ count = omega arith in
-    ap (λ n. flat_map f (numbers_from start n)) z ∙ ap (λ s. flat_map f (numbers_from s count)) e
-head f start (suc skip) count none =
-    let e : suc start + skip ≡ start + suc skip = omega arith in
-    let z : suc skip + count ≡ suc (skip + count) = omega arith in
-    ap (λ n. flat_map f (numbers_from start n)) z
-    ∙ ap (λ xs. xs ++ flat_map f (numbers_from (suc start) (skip + count))) (none start (omega arith) (omega arith))
-    ∙ head f (suc start) skip count (λ k low high. none k (omega arith) (omega arith))
-    ∙ ap (λ s. flat_map f (numbers_from s count)) e
+use Rattle.protocol_rules.proofs.Numbers.{run-length, head}
 
 tail : {X : Type 0} (f : ℕ → List X) (start count most : ℕ) → most ≤ count → ((k : ℕ) → start + most ≤ k → f k ≡ []) →
     flat_map f (numbers_from start count) ≡ flat_map f (numbers_from start most)
@@ -55,25 +43,32 @@ narrow f count low high one low_fits high_fits before after =
     ∙ tail f low (count + 1 - low) (high - low) (omega arith) (λ k le. after k (omega arith))
 
 -- nothing is due where nothing is pending
-pub ack_due-none : (took : List (Signed Body)) (said : List Body) (j k : ℕ) → (IsPending took said j k → ⊥) → ack_due took said j k ≡ []
-ack_due-none took said j k idle = by (list_any (acks j k) said) (updates_requested took j k) refl refl
+pub ack_due-none : (known : List (Signed Body)) (said : List Body) (j k : ℕ) → (IsPending known said j k → ⊥) →
+    ack_due known said j k ≡ []
+ack_due-none known said j k idle = by (list_any (acks j k) said) (updates_requested known j k) refl refl
   where
-    by : (b : Bool) (us : List Update) → list_any (acks j k) said ≡ b → updates_requested took j k ≡ us →
-        cond {A = List Body} b [] (elim us [ [] ↦ [] | u ∷ _ ↦ body.PoAck record { j = j; k = k; digest = digest_of_update u } ∷ [] ]) ≡ []
+    by : (b : Bool) (us : List Update) → list_any (acks j k) said ≡ b → updates_requested known j k ≡ us →
+        cond {A = List Body} b []
+        (elim us [ [] ↦ [] | u ∷ _ ↦ body.PoAck record { j = j; k = k; digest = digest_of_update u } ∷ [] ]) ≡ []
     by true us e is = refl
     by false [] e is = refl
     by false (u ∷ us) e is = absurd (idle (ap (λ xs. is_some (first_of_list xs)) is, e))
 
-pub acks-narrow : (took : List (Signed Body)) (said : List Body) (low high : List ℕ) (j : ℕ) → HasPending took said low high → j < 14 →
-    flat_map (ack_due took said j) (numbers_from (slice_index low j) (slice_index high j - slice_index low j))
-    ≡ flat_map (λ k. ack_due took said j k) (numbers_from 1 most_number)
-acks-narrow took said low high j has below =
-    sym (narrow (λ k. ack_due took said j k) most_number (slice_index low j) (slice_index high j) (has.from_one j below) (has.low_limit j below) (has.high_limit j below)
-    (λ k less. ack_due-none took said j k (λ pending. let le = has.from_low j k below pending in absurd (omega arith)))
-    (λ k le. ack_due-none took said j k (λ pending. let less = has.below_high j k below pending in absurd (omega arith))))
+pub acks-narrow : (known : List (Signed Body)) (said : List Body) (low high : List ℕ) (j : ℕ) →
+    HasPending known said low high → j < 14 →
+    flat_map (ack_due known said j) (numbers_from (slice_index low j) (slice_index high j - slice_index low j))
+    ≡ flat_map (λ k. ack_due known said j k) (numbers_from 1 most_number)
+acks-narrow known said low high j has below =
+    sym (narrow (λ k. ack_due known said j k) most_number (slice_index low j) (slice_index high j)
+    (has.from_one j below) (has.low_limit j below) (has.high_limit j below)
+    (λ k less. ack_due-none known said j k (λ pending. let le = has.from_low j k below pending in absurd (omega arith)))
+    (λ k le. ack_due-none known said j k (λ pending. let less = has.below_high j k below pending in
+    absurd (omega arith))))
 
-pub flat_map-more : {X : Type 0} (f : ℕ → List X) (start count : ℕ) → flat_map f (numbers_from start (count + 1)) ≡ flat_map f (numbers_from start count) ++ f (start + count)
-flat_map-more f start count = ap (flat_map f) (numbers_from-more start count) ∙ flat_map-append f (numbers_from start count) ((start + count) ∷ [])
+pub flat_map-more : {X : Type 0} (f : ℕ → List X) (start count : ℕ) →
+    flat_map f (numbers_from start (count + 1)) ≡ flat_map f (numbers_from start count) ++ f (start + count)
+flat_map-more f start count = ap (flat_map f) (numbers_from-more start count)
+    ∙ flat_map-append f (numbers_from start count) ((start + count) ∷ [])
     ∙ ap (λ xs. flat_map f (numbers_from start count) ++ xs) (append-nil (f (start + count)))
 
 pub flat_map-none : {X : Type 0} (f : ℕ → List X) (start : ℕ) → flat_map f (numbers_from start 0) ≡ []
@@ -84,30 +79,16 @@ pub flat_map-below-none : {X : Type 0} (f : ℕ → List X) → flat_map f (numb
 unfolding numbers_below
 flat_map-below-none f = refl
 
-pub flat_map-below-more : {X : Type 0} (f : ℕ → List X) (n : ℕ) → flat_map f (numbers_below (n + 1)) ≡ flat_map f (numbers_below n) ++ f n
-flat_map-below-more f n = ap (λ k. flat_map f (numbers_below k)) (add-one n) ∙ ap (flat_map f) (numbers_below-suc n) ∙ flat_map-append f (numbers_below n) (n ∷ [])
+pub flat_map-below-more : {X : Type 0} (f : ℕ → List X) (n : ℕ) →
+    flat_map f (numbers_below (n + 1)) ≡ flat_map f (numbers_below n) ++ f n
+flat_map-below-more f n = ap (λ k. flat_map f (numbers_below k)) (add-one n) ∙ ap (flat_map f) (numbers_below-suc n)
+    ∙ flat_map-append f (numbers_below n) (n ∷ [])
     ∙ ap (λ xs. flat_map f (numbers_below n) ++ xs) (append-nil (f n))
 
-run-length : {X : Type 0} (f : ℕ → Option X) (start most reach : ℕ) → reach ≤ most → ((k : ℕ) → start ≤ k → k < start + reach → IsSome (f k)) →
-    (reach < most → f (start + reach) ≡ None) → length (run_from f start most) ≡ reach
-unfolding run_from
-run-length f start zero reach fits some stops = omega arith
-run-length {X} f start (suc most) zero fits some stops = by (f start) (let e : start ≡ start + 0 = omega arith in ap f e ∙ stops (omega arith))
-  where
-    by : (o : Option X) → o ≡ None → length {A = X} (elim o [ None ↦ [] | Some x ↦ x ∷ run_from f (suc start) most ]) ≡ 0
-    by None e = refl
-    by (Some x) e = cc
-run-length {X} f start (suc most) (suc reach) fits some stops =
-    by (f start) (some start (omega arith) (omega arith))
-    (run-length f (suc start) most reach (omega arith) (λ k low high. some k (omega arith) (omega arith))
-    (λ less. let e : suc start + reach ≡ start + suc reach = omega arith in ap f e ∙ stops (omega arith)))
-  where
-    by : (o : Option X) → IsSome o → length {A = X} (run_from f (suc start) most) ≡ reach → length {A = X} (elim o [ None ↦ [] | Some x ↦ x ∷ run_from f (suc start) most ]) ≡ suc reach
-    by None there rest = cc
-    by (Some x) there rest = let more : length (x ∷ run_from f (suc start) most) ≡ suc reach = omega arith in more
-
-pub vector-reached : (g : Group) (took : List (Signed Body)) (j reach : ℕ) → Reaches (certified g took j) reach → reach ≡ vector g took j
+pub vector-reached : (g : Group) (known : List (Signed Body)) (j reach : ℕ) → Reaches (certified g known j) reach →
+    reach ≡ vector g known j
 unfolding vector
-vector-reached g took j reach reached =
-    sym (run-length (λ k. certified g took j k) 1 most_number reach reached.limit (λ k low high. reached.without_gap k low (omega arith))
-    (λ less. let e : 1 + reach ≡ suc reach = omega arith in ap (certified g took j) e ∙ reached.stops less))
+vector-reached g known j reach reached =
+    sym (run-length (λ k. certified g known j k) 1 most_number reach reached.limit
+    (λ k low high. reached.without_gap k low (omega arith))
+    (λ less. let e : 1 + reach ≡ suc reach = omega arith in ap (certified g known j) e ∙ reached.stops less))

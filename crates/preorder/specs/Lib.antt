@@ -1,5 +1,4 @@
-pub mod Taken
 pub mod Index
 pub mod Counted
-pub mod Held
+pub mod PreorderState
 pub mod Composed

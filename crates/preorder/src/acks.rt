@@ -1,4 +1,4 @@
-ghost use Rattle.std.specs.Prelude.{◌≡◌, ◌<◌, ◌≤◌, ◌++◌, ◌-◌, ℕ, List, [], length, OnOk};
+ghost use Rattle.std.specs.Prelude.{◌≡◌, ◌<◌, ◌≤◌, ◌++◌, ◌-◌, ℕ, List, [], OnOk};
 ghost use Rattle.std.specs.List.{flat_map};
 ghost use Rattle.message_types.specs.declared.signed.Signed.{Signed as SignedWord};
 ghost use Rattle.message_types.specs.declared.body.Body.{Body as Word};
@@ -8,16 +8,16 @@ ghost use Rattle.protocol_rules.specs.Preorder.{ack_due, acks_due};
 ghost use Rattle.preorder.specs.Index.{HasFirsts, HasPending};
 
 use crate::firsts::Firsts;
-use message_digests::update_digest;
-use message_types::{Body, PoAck};
+use message_types::{Body, PoAck, update_digest};
 use plain_lists::Want;
+use quorum_sets::{MASTER_PLACES, MOST_MASTERS};
 
 /// For each master where the numbers stand for which an acknowledgement is due: from `low` to below
 /// `high`.
 #[derive(Clone, Copy)]
-pub struct Pending {
-    pub low: [u64; 14],
-    pub high: [u64; 14],
+pub struct PendingAcks {
+    pub low: [u64; MASTER_PLACES],
+    pub high: [u64; MASTER_PLACES],
 }
 
 /// Adds the acknowledgements due, by master and then number.
@@ -25,18 +25,17 @@ pub fn push_acks(
     bodies: &mut Vec<Body>,
     firsts: &Firsts,
     masters: u32,
-    pending: &Pending,
-    said_count: usize,
+    pending: &PendingAcks,
 ) -> Result<(), Want>
-    requires { masters ≤ 14 }
-    ensures { (g : Group) (took : List (SignedWord Word)) (said : List Word) → g.n ≡ masters → said_count ≡ length said → HasFirsts g took said firsts.now
-        → HasPending took said pending.now.low pending.now.high
-        → OnOk result (bodies.new.items ≡ bodies.old.items ++ acks_due g took said) }
+    requires { masters ≤ MOST_MASTERS }
+    ensures { (g : Group) (known : List (SignedWord Word)) (said : List Word) → g.n ≡ masters → HasFirsts g known said firsts.now.entries
+        → HasPending known said pending.now.low pending.now.high
+        → OnOk result (bodies.new.items ≡ bodies.old.items ++ acks_due g known said) }
 {
     for master in 0..masters {
         let low = pending.low[master as usize];
         let high = pending.high[master as usize];
-        push_acks_of(bodies, firsts, master, low, high, said_count)?;
+        push_acks_of(bodies, firsts, master, low, high)?;
     }
     Ok(())
 }
@@ -47,31 +46,24 @@ fn push_acks_of(
     master: u32,
     low: u64,
     high: u64,
-    said_count: usize,
 ) -> Result<(), Want>
-    ensures { (g : Group) (took : List (SignedWord Word)) (said : List Word) → said_count ≡ length said → HasFirsts g took said firsts.now
-        → OnOk result (bodies.new.items ≡ bodies.old.items ++ flat_map (ack_due took said master) (numbers_from low (high - low))) }
+    ensures { (g : Group) (known : List (SignedWord Word)) (said : List Word) → HasFirsts g known said firsts.now.entries
+        → OnOk result (bodies.new.items ≡ bodies.old.items ++ flat_map (ack_due known said master) (numbers_from low (high - low))) }
 {
     for number in low..high {
-        push_ack(bodies, firsts, master, number, said_count)?;
+        push_ack(bodies, firsts, master, number)?;
     }
     Ok(())
 }
 
-fn push_ack(
-    bodies: &mut Vec<Body>,
-    firsts: &Firsts,
-    j: u32,
-    k: u64,
-    said_count: usize,
-) -> Result<(), Want>
-    ensures { (g : Group) (took : List (SignedWord Word)) (said : List Word) → said_count ≡ length said → HasFirsts g took said firsts.now
-        → OnOk result (bodies.new.items ≡ bodies.old.items ++ ack_due took said j k) }
+fn push_ack(bodies: &mut Vec<Body>, firsts: &Firsts, j: u32, k: u64) -> Result<(), Want>
+    ensures { (g : Group) (known : List (SignedWord Word)) (said : List Word) → HasFirsts g known said firsts.now.entries
+        → OnOk result (bodies.new.items ≡ bodies.old.items ++ ack_due known said j k) }
 {
     match firsts.get(&(j, k)) {
         None => Ok(()),
         Some(first) => {
-            if first.since < said_count {
+            if first.acked {
                 return Ok(());
             }
             let digest = update_digest(&first.update);

@@ -1,6 +1,6 @@
 ghost use Rattle.std.specs.Prelude.{◌≡◌, ◌<◌, ◌++◌, ◌∷◌, [], List, OnOk, OnErr, IfOk, ℕ};
 ghost use Rattle.std.specs.List.{list_any, find};
-ghost use Rattle.indexmap.specs.IndexMap.{IsUnchanged, get};
+ghost use Rattle.indexmap.specs.IndexMap.{IsUnchanged};
 ghost use Rattle.message_types.specs.declared.signed.Signed.{Signed as SignedWord};
 ghost use Rattle.message_types.specs.declared.body.Body.{Body as Word};
 ghost use Rattle.message_types.specs.declared.body.Body.TheVariants as body;
@@ -9,12 +9,12 @@ ghost use Rattle.message_types.specs.Parts.{as_frame};
 ghost use Rattle.quorum_sets.specs.Quorum.{has_quorum};
 ghost use Rattle.quorum_sets.specs.Masters.{has_master};
 ghost use Rattle.protocol_rules.specs.Preorder.{is_ack, updates_requested};
-ghost use Rattle.preorder.specs.Index.{HasBallots, has_digest, same_ballot, ballot_update, ballot_has};
+ghost use Rattle.preorder.specs.Index.{HasBallots, has_digest, at_ballot, ballot_update, ballot_has};
 
 use indexmap::IndexMap;
 use message_types::{PoAck, PoRequest, Signed, Update};
 use plain_lists::{Copied, Want};
-use quorum_sets::{Sizes, VoterSet};
+use quorum_sets::{MOST_MASTERS, Sizes, VoterSet};
 
 /// The requests and the acknowledgements of one number with one digest.
 #[derive(Drop)]
@@ -35,8 +35,8 @@ pub fn note_requested(
     digest: [u8; 32],
 ) -> Result<(), Want>
     requires { digest ≡ digest_of_update frame.now.body.update.body }
-    ensures noted { OnOk result ((took : List (SignedWord Word)) → HasBallots took ballots.old
-        → HasBallots (took ++ as_frame body.PoRequest frame.now ∷ []) ballots.new) }
+    ensures noted { OnOk result ((known : List (SignedWord Word)) → HasBallots known ballots.old.entries
+        → HasBallots (known ++ as_frame body.PoRequest frame.now ∷ []) ballots.new.entries) }
     ensures refused { OnErr result (IsUnchanged ballots.old ballots.new) }
 {
     let key = (frame.signer, frame.body.k, digest);
@@ -51,9 +51,9 @@ pub fn note_requested(
 
 /// Notes the vote of an acknowledgement.
 pub fn note_vote(ballots: &mut Ballots, frame: &Signed<PoAck>) -> Result<(), Want>
-    requires { frame.now.signer < 14 }
-    ensures noted { OnOk result ((took : List (SignedWord Word)) → HasBallots took ballots.old
-        → HasBallots (took ++ as_frame body.PoAck frame.now ∷ []) ballots.new) }
+    requires { frame.now.signer < MOST_MASTERS }
+    ensures noted { OnOk result ((known : List (SignedWord Word)) → HasBallots known ballots.old.entries
+        → HasBallots (known ++ as_frame body.PoAck frame.now ∷ []) ballots.new.entries) }
     ensures refused { OnErr result (IsUnchanged ballots.old ballots.new) }
 {
     let ack = frame.body;
@@ -66,8 +66,8 @@ pub fn note_vote(ballots: &mut Ballots, frame: &Signed<PoAck>) -> Result<(), Wan
 
 /// Whether a quorum acknowledged this.
 pub fn is_acked(ballots: &Ballots, sizes: &Sizes, j: u32, k: u64, digest: [u8; 32]) -> bool
-    ensures { (took : List (SignedWord Word)) → HasBallots took ballots.now
-        → result ≡ has_quorum sizes.now.n sizes.now.q (λ m. list_any (is_ack j k digest m) took) }
+    ensures { (known : List (SignedWord Word)) → HasBallots known ballots.now.entries
+        → result ≡ has_quorum sizes.now.n sizes.now.q (λ m. list_any (is_ack j k digest m) known) }
 {
     match ballots.get(&(j, k, digest)) {
         Some(ballot) => ballot.voters.is_quorum(sizes),
@@ -77,8 +77,8 @@ pub fn is_acked(ballots: &Ballots, sizes: &Sizes, j: u32, k: u64, digest: [u8; 3
 
 /// The first update requested so with this digest.
 pub fn requested(ballots: &Ballots, j: u32, k: u64, digest: [u8; 32]) -> Option<Update>
-    ensures { (took : List (SignedWord Word)) → HasBallots took ballots.now
-        → result ≡ find (has_digest digest) (updates_requested took j k) }
+    ensures { (known : List (SignedWord Word)) → HasBallots known ballots.now.entries
+        → result ≡ find (has_digest digest) (updates_requested known j k) }
 {
     match ballots.get(&(j, k, digest)) {
         Some(ballot) => ballot.update,
@@ -88,8 +88,8 @@ pub fn requested(ballots: &Ballots, j: u32, k: u64, digest: [u8; 32]) -> Option<
 
 // A copy of the ballot, an empty one where none is there.
 fn ballot_at(ballots: &Ballots, j: u32, k: u64, digest: [u8; 32]) -> Result<Ballot, Want>
-    ensures update { IfOk result (λ ballot. ballot.update ≡ ballot_update (get same_ballot ballots.now (j, k, digest))) }
-    ensures voters { IfOk result (λ ballot. (m : ℕ) → m < 14 → has_master ballot.voters m ≡ ballot_has (get same_ballot ballots.now (j, k, digest)) m) }
+    ensures update { IfOk result (λ ballot. ballot.update ≡ ballot_update (at_ballot ballots.now.entries (j, k, digest))) }
+    ensures voters { IfOk result (λ ballot. (m : ℕ) → m < MOST_MASTERS → has_master ballot.voters m ≡ ballot_has (at_ballot ballots.now.entries (j, k, digest)) m) }
 {
     match ballots.get(&(j, k, digest)) {
         Some(ballot) => Ok(Ballot {

@@ -1,32 +1,31 @@
 ghost use Rattle.std.specs.Prelude.{◌≡◌, ◌+◌, ◌<◌, ◌≤◌, ℕ, List, slice_index};
-ghost use Rattle.indexmap.specs.IndexMap.{spare, get};
+ghost use Rattle.indexmap.specs.IndexMap.{spare};
 ghost use Rattle.message_types.specs.declared.signed.Signed.{Signed as SignedWord};
 ghost use Rattle.message_types.specs.declared.body.Body.{Body as Word};
 ghost use Rattle.protocol_rules.specs.Group.{Group, most_number};
-ghost use Rattle.preorder.specs.Index.{HasCertified, HasReach, CertifiesAt, same_pair, Reaches, ReachesLess, SameElsewhere};
+ghost use Rattle.preorder.specs.Index.{HasCertified, HasReach, CertifiesAt, at_pair, Reaches, ReachesLess, SameElsewhere};
 
 use indexmap::IndexMap;
 use message_types::Update;
-
-/// Requests of one master are numbered from 1 to this.
-pub const MOST_NUMBER: u64 = 4096;
+use protocol_rules::MOST_NUMBER;
+use quorum_sets::{MASTER_PLACES, MOST_MASTERS};
 
 /// The certified update of each master and number.
-pub type Certificates = IndexMap<(u32, u64), Update>;
+pub type CertifiedUpdates = IndexMap<(u32, u64), Update>;
 
 /// Notes that (j, k) is certified with this update, if any, unless it was certified before.
 pub fn certify(
-    certificates: &mut Certificates,
-    reach: &mut [u64; 14],
+    certificates: &mut CertifiedUpdates,
+    reach: &mut [u64; MASTER_PLACES],
     j: u32,
     k: u64,
     candidate: Option<Update>,
 )
     requires room { 1 ≤ spare certificates.old }
-    requires below { j < 14 }
-    ensures { (g : Group) (took after : List (SignedWord Word)) → CertifiesAt g took after j k candidate
-        → HasCertified g took certificates.old → HasReach g took reach.old
-        → HasCertified g after certificates.new × HasReach g after reach.new }
+    requires below { j < MOST_MASTERS }
+    ensures { (g : Group) (known after : List (SignedWord Word)) → CertifiesAt g known after j k candidate
+        → HasCertified g known certificates.old.entries → HasReach g known reach.old
+        → HasCertified g after certificates.new.entries × HasReach g after reach.new }
 {
     if certificates.contains_key(&(j, k)) {
         return;
@@ -39,10 +38,10 @@ pub fn certify(
 }
 
 // Goes on over the numbers of master j that are certified without a gap.
-fn extend(certificates: &Certificates, reach: &mut [u64; 14], j: u32)
-    requires below { j < 14 }
-    ensures reaches { ReachesLess (λ k. get same_pair certificates.now (j, k)) (slice_index reach.old j)
-        → Reaches (λ k. get same_pair certificates.now (j, k)) (slice_index reach.new j) }
+fn extend(certificates: &CertifiedUpdates, reach: &mut [u64; MASTER_PLACES], j: u32)
+    requires below { j < MOST_MASTERS }
+    ensures reaches { ReachesLess (λ k. at_pair certificates.now.entries (j, k)) (slice_index reach.old j)
+        → Reaches (λ k. at_pair certificates.now.entries (j, k)) (slice_index reach.new j) }
     ensures others { SameElsewhere reach.old reach.new j }
 {
     let start = reach[j as usize];
@@ -50,9 +49,9 @@ fn extend(certificates: &Certificates, reach: &mut [u64; 14], j: u32)
     reach[j as usize] = end;
 }
 
-fn run_end(certificates: &Certificates, j: u32, start: u64) -> u64
-    ensures { ReachesLess (λ k. get same_pair certificates.now (j, k)) start
-        → Reaches (λ k. get same_pair certificates.now (j, k)) result }
+fn run_end(certificates: &CertifiedUpdates, j: u32, start: u64) -> u64
+    ensures { ReachesLess (λ k. at_pair certificates.now.entries (j, k)) start
+        → Reaches (λ k. at_pair certificates.now.entries (j, k)) result }
 {
     let mut end = start;
     while end < MOST_NUMBER && certificates.contains_key(&(j, end + 1)) {

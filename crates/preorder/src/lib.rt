@@ -1,6 +1,6 @@
 //! Pre-ordering, after Prime: the requests and acknowledgements that a master says, and which requests are
-//! certified. It keeps what it took, since its contracts speak of that list, and beside it an index that
-//! agrees with the definitions over the list, so that no call looks through what was taken.
+//! certified. It keeps an index that agrees with the definitions over all that its master took, knows and
+//! said; none of these lists is kept.
 #![tactic(auto)]
 
 mod acks;
@@ -8,8 +8,10 @@ mod ballots;
 mod certificates;
 mod firsts;
 pub mod laws;
+mod letting;
 pub mod preorder;
 mod requests;
 mod updates;
 
 pub use preorder::Preorder;
+pub use requests::is_door;

@@ -7,17 +7,17 @@ ghost use Rattle.protocol_rules.specs.Preorder.{next_request, requests_due};
 ghost use Rattle.preorder.specs.Index.{HasUpdates};
 ghost use Rattle.preorder.specs.Counted.{IsCounted};
 
-use crate::certificates::MOST_NUMBER;
 use crate::updates::Updates;
 use message_types::{Body, PoRequest};
 use plain_lists::{Copied, Want};
-use quorum_sets::Sizes;
+use protocol_rules::MOST_NUMBER;
+use quorum_sets::{CLIENT_PLACES, MOST_CLIENTS, Sizes};
 
 /// How many requests were said, in all and for each client.
 #[derive(Clone, Copy)]
 pub struct Counts {
     pub introduced: u64,
-    pub said_for: [u64; 12],
+    pub said_for: [u64; CLIENT_PLACES],
 }
 
 /// Adds the requests due, clients in number order, and counts them as said.
@@ -29,11 +29,11 @@ pub fn push_requests(
     me: u32,
     counts: &mut Counts,
 ) -> Result<(), Want>
-    requires { clients ≤ 12 }
-    ensures added { (took : List (SignedWord Word)) (said : List Word) → HasUpdates took updates.now → IsCounted said counts.old
-        → OnOk result (bodies.new.items ≡ bodies.old.items ++ requests_due (group_of sizes.now clients) me took said (numbers_from 0 clients)) }
-    ensures counted { (took : List (SignedWord Word)) (said : List Word) → HasUpdates took updates.now → IsCounted said counts.old
-        → OnOk result (IsCounted (said ++ requests_due (group_of sizes.now clients) me took said (numbers_from 0 clients)) counts.new) }
+    requires { clients ≤ MOST_CLIENTS }
+    ensures added { (taken : List (SignedWord Word)) (said : List Word) → HasUpdates taken updates.now.entries → IsCounted said counts.old
+        → OnOk result (bodies.new.items ≡ bodies.old.items ++ requests_due (group_of sizes.now clients) me taken said (numbers_from 0 clients)) }
+    ensures counted { (taken : List (SignedWord Word)) (said : List Word) → HasUpdates taken updates.now.entries → IsCounted said counts.old
+        → OnOk result (IsCounted (said ++ requests_due (group_of sizes.now clients) me taken said (numbers_from 0 clients)) counts.new) }
 {
     for client in 0..clients {
         push_request(bodies, updates, is_door(sizes, client, me), client, counts)?;
@@ -49,11 +49,11 @@ fn push_request(
     client: u32,
     counts: &mut Counts,
 ) -> Result<(), Want>
-    requires { client < 12 }
-    ensures added { (g : Group) (me : ℕ) (took : List (SignedWord Word)) (said : List Word) → is_door ≡ is_door_of g client me → HasUpdates took updates.now → IsCounted said counts.old
-        → OnOk result (bodies.new.items ≡ bodies.old.items ++ next_request g me took said client) }
-    ensures counted { (g : Group) (me : ℕ) (took : List (SignedWord Word)) (said : List Word) → is_door ≡ is_door_of g client me → HasUpdates took updates.now → IsCounted said counts.old
-        → OnOk result (IsCounted (said ++ next_request g me took said client) counts.new) }
+    requires { client < MOST_CLIENTS }
+    ensures added { (g : Group) (me : ℕ) (taken : List (SignedWord Word)) (said : List Word) → is_door ≡ is_door_of g client me → HasUpdates taken updates.now.entries → IsCounted said counts.old
+        → OnOk result (bodies.new.items ≡ bodies.old.items ++ next_request g me taken said client) }
+    ensures counted { (g : Group) (me : ℕ) (taken : List (SignedWord Word)) (said : List Word) → is_door ≡ is_door_of g client me → HasUpdates taken updates.now.entries → IsCounted said counts.old
+        → OnOk result (IsCounted (said ++ next_request g me taken said client) counts.new) }
 {
     if !is_door {
         return Ok(());
@@ -76,8 +76,8 @@ fn push_request(
 }
 
 /// Whether the master is a door of the client.
-fn is_door(sizes: &Sizes, client: u32, master: u32) -> bool
-    requires { client < 12 }
+pub fn is_door(sizes: &Sizes, client: u32, master: u32) -> bool
+    requires { client < MOST_CLIENTS }
     ensures { (clients : ℕ) → result ≡ is_door_of (group_of sizes.now clients) client master }
 {
     for step in 0..sizes.f + sizes.k + 1 {

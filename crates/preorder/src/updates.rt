@@ -15,8 +15,8 @@ pub type Updates = IndexMap<(u32, u64), Signed<Update>>;
 
 /// Notes an update, unless one of its client and number is there.
 pub fn note_update(updates: &mut Updates, frame: &Signed<Update>) -> Result<(), Want>
-    ensures noted { OnOk result ((took : List (SignedWord Word)) → HasUpdates took updates.old
-        → HasUpdates (took ++ as_frame body.Update frame.now ∷ []) updates.new) }
+    ensures noted { OnOk result ((taken : List (SignedWord Word)) → HasUpdates taken updates.old.entries
+        → HasUpdates (taken ++ as_frame body.Update frame.now ∷ []) updates.new.entries) }
     ensures refused { OnErr result (IsUnchanged updates.old updates.new) }
 {
     let key = (frame.body.client, frame.body.t);

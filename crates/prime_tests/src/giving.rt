@@ -1,12 +1,12 @@
 ghost use Rattle.std.specs.Prelude.{◌≡◌, ◌<◌, OnOk, IfOk};
 
-use gifts::{Gifts, gives, note_given, numbers_wanted};
-use message_digests::update_digest;
-use message_types::{AskOrder, AskUpdate, Body, Give, Op, PoAck, PoRequest, Signed, Update};
+use message_types::{
+    AskOrder, AskUpdate, Body, Give, Op, PoAck, PoRequest, Signed, Update, update_digest,
+};
 use plain_lists::{Bytes, Want};
 use preorder::Preorder;
 use quorum_sets::Sizes;
-use reconcile::Asks;
+use reconcile::{Asks, Gifts, gives, note_given, numbers_wanted};
 use std::alloc::Global;
 use std::test::Fail;
 

@@ -1,9 +1,9 @@
 ghost use Rattle.std.specs.Prelude.{◌≡◌, ◌≤◌, length, slice_index, OnOk};
-ghost use Rattle.leader_offers.specs.Counting.{HasFewRows};
+ghost use Rattle.leader_proposals.specs.Counting.{KnowsFewRows};
 
 use crate::matrices::take_numbers;
 use global_order::Order;
-use leader_offers::{Offers, Summary, Vouchers};
+use leader_proposals::{Proposer, Summary, Vouchers};
 use message_types::{Body, Order as ClientOrder};
 use plain_lists::Want;
 use quorum_sets::Sizes;
@@ -16,19 +16,19 @@ use summary_matrix::{Matrix, Reach};
 struct Leading {
     order: Order,
     matrix: Matrix,
-    offers: Offers,
+    proposer: Proposer,
 }
 
 /// A leader that knows nothing.
 fn knowing_nothing(alloc: Global, sizes: Sizes) -> Leading
-    ensures few { HasFewRows result.order.facts }
+    ensures few { KnowsFewRows result.order }
     ensures masters { result.matrix.group.n ≡ sizes.n }
-    ensures view { result.offers.progress.view ≡ 0 }
+    ensures view { result.proposer.progress.view ≡ 0 }
 {
     Leading {
         order: Order::new(alloc, sizes),
         matrix: Matrix::new(alloc, sizes),
-        offers: Offers::new(sizes),
+        proposer: Proposer::new(sizes),
     }
 }
 
@@ -44,11 +44,11 @@ fn sum_up(alloc: Global, matrix: &mut Matrix, third: u64) -> Result<(), Want>
 
 /// The number that the leader of view 0 offers next.
 fn number_offered(leading: &mut Leading) -> Result<Option<u64>, Want>
-    requires few { HasFewRows leading.old.order.facts }
-    requires view { leading.old.offers.progress.view ≡ 0 }
+    requires few { KnowsFewRows leading.old.order }
+    requires view { leading.old.proposer.progress.view ≡ 0 }
 {
     let word = leading
-        .offers
+        .proposer
         .due(&leading.order, &leading.matrix, true, 0, true, true)?;
     Ok(number_of(&word))
 }

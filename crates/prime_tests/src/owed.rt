@@ -1,9 +1,9 @@
 ghost use Rattle.master_points.specs.Orders.{IsPlant};
 
-use leader_offers::Vouchers;
+use leader_proposals::Vouchers;
+use master_answers::{say_vouchers, split_words};
 use master_points::{Master, Plant};
 use message_types::{AskOrder, Body, Mark, Op, Ping, Update};
-use owed_words::{say_vouchers, split_words};
 use plain_lists::{Items, Want};
 use std::alloc::Global;
 use std::test::Fail;

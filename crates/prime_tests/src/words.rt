@@ -2,8 +2,7 @@ ghost use Rattle.std.specs.Prelude.{IsTrue, IfOk};
 ghost use Rattle.message_types.specs.Spelling.{row_fits, rows_fit};
 
 use global_order::Order;
-use message_digests::rows_digest;
-use message_types::{Body, Commit, Mark, Prepare, Rows, Signed};
+use message_types::{Body, Commit, Mark, Prepare, Rows, Signed, rows_digest};
 use plain_lists::{Bytes, Items, Same, Vector, Want};
 use quorum_sets::Sizes;
 use std::alloc::Global;

@@ -1,5 +1,7 @@
 -- Frames that stand, by their bytes and by their entries.
-use Rattle.std.proofs.Common.{◌≡◌, ◌⊎◌, ℕ, zero, suc, ◌+◌, ◌<◌, ◌≤◌, Bool, true, false, cond, List, [], ◌∷◌, ◌++◌, Option, Some, None, Result, Ok, Err, length, take, filter, inl, inr, refl, sym, ◌∙◌, ap, arith}
+use Rattle.std.proofs.Common.{◌≡◌, ◌⊎◌, ℕ, zero, suc, ◌+◌, ◌<◌, ◌≤◌, Bool, true, false, cond, List, [], ◌∷◌, ◌++◌}
+use Rattle.std.proofs.Common.{Option, Some, None, Result, Ok, Err, length, take, filter, inl, inr, refl, sym, ◌∙◌, ap}
+use Rattle.std.proofs.Common.{arith}
 use Rattle.std.proofs.lemmas.Bool.{cases_lt, and_parts, false≢true, false_from_ne_true}
 use Rattle.std.proofs.lemmas.List.{length-append, take_all}
 use Rattle.std.proofs.lemmas.Option.{slice_get_past}
@@ -21,43 +23,53 @@ use Rattle.world_rules.specs.Scenarios.{setup_of}
 use Rattle.bench_rules.specs.Lists.{ring_in}
 use Rattle.bench_rules.proofs.Ringing.{stands_by_ring}
 use Rattle.printed_history.specs.Reading.{is_want, standing_frame, frame_in}
-use Rattle.printed_history.proofs.Places.{get_left, get_last, take_left}
+use Rattle.printed_history.proofs.Places.{get_last}
+use Rattle.plain_lists.proofs.Lists.{get_left, take_left}
 
 -- a frame that stands is all that its bytes spell
-pub one_stands : (ring : Ring) (bytes : List ℕ) (frame found : Signed Body) → frame ∷ [] ≡ cried (Cry bytes) → found ≡ frame → checked.stands ring frame ≡ true
+pub one_stands : (ring : Ring) (bytes : List ℕ) (frame found : Signed Body) → frame ∷ [] ≡ cried (Cry bytes) →
+    found ≡ frame → checked.stands ring frame ≡ true
     → option_to_list (Some found) ≡ filter (checked.stands ring) (cried (Cry bytes))
 one_stands ring bytes frame found read same stand =
     ap (λ (f : Signed Body). f ∷ []) same
     ∙ sym (ap (λ b. cond b (frame ∷ []) []) stand)
     ∙ ap (filter (checked.stands ring)) read
 
-pub none_stands : (ring : Ring) (bytes : List ℕ) (frame : Signed Body) → frame ∷ [] ≡ cried (Cry bytes) → checked.stands ring frame ≡ false
+pub none_stands : (ring : Ring) (bytes : List ℕ) (frame : Signed Body) → frame ∷ [] ≡ cried (Cry bytes) →
+    checked.stands ring frame ≡ false
     → ◌≡◌ {A = List (Signed Body)} [] (filter (checked.stands ring) (cried (Cry bytes)))
-none_stands ring bytes frame read falls = sym (ap (λ b. cond b (frame ∷ []) []) falls) ∙ ap (filter (checked.stands ring)) read
+none_stands ring bytes frame read falls = sym (ap (λ b. cond b (frame ∷ []) []) falls)
+    ∙ ap (filter (checked.stands ring)) read
 
-pub none_read : (ring : Ring) (bytes : List ℕ) → [] ≡ cried (Cry bytes) → ◌≡◌ {A = List (Signed Body)} [] (filter (checked.stands ring) (cried (Cry bytes)))
+pub none_read : (ring : Ring) (bytes : List ℕ) → [] ≡ cried (Cry bytes) →
+    ◌≡◌ {A = List (Signed Body)} [] (filter (checked.stands ring) (cried (Cry bytes)))
 none_read ring bytes read = ap (filter (checked.stands ring)) read
 
-some_fault : (r : CheckRefusal) (first : Option CheckRefusal) → is_want r ≡ false → checked.IsFault r first → first ≡ None → ⊥
+some_fault : (r : CheckRefusal) (first : Option CheckRefusal) → is_want r ≡ false →
+    checked.IsFault r first → first ≡ None → ⊥
 some_fault refusal.Want first other fault none = false≢true (sym other)
 some_fault (refusal.SignerUnknown signer) first other fault none = absurd cc
 some_fault (refusal.Unsigned part) first other fault none = absurd cc
 some_fault (refusal.Misplaced part) first other fault none = absurd cc
 
 -- a frame that is refused doesn't stand
-pub refused_falls : (ring : Ring) (frame : Signed Body) (r : CheckRefusal) → is_want r ≡ false → checked.IsFault r (checked.first_fault ring frame) → checked.stands ring frame ≡ false
+pub refused_falls : (ring : Ring) (frame : Signed Body) (r : CheckRefusal) → is_want r ≡ false →
+    checked.IsFault r (checked.first_fault ring frame) → checked.stands ring frame ≡ false
 refused_falls ring frame r other fault =
-    false_from_ne_true (checked.stands ring frame) (λ stand. some_fault r (checked.first_fault ring frame) other fault (stands_faultless ring frame stand))
+    false_from_ne_true (checked.stands ring frame) (λ stand. some_fault r (checked.first_fault ring frame) other fault
+    (stands_faultless ring frame stand))
 
 pub same_refusal : (r : Result (Signed Body) CheckRefusal) (a b : CheckRefusal) → r ≡ Err a → r ≡ Err b → a ≡ b
-same_refusal r a b first second = ap (λ (x : Result (Signed Body) CheckRefusal). elim x [ Ok f ↦ a | Err e ↦ e ]) (sym first ∙ second)
+same_refusal r a b first second = ap (λ (x : Result (Signed Body) CheckRefusal). elim x [ Ok f ↦ a | Err e ↦ e ])
+    (sym first ∙ second)
 
 -- by the ring of a scenario's actors the same frames stand as in its histories
 pub same_stand : (c : Contents) (ring : Ring) (frames : List (Signed Body)) → ring ≡ ring_in c
     → filter (checked.stands ring) frames ≡ filter (stands (setup_of c)) frames
 same_stand c ring [] is = refl
 same_stand c ring (f ∷ fs) is =
-    ap (λ b. cond b (f ∷ filter (checked.stands ring) fs) (filter (checked.stands ring) fs)) (ap (λ (r : Ring). checked.stands r f) is ∙ sym (stands_by_ring c f))
+    ap (λ b. cond b (f ∷ filter (checked.stands ring) fs) (filter (checked.stands ring) fs))
+    (ap (λ (r : Ring). checked.stands r f) is ∙ sym (stands_by_ring c f))
     ∙ ap (λ (xs : List (Signed Body)). cond (stands (setup_of c) f) (f ∷ xs) xs) (same_stand c ring fs is)
 
 -- where all frames stand, each place has its own
@@ -65,7 +77,8 @@ pub all_standing : (w : Setup) (frames : List (Signed Body)) (place : ℕ) → l
     → slice_get frames place ≡ standing_frame w (slice_get frames place)
 all_standing w frames place all = by (slice_get frames place) (each frames place all)
   where
-    each : (fs : List (Signed Body)) (i : ℕ) → list_all (stands w) fs ≡ true → (f : Signed Body) → slice_get fs i ≡ Some f → stands w f ≡ true
+    each : (fs : List (Signed Body)) (i : ℕ) → list_all (stands w) fs ≡ true → (f : Signed Body) →
+        slice_get fs i ≡ Some f → stands w f ≡ true
     each [] i all f is = absurd (cc)
     each (x ∷ fs) zero all f is =
         let same : x ≡ f = cc in
@@ -93,10 +106,12 @@ few_standing w (f ∷ []) (suc place) few = by (stands w f)
 few_standing w (f ∷ g ∷ fs) place few = absurd (omega arith)
 
 -- The frames at each stamp, of a history with one entry more.
-pub frames_more : (w : Setup) (before : List Entry) (e : Entry) (posted : List (List (Signed Body))) (fs : List (Signed Body)) → length posted ≡ length before
+pub frames_more : (w : Setup) (before : List Entry) (e : Entry) (posted : List (List (Signed Body)))
+    (fs : List (Signed Body)) → length posted ≡ length before
     → ((s p : ℕ) → frame_in posted s p ≡ standing_frame w (slice_get (frames_at_stamp w before s) p))
     → ((p : ℕ) → slice_get fs p ≡ standing_frame w (slice_get (frames_of w (own before e.actor) e) p))
-    → (s p : ℕ) → frame_in (posted ++ fs ∷ []) s p ≡ standing_frame w (slice_get (frames_at_stamp w (before ++ e ∷ []) s) p)
+    → (s p : ℕ) → frame_in (posted ++ fs ∷ []) s p ≡ standing_frame w
+    (slice_get (frames_at_stamp w (before ++ e ∷ []) s) p)
 unfolding frames_at_stamp
 frames_more w before e posted fs many were more s p = by (cases_lt s (length before)) (cases_lt (length before) s)
   where
@@ -117,7 +132,8 @@ frames_more w before e posted fs many were more s p = by (cases_lt s (length bef
         let size : length (posted ++ fs ∷ []) ≡ length posted + 1 = length-append posted (fs ∷ []) in
         let long : length (before ++ e ∷ []) ≡ length before + 1 = length-append before (e ∷ []) in
         ap kept (slice_get_past (posted ++ fs ∷ []) s (omega arith))
-        ∙ sym (ap (λ (o : Option Entry). standing_frame w (slice_get (at o (take s (before ++ e ∷ []))) p)) (slice_get_past (before ++ e ∷ []) s (omega arith)))
+        ∙ sym (ap (λ (o : Option Entry). standing_frame w (slice_get (at o (take s (before ++ e ∷ []))) p))
+        (slice_get_past (before ++ e ∷ []) s (omega arith)))
     by (inr most) (inr least) =
         let here : s ≡ length before = omega arith in
         let there : s ≡ length posted = omega arith in
@@ -126,4 +142,6 @@ frames_more w before e posted fs many were more s p = by (cases_lt s (length bef
         ∙ more p
         ∙ sym (ap (λ (fr : List (Signed Body)). standing_frame w (slice_get fr p))
         (ap (λ (n : ℕ). at (slice_get (before ++ e ∷ []) n) (take n (before ++ e ∷ []))) here
-        ∙ (λ i. at (get_last before e i) ((take_left before (e ∷ []) (length before) (omega arith) ∙ take_all (length before) before (omega arith)) i))))
+        ∙ (λ i. at (get_last before e i)
+        ((take_left before (e ∷ []) (length before) (omega arith) ∙ take_all (length before) before (omega arith))
+        i))))

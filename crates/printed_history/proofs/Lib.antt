@@ -1,5 +1,4 @@
 mod Places
-mod Numbered
 mod Framing
 pub mod Taking
 pub mod Nexts

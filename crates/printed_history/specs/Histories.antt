@@ -1,5 +1,6 @@
 -- The history that the text of a run tells. (This project's own.)
-use Rattle.std.specs.Prelude.{ℕ, zero, suc, ◌+◌, Bool, true, not, ◌&&◌, if◌then◌else◌, List, [], ◌∷◌, ◌++◌, Option, Some, None, Result, Ok, Err, length, map, nat_eq, nat_lt, slice_get}
+use Rattle.std.specs.Prelude.{ℕ, zero, suc, ◌+◌, Bool, true, not, ◌&&◌, if◌then◌else◌, List, [], ◌∷◌, ◌++◌, Option}
+use Rattle.std.specs.Prelude.{Some, None, Result, Ok, Err, length, map, nat_eq, nat_lt, slice_get}
 use Rattle.std.specs.Str.{bytes_eq}
 use Rattle.message_types.specs.declared.signed.Signed.{Signed}
 use Rattle.message_types.specs.declared.body.Body.{Body}
@@ -70,13 +71,15 @@ entry_with before actor event said = record { stamp = length before; actor = act
 abbrev pub entry_of_event : Setup → List Entry → ℕ → List Kind → Option Event → Option Entry
 entry_of_event w before actor kinds None = None
 entry_of_event w before actor kinds (Some event) =
-    if w.fits actor event && are_kinds kinds (says w before actor event) then Some (entry_with before actor event (says w before actor event)) else None
+    if w.fits actor event && are_kinds kinds (says w before actor event) then Some
+    (entry_with before actor event (says w before actor event)) else None
 
 -- the entry that a line tells of an actor, if the scenario has it
 abbrev pub entry_by : Setup → List Entry → EntryLine → Option ℕ → Option Entry
 entry_by w before l None = None
 entry_by w before l (Some actor) =
-    if nat_eq l.stamp (length before) && is_running w before actor then entry_of_event w before actor l.kinds (standing_event w (event_from w before l.event)) else None
+    if nat_eq l.stamp (length before) && is_running w before actor then entry_of_event w before actor l.kinds
+    (standing_event w (event_from w before l.event)) else None
 
 -- the entry that a line tells, where it may come after this history
 unfoldable pub entry_from : Setup → List Entry → EntryLine → Option Entry
@@ -97,6 +100,7 @@ abbrev pub history_of : Setup → Reading (List EntryLine) → Reading (List Ent
 history_of w (Ok entries) = entries_from w [] entries
 history_of w (Err e) = Err e
 
--- The history that a text tells. The form of all lines comes first, then the first entry that can't come after those before it.
+-- The history that a text tells. The form of all lines comes first, then the first entry that can't come after those
+-- before it.
 unfoldable pub history_in : Contents → List ℕ → Reading (List Entry)
 history_in c bytes = history_of (setup_of c) (run_in (cast_of c.settings c.plant) bytes)

@@ -1,5 +1,6 @@
 -- A history as it stands while its text is read. (This project's own.)
-use Rattle.std.specs.Prelude.{◌≡◌, ℕ, Bool, true, false, if◌then◌else◌, List, [], ◌∷◌, ◌++◌, Option, Some, None, Result, Ok, Err, filter, length, map, slice_get}
+use Rattle.std.specs.Prelude.{◌≡◌, ℕ, Bool, true, false, if◌then◌else◌, List, [], ◌∷◌, ◌++◌, Option, Some, None}
+use Rattle.std.specs.Prelude.{Result, Ok, Err, filter, length, map, slice_get}
 use Rattle.message_types.specs.declared.signed.Signed.{Signed}
 use Rattle.message_types.specs.declared.body.Body.{Body}
 use Rattle.checked_frames.specs.declared.refusal.CheckRefusal.{CheckRefusal}
@@ -49,7 +50,8 @@ abbrev pub list_at : {X : Type 0} → Option (List X) → List X
 list_at None = []
 list_at (Some xs) = xs
 
--- Of the frames of the entry at a place of its bench, those that stand: of a cry what its bytes spell, else all that was said.
+-- Of the frames of the entry at a place of its bench, those that stand: of a cry what its bytes spell, else all that
+-- was said.
 abbrev pub posted_of : Ring → BenchState → ℕ → Event → List (Signed Body)
 posted_of ring b place (Cry bytes) = filter (checked.stands ring) (cried (Cry bytes))
 posted_of ring b place _ = list_at (slice_get (frames_of_each (setup_in b) b.actor [] b.list) place)
@@ -61,8 +63,8 @@ contents_in r = contents r.scenario.now
 abbrev pub world_in : SoFar → Setup
 world_in r = setup_of (contents_in r)
 
--- What is at hand of the entries of a scenario that are read so far: their benches, the calls of their keepers, and the frames
--- that stand.
+-- What is at hand of the entries of a scenario that are read so far: their benches, the calls of their keepers, and the
+-- frames that stand.
 pub record IsAtHand (c : Contents) (r : SoFar) : Type 0 where
   pub scenario : IsScenario c
   pub is_legal : IsLegal (setup_of c) r.history
@@ -70,7 +72,8 @@ pub record IsAtHand (c : Contents) (r : SoFar) : Type 0 where
   pub are_benches : r.benches.items ≡ benches_of c r.history
   pub are_calls : r.calls.items ≡ map (calls_by r.history) (numbers_below (actors_in c))
   pub as_many : length r.posted ≡ length r.history
-  pub are_frames : (stamp place : ℕ) → frame_in r.posted stamp place ≡ standing_frame (setup_of c) (slice_get (frames_at_stamp (setup_of c) r.history stamp) place)
+  pub are_frames : (stamp place : ℕ) → frame_in r.posted stamp place ≡ standing_frame (setup_of c)
+      (slice_get (frames_at_stamp (setup_of c) r.history stamp) place)
 
 abbrev pub IsSoFar : SoFar → Type 0
 IsSoFar r = IsAtHand (contents_in r) r

@@ -59,19 +59,8 @@ fn posted_at(
     match event {
         Event::Cry { bytes } => standing_cried(alloc, ring, bytes.as_slice()),
         _ => match bench.frames_at(place) {
-            Some(frames) => shared(alloc, frames),
+            Some(frames) => Items::from_slice(alloc, frames),
             None => unreachable!(),
         },
     }
-}
-
-/// The frames as a list of their own, which shares them.
-fn shared(alloc: Global, frames: &[Checked]) -> Result<Items<Checked>, Want>
-    ensures { IfOk result (λ list. list ≡ frames.now) }
-{
-    let mut list = Items::new(alloc);
-    for frame in frames {
-        list.push(frame.copy()?)?;
-    }
-    Ok(list)
 }

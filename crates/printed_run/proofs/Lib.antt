@@ -1,4 +1,3 @@
-pub mod Numbered
 pub mod Benches
 pub mod Posting
 pub mod Calls

@@ -1,5 +1,6 @@
 -- The text of a run: what each of its actors came to, the audit of its history, and the history. (This project's own.)
-use Rattle.std.specs.Prelude.{◌≡◌, ℕ, ◌-◌, Bool, false, if◌then◌else◌, List, ◌++◌, Option, Some, None, length, codes, nat_lt, slice_get}
+use Rattle.std.specs.Prelude.{◌≡◌, ℕ, ◌-◌, Bool, false, if◌then◌else◌, List, ◌++◌, Option, Some, None, length, codes}
+use Rattle.std.specs.Prelude.{nat_lt, slice_get}
 use Rattle.std.specs.List.{flat_map}
 use Rattle.message_types.specs.declared.signed.Signed.{Signed}
 use Rattle.message_types.specs.declared.body.Body.{Body}
@@ -20,7 +21,8 @@ use Rattle.world_rules.specs.Headline.{agrees}
 use Rattle.world_rules.specs.Scenarios.{setup_of, masters_in, proxies_in}
 use Rattle.world_history.specs.State.{BenchState}
 use Rattle.history_benches.specs.Benches.{actors_in}
-use Rattle.run_lines.specs.Texts.{intruded_text, master_text, proxy_text, screen_text, audit_text, agree_text, count_text, entry_text}
+use Rattle.run_lines.specs.Texts.{intruded_text, master_text, proxy_text, screen_text, audit_text, agree_text}
+use Rattle.run_lines.specs.Texts.{count_text, entry_text}
 
 abbrev pub cast_in : Contents → Cast
 cast_in c = cast_of c.settings c.plant
@@ -35,7 +37,8 @@ notices_of c client own = board_of (desk_of (masters_in c) c.settings.f client o
 unfoldable pub master_lines : Contents → ℕ → List Entry → List ℕ
 master_lines c master own =
     if has_master c.settings.intruded master then intruded_text (cast_in c) master
-    else master_text (cast_in c) master (view_in (setup_of c) master own) (executions_in (setup_of c) master own) (is_halted (setup_of c) master own)
+    else master_text (cast_in c) master (view_in (setup_of c) master own) (executions_in (setup_of c) master own)
+    (is_halted (setup_of c) master own)
 
 unfoldable pub client_lines : Contents → ℕ → List Entry → List ℕ
 client_lines c actor own =
@@ -65,7 +68,8 @@ actors_text c history = flat_map (λ actor. actor_lines c actor (own history act
 
 abbrev pub totals_text : Setup → List Entry → List ℕ
 totals_text w history =
-    audit_text (forged w history) (alike w.group history) (intruded_masters w) w.group.f ++ agree_text (agrees w history)
+    audit_text (forged w history) (alike w.group history) (intruded_masters w) w.group.f
+    ++ agree_text (agrees w history)
 
 -- the whole text
 unfoldable pub text_of : Contents → List Entry → List ℕ

@@ -1,1 +1,9 @@
 pub mod Greatest
+pub mod Numbers
+pub mod FirstMet
+pub mod PlacedRows
+pub mod LimitValues
+pub mod Kept
+pub mod Told
+pub mod SummaryRows
+pub mod Keys

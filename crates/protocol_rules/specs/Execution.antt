@@ -1,7 +1,8 @@
 -- The executed updates: the requests that the ordered rows make eligible, in order, as far as they are certified, each
 -- client's updates in turn. (After Prime's execution order; that an update out of turn is passed over is this
 -- project's own.)
-use Rattle.std.specs.Prelude.{ℕ, ◌+◌, ◌-◌, List, [], ◌∷◌, ◌++◌, Option, Some, None, length, filter, map, nat_eq, if◌then◌else◌}
+use Rattle.std.specs.Prelude.{ℕ, ◌+◌, ◌-◌, List, [], ◌∷◌, ◌++◌, Option, Some, None, length, filter, map, nat_eq}
+use Rattle.std.specs.Prelude.{if◌then◌else◌}
 use Rattle.std.specs.List.{flat_map}
 use Rattle.message_types.specs.declared.updates.Update.{Update}
 use Rattle.quorum_sets.specs.Masters.{numbers_below}
@@ -20,12 +21,14 @@ requests_between j from to = map (λ k. record { j = j; k = k }) (numbers_from (
 
 -- the requests that one number's rows make eligible after those of the numbers before, j rising, then k
 abbrev pub newly_eligible : Group → List (List (List ℕ)) → List (List ℕ) → List Request
-newly_eligible g before rows = flat_map (λ j. requests_between j (reach g before j) (eligible g rows j)) (numbers_below g.n)
+newly_eligible g before rows =
+    flat_map (λ j. requests_between j (reach g before j) (eligible g rows j)) (numbers_below g.n)
 
 -- the requests that the numbers' rows make eligible, in order; `before` are the rows of the numbers before
 unfoldable pub eligible_requests : Group → List (List (List ℕ)) → List (List (List ℕ)) → List Request
 eligible_requests g before [] = []
-eligible_requests g before (rows ∷ rest) = newly_eligible g before rows ++ eligible_requests g (before ++ rows ∷ []) rest
+eligible_requests g before (rows ∷ rest) = newly_eligible g before rows
+    ++ eligible_requests g (before ++ rows ∷ []) rest
 
 -- the updates of the requests up to the first that isn't certified
 unfoldable pub certified_run : (Request → Option Update) → List Request → List Update
@@ -44,7 +47,8 @@ updates_of c updates = length (filter (λ u. nat_eq u.client c) updates)
 -- The updates that are kept: those whose number is one more than the client's updates kept before.
 unfoldable pub kept_after : List Update → List Update → List Update
 kept_after kept [] = kept
-kept_after kept (u ∷ rest) = if nat_eq u.t (updates_of u.client kept + 1) then kept_after (kept ++ u ∷ []) rest else kept_after kept rest
+kept_after kept (u ∷ rest) = if nat_eq u.t (updates_of u.client kept + 1) then kept_after (kept ++ u ∷ [])
+    rest else kept_after kept rest
 
 -- what is executed where these rows are ordered and these requests certified
 unfoldable pub executed_of : Group → (Request → Option Update) → List (List (List ℕ)) → List Update

@@ -1,8 +1,10 @@
--- The sizes that the rules are stated over, as plain numbers, and this project's own limits.
+-- The sizes that the rules are stated over, as plain numbers, and this project's own limits (their numbers stand in
+-- src/limits.rt).
 use Rattle.std.specs.Prelude.{ℕ, ◌+◌, ◌%◌, Bool, nat_eq}
 use Rattle.std.specs.List.{list_any}
 use Rattle.quorum_sets.specs.Masters.{numbers_below}
 use Rattle.quorum_sets.specs.declared.sizes.Sizes.{Sizes}
+use Rattle.protocol_rules.specs.declared.limits.TheConstants.{MOST_NUMBER, WINDOW, MOST_VIEW, MARK_STEP}
 
 pub record Group : Type 0 where
   pub n : ℕ
@@ -17,19 +19,19 @@ group_of sizes clients = record { n = sizes.n; f = sizes.f; k = sizes.k; q = siz
 
 -- pre-order numbers of a master, and global numbers, go from 1 to this
 unfoldable pub most_number : ℕ
-most_number = 4096
+most_number = MOST_NUMBER
 
 -- numbers are offered no further than this above the stable one
 unfoldable pub window : ℕ
-window = 16
+window = WINDOW
 
 -- views go from 0 to this
 unfoldable pub most_view : ℕ
-most_view = 255
+most_view = MOST_VIEW
 
 -- marks are said for each number that is a multiple of this
 unfoldable pub mark_step : ℕ
-mark_step = 8
+mark_step = MARK_STEP
 
 -- the master that leads a view
 abbrev pub leader_of : Group → ℕ → ℕ

@@ -1,4 +1,5 @@
 pub mod Words
+pub mod Parts
 pub mod Group
 pub mod Places
 pub mod Preorder
@@ -11,3 +12,4 @@ pub mod Views
 pub mod Measures
 pub mod Reconcile
 pub mod Master
+pub mod Keys

@@ -1,6 +1,7 @@
--- A correct master: what it knows, what it executes, and what it says at each of its events, from the list of the events
--- alone. What it says joins what it knows at its next event.
-use Rattle.std.specs.Prelude.{ℕ, ◌+◌, ◌-◌, Bool, true, false, ◌&&◌, ◌||◌, not, List, [], ◌∷◌, ◌++◌, Option, Some, None, length, map, max, nat_eq, nat_le, nat_lt, if◌then◌else◌}
+-- A correct master: what it knows, what it executes, and what it says at each of its events, from the list of the
+-- events alone. What it says joins what it knows at its next event.
+use Rattle.std.specs.Prelude.{ℕ, ◌+◌, ◌-◌, Bool, true, false, ◌&&◌, ◌||◌, not, List, [], ◌∷◌, ◌++◌, Option, Some}
+use Rattle.std.specs.Prelude.{None, length, map, max, nat_eq, nat_le, nat_lt, if◌then◌else◌}
 use Rattle.std.specs.List.{list_any, filter_map, flat_map}
 use Rattle.std.specs.Str.{bytes_eq}
 use Rattle.message_types.specs.declared.signed.Signed.{Signed}
@@ -17,10 +18,12 @@ use Rattle.protocol_rules.specs.Group.{Group, most_number, window, leader_of}
 use Rattle.protocol_rules.specs.Preorder.{certified, vector, requests_due, acks_due}
 use Rattle.protocol_rules.specs.Matrix.{latest, latest_frames, reach, exceeds}
 use Rattle.protocol_rules.specs.Facts.{facts_of}
-use Rattle.protocol_rules.specs.Order.{ordered, ordered_run, gapless, stable, marks_for, certificates_below, offered, plan_known, prepares_due, commits_due, marks_due}
+use Rattle.protocol_rules.specs.Order.{ordered, ordered_run, gapless, stable, marks_for, certificates_below, offered}
+use Rattle.protocol_rules.specs.Order.{plan_known, prepares_due, commits_due, marks_due}
 use Rattle.protocol_rules.specs.Execution.{Request, executed_of, waiting_of}
 use Rattle.protocol_rules.specs.Views.{view, is_open, report_due, new_view_due}
-use Rattle.protocol_rules.specs.Measures.{Told, ticks_of, waited, pings_due, pongs_due, round_trips_due, tat_reports_due, tat_bounds_due, suspects_due}
+use Rattle.protocol_rules.specs.Measures.{Told, ticks_of, waited, pings_due, pongs_due, round_trips_due}
+use Rattle.protocol_rules.specs.Measures.{tat_reports_due, tat_bounds_due, suspects_due}
 use Rattle.protocol_rules.specs.Reconcile.{ask_update_due, ask_order_due, gives_due, gives_ordered_due}
 
 -- one event of a master: the frame that it took, if any, whether it was a tick, and the frames that it said
@@ -64,7 +67,8 @@ waiting_for g known = waiting_of g (certified_requests g known) (ordered_run g (
 abbrev pub latest_rows : Group → List (Signed Body) → List (List ℕ)
 latest_rows g known = map (λ j. elim (latest known j) [ None ↦ [] | Some f ↦ f.body.numbers ]) (numbers_below g.n)
 
--- The master waits for its leader: the view isn't open, or its summaries make more eligible than is ordered without a gap.
+-- The master waits for its leader: the view isn't open, or its summaries make more eligible than is ordered without a
+-- gap.
 unfoldable pub waits : Group → List (Signed Body) → Bool
 waits g known = not (is_open g known) || exceeds g (latest_rows g known) (reach g (ordered_run g (facts_of g known)))
 
@@ -78,7 +82,8 @@ told_of g before (e ∷ rest) =
 -- the least number that isn't ordered, where a greater one is
 abbrev pub gap_of : Group → List OrderFact → Option ℕ
 gap_of g facts =
-    if list_any (λ s. nat_lt (gapless g facts + 1) s && is_ordered s) (numbers_from 1 most_number) then Some (gapless g facts + 1) else None
+    if list_any (λ s. nat_lt (gapless g facts + 1) s && is_ordered s) (numbers_from 1 most_number) then Some
+    (gapless g facts + 1) else None
   where
     is_ordered : ℕ → Bool
     is_ordered s = elim (ordered g facts s) [ None ↦ false | Some rows ↦ true ]
@@ -107,19 +112,22 @@ offered_number v word = elim word [ body.PrePrepare b ↦ if nat_eq b.v v then S
 abbrev pub next_number : List Body → ℕ → Plan → ℕ
 next_number said v plan = max (plan.base + length plan.rows) (greatest_of (filter_map (offered_number v) said)) + 1
 
--- the rows of number s that a leader counts as offered: up to the plan's base what is ordered, above it what the view offers
+-- the rows of number s that a leader counts as offered: up to the plan's base what is ordered, above it what the view
+-- offers
 abbrev pub counted_rows : Group → List OrderFact → ℕ → Plan → ℕ → Option (List (List ℕ))
 counted_rows g facts v plan s = if nat_le s plan.base then ordered g facts s else offered facts v s
 
--- At a tick the leader of an open view offers the next number within the window, with all latest summaries, where they make
--- more eligible than what was offered before.
+-- At a tick the leader of an open view offers the next number within the window, with all latest summaries, where they
+-- make more eligible than what was offered before.
 abbrev pub preprepares_due : Group → ℕ → List (Signed Body) → List OrderFact → List Body → Bool → List Body
 preprepares_due g me known facts said at_tick = elim (plan_known facts (view g known)) [
   | None ↦ []
   | Some plan ↦
       let s = next_number said (view g known) plan in
-      if at_tick && nat_eq me (leader_of g (view g known)) && is_open g known && nat_le s most_number && nat_le s (stable g facts + window)
-      && exceeds g (latest_rows g known) (reach g (filter_map (counted_rows g facts (view g known) plan) (numbers_from 1 (s - 1))))
+      if at_tick && nat_eq me (leader_of g (view g known)) && is_open g known && nat_le s most_number
+      && nat_le s (stable g facts + window)
+      && exceeds g (latest_rows g known)
+      (reach g (filter_map (counted_rows g facts (view g known) plan) (numbers_from 1 (s - 1))))
       then body.PrePrepare record { v = view g known; s = s; frames = latest_frames g known } ∷ []
       else []
 ]
@@ -132,16 +140,22 @@ vouchers_said c x word = elim word [ body.Voucher b ↦ nat_eq b.client c && nat
 abbrev pub vouchers_from : List Body → ℕ → ℕ → List Order → List Body
 vouchers_from said c x [] = []
 vouchers_from said c x (order ∷ rest) =
-    (if list_any (vouchers_said c x) said then [] else body.Voucher record { client = c; number = x; order = order } ∷ [])
+    (if list_any (vouchers_said c x) said then [] else body.Voucher record {
+      client = c;
+      number = x;
+      order = order;
+    } ∷ [])
     ++ vouchers_from said c (x + 1) rest
 
 -- the orders of the executed list, client by client
 abbrev pub vouchers_due : Group → (List Update → ℕ → List Order) → List (Signed Body) → List Body → List Body
-vouchers_due g orders known said = flat_map (λ c. vouchers_from said c 1 (orders (executed g known) c)) (numbers_below g.clients)
+vouchers_due g orders known said = flat_map (λ c. vouchers_from said c 1 (orders (executed g known) c))
+    (numbers_below g.clients)
 
--- All that a correct master says at an event where it is free to, in order of kinds. `orders` gives the orders of a client
--- that a list of executed updates makes, by the rules of the plant.
-unfoldable pub answers : Group → (List Update → ℕ → List Order) → ℕ → List Heard → Option (Signed Body) → Bool → List Body
+-- All that a correct master says at an event where it is free to, in order of kinds. `orders` gives the orders of a
+-- client that a list of executed updates makes, by the rules of the plant.
+unfoldable pub answers : Group → (List Update → ℕ → List Order) → ℕ → List Heard →
+    Option (Signed Body) → Bool → List Body
 answers g orders me before took at_tick =
     let known = known_at before took in
     let facts = facts_of g known in

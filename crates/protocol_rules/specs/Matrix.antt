@@ -1,6 +1,7 @@
 -- Summaries, after Prime: of each master the one that tells most, and how far q masters have each originator's
 -- requests certified. (That eligibility takes q rows is this project's own.)
-use Rattle.std.specs.Prelude.{ℕ, Bool, List, [], ◌∷◌, Option, Some, None, length, filter, map, max, nat_eq, nat_lt, nat_le, sum, if◌then◌else◌}
+use Rattle.std.specs.Prelude.{ℕ, Bool, List, [], ◌∷◌, Option, Some, None, length, filter, map, max, nat_eq, nat_lt}
+use Rattle.std.specs.Prelude.{nat_le, sum, if◌then◌else◌}
 use Rattle.std.specs.List.{list_any, find, filter_map, slice_index}
 use Rattle.message_types.specs.declared.signed.Signed.{Signed}
 use Rattle.message_types.specs.declared.preordering.PoSummary.{PoSummary}
@@ -29,9 +30,14 @@ latest known j = best_by tells_more (filter_map (summary_of j) known)
 abbrev pub latest_frames : Group → List (Signed Body) → List (Signed PoSummary)
 latest_frames g known = filter_map (latest known) (numbers_below g.n)
 
--- rows from summaries: at place j the numbers of the one that j signed, an empty row where there is none
+-- a master's row of the rows that summaries make: the numbers of the first that it signed, an empty row where there is
+-- none
+abbrev pub row_of : List (Signed PoSummary) → ℕ → List ℕ
+row_of frames master = elim (find (λ f. nat_eq f.signer master) frames) [ None ↦ [] | Some f ↦ f.body.numbers ]
+
+-- rows from summaries: each master's row at its place
 unfoldable pub rows_of_frames : Group → List (Signed PoSummary) → List (List ℕ)
-rows_of_frames g frames = map (λ j. elim (find (λ f. nat_eq f.signer j) frames) [ None ↦ [] | Some f ↦ f.body.numbers ]) (numbers_below g.n)
+rows_of_frames g frames = map (λ j. row_of frames j) (numbers_below g.n)
 
 -- the j-th numbers of the rows, an empty row counting 0
 abbrev pub column : List (List ℕ) → ℕ → List ℕ
@@ -39,7 +45,8 @@ column rows j = map (λ row. slice_index row j) rows
 
 -- the q-th greatest of the rows' j-th numbers: the greatest of them that q rows reach, 0 where there is none
 unfoldable pub eligible : Group → List (List ℕ) → ℕ → ℕ
-eligible g rows j = greatest_of (filter (λ x. nat_le g.q (length (filter (λ y. nat_le x y) (column rows j)))) (column rows j))
+eligible g rows j = greatest_of
+    (filter (λ x. nat_le g.q (length (filter (λ y. nat_le x y) (column rows j)))) (column rows j))
 
 -- over several rows each place takes the greatest, so that it never falls
 abbrev pub reach : Group → List (List (List ℕ)) → ℕ → ℕ

@@ -1,5 +1,6 @@
 -- What a new view takes over from the views before, after PBFT: the plan of a list of reports.
-use Rattle.std.specs.Prelude.{ℕ, ◌+◌, ◌-◌, Bool, List, [], Option, Some, None, filter, map, nat_eq, nat_lt, ◌&&◌, ◌||◌}
+use Rattle.std.specs.Prelude.{ℕ, ◌+◌, ◌-◌, Bool, List, [], Option, Some, None, filter, map, nat_eq, nat_lt, ◌&&◌}
+use Rattle.std.specs.Prelude.{◌||◌}
 use Rattle.std.specs.List.{flat_map}
 use Rattle.std.specs.Ordering.{is_lt, nat_cmp}
 use Rattle.std.specs.Cmp.Lexicographic.{slice_cmp}
@@ -22,7 +23,8 @@ goes_before a b = nat_lt b.v a.v || (nat_eq a.v b.v && digest_below (digest_of_r
 abbrev pub certificates_of : List Report → List Certificate
 certificates_of reports = flat_map (λ r. r.certificates) reports
 
--- the certificate that the reports bring for a number: of the highest view, in one view of the least digest, else the first
+-- the certificate that the reports bring for a number: of the highest view, in one view of the least digest, else the
+-- first
 unfoldable pub chosen : List Report → ℕ → Option Certificate
 chosen reports s = best_by goes_before (filter (λ c. nat_eq c.s s) (certificates_of reports))
 

@@ -2,7 +2,8 @@
 -- request that it knows for a number, and q acknowledgements certify it. (That the originator's own acknowledgement
 -- counts like any other, and that q are needed, is this project's own.) All over a list of signed words in the
 -- order in which they became known.
-use Rattle.std.specs.Prelude.{ℕ, ◌+◌, Bool, false, ◌&&◌, List, [], ◌∷◌, ◌++◌, Option, Some, None, length, filter, nat_eq, nat_lt, if◌then◌else◌}
+use Rattle.std.specs.Prelude.{ℕ, ◌+◌, Bool, false, ◌&&◌, List, [], ◌∷◌, ◌++◌, Option, Some, None, length, filter}
+use Rattle.std.specs.Prelude.{nat_eq, nat_lt, if◌then◌else◌}
 use Rattle.std.specs.List.{list_any, find, filter_map, flat_map}
 use Rattle.std.specs.Str.{bytes_eq}
 use Rattle.message_types.specs.declared.signed.Signed.{Signed}
@@ -40,7 +41,8 @@ is_acked g known j k digest = has_quorum g.n g.q (λ master. list_any (is_ack j 
 
 -- the update that is certified as (j, k): of those requested as (j, k), the first that came to have a quorum
 unfoldable pub certified : Group → List (Signed Body) → ℕ → ℕ → Option Update
-certified g known j k = first_met (λ beginning. find (λ u. is_acked g beginning j k (digest_of_update u)) (updates_requested beginning j k)) [] known
+certified g known j k = first_met (λ beginning. find (λ u. is_acked g beginning j k (digest_of_update u))
+    (updates_requested beginning j k)) [] known
 
 -- how far the requests of master j are certified without a gap
 unfoldable pub vector : Group → List (Signed Body) → ℕ → ℕ
@@ -60,12 +62,16 @@ requests_said_for c said = length (filter (λ b. nat_eq b.update.body.client c) 
 -- the frame is update t of client c
 abbrev pub update_of : ℕ → ℕ → Signed Body → Option (Signed Update)
 update_of c t f = elim f.body [
-  | body.Update b ↦ if nat_eq b.client c && nat_eq b.t t then Some record { signer = f.signer; body = b; sig = f.sig } else None
+  | body.Update b ↦ if nat_eq b.client c && nat_eq b.t t then Some record {
+    signer = f.signer;
+    body = b;
+    sig = f.sig;
+  } else None
   | _ ↦ None
 ]
 
--- A door's next request for a client: of the update whose t is one more than the requests said for the client, once that
--- update was taken as a frame of its own; its number is one more than the requests said.
+-- A door's next request for a client: of the update whose t is one more than the requests said for the client, once
+-- that update was taken as a frame of its own; its number is one more than the requests said.
 abbrev pub next_request : Group → ℕ → List (Signed Body) → List Body → ℕ → List Body
 next_request g me taken said c =
     if is_door g c me && nat_lt (length (requests_said said)) most_number
@@ -90,8 +96,10 @@ abbrev pub ack_due : List (Signed Body) → List Body → ℕ → ℕ → List B
 ack_due known said j k =
     if list_any (acks j k) said
     then []
-    else (elim (updates_requested known j k) [ [] ↦ [] | u ∷ _ ↦ body.PoAck record { j = j; k = k; digest = digest_of_update u } ∷ [] ])
+    else (elim (updates_requested known j k)
+    [ [] ↦ [] | u ∷ _ ↦ body.PoAck record { j = j; k = k; digest = digest_of_update u } ∷ [] ])
 
 -- all acknowledgements due, by j and then k
 abbrev pub acks_due : Group → List (Signed Body) → List Body → List Body
-acks_due g known said = flat_map (λ j. flat_map (λ k. ack_due known said j k) (numbers_from 1 most_number)) (numbers_below g.n)
+acks_due g known said = flat_map (λ j. flat_map (λ k. ack_due known said j k) (numbers_from 1 most_number))
+    (numbers_below g.n)

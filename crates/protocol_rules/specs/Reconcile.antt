@@ -1,12 +1,15 @@
 -- Reconciliation: what a master lacks and asks for, and what it gives to another that asked. (After Prime's
 -- reconciliation; asking by name, once, at a tick, and giving whole certificates are this project's own.)
-use Rattle.std.specs.Prelude.{ℕ, Bool, false, ◌&&◌, not, List, [], ◌∷◌, Option, Some, None, filter, take, nat_eq, if◌then◌else◌}
+use Rattle.std.specs.Prelude.{ℕ, Bool, false, ◌&&◌, not, List, [], ◌∷◌, Option, Some, None, filter, take, nat_eq}
+use Rattle.std.specs.Prelude.{if◌then◌else◌}
 use Rattle.std.specs.List.{list_any, filter_map, flat_map}
+use Rattle.std.specs.Option.{option_map}
 use Rattle.std.specs.Str.{bytes_eq}
 use Rattle.message_types.specs.declared.signed.Signed.{Signed}
 use Rattle.message_types.specs.declared.preordering.PoAck.{PoAck}
 use Rattle.message_types.specs.declared.preordering.PoRequest.{PoRequest}
 use Rattle.message_types.specs.declared.updates.Update.{Update}
+use Rattle.message_types.specs.declared.reconciling.GiveOrdered.{GiveOrdered}
 use Rattle.message_types.specs.declared.body.Body.{Body}
 use Rattle.message_types.specs.declared.body.Body.TheVariants as body
 use Rattle.message_types.specs.Digests.{digest_of_update, digest_of_rows}
@@ -36,7 +39,8 @@ orders_given s word = elim word [ body.GiveOrdered b ↦ nat_eq b.s s | _ ↦ fa
 abbrev pub ask_update_due : List Body → Bool → Option Request → List Body
 ask_update_due said at_tick None = []
 ask_update_due said at_tick (Some r) =
-    if at_tick && not (list_any (updates_asked r.j r.k) said) then body.AskUpdate record { j = r.j; k = r.k } ∷ [] else []
+    if at_tick && not (list_any (updates_asked r.j r.k) said) then body.AskUpdate record { j = r.j; k = r.k }
+    ∷ [] else []
 
 -- at a tick, once: the least number not ordered, where a greater one is
 abbrev pub ask_order_due : List Body → Bool → Option ℕ → List Body
@@ -72,13 +76,18 @@ abbrev pub quorum_of_acks : Group → List (Signed Body) → ℕ → ℕ → Lis
 quorum_of_acks g known j k digest =
     take g.q (filter_map (λ master. first_of_list (filter_map (ack_of j k digest master) known)) (numbers_below g.n))
 
--- a certified request that another master asked for: the first known request with its update, and a quorum's acknowledgements
+-- a certified request that another master asked for: the first known request with its update, and a quorum's
+-- acknowledgements
 abbrev pub give_due : Group → ℕ → List (Signed Body) → List Body → ℕ → ℕ → List Body
 give_due g me known said j k =
     if list_any (asks_for_update me j k) known && not (list_any (updates_given j k) said)
     then (elim (certified g known j k) [
       | Some u ↦ (elim (first_of_list (filter_map (request_of j k u) known)) [
-        | Some request ↦ body.Give record { request = request; acks = quorum_of_acks g known j k (digest_of_update u) } ∷ []
+        | Some request ↦ body.Give record {
+          request = request;
+          acks =
+              quorum_of_acks g known j k (digest_of_update u);
+        } ∷ []
         | None ↦ []
       ])
       | None ↦ []
@@ -86,20 +95,36 @@ give_due g me known said j k =
     else []
 
 abbrev pub gives_due : Group → ℕ → List (Signed Body) → List Body → List Body
-gives_due g me known said = flat_map (λ j. flat_map (give_due g me known said j) (numbers_from 1 most_number)) (numbers_below g.n)
+gives_due g me known said = flat_map (λ j. flat_map (give_due g me known said j) (numbers_from 1 most_number))
+    (numbers_below g.n)
 
 -- the views in which a quorum committed s with this digest
 abbrev pub committed_views : Group → List OrderFact → ℕ → List ℕ → List ℕ
 committed_views g facts s digest = filter (λ v. is_voted g (commit_by v s digest) facts) (commit_views facts s digest)
 
--- an ordered number that another master asked for, with the commits of the highest view that ordered it
+-- the greatest view in which a quorum committed s with this digest, 0 where there is none
+abbrev pub last_view : Group → List OrderFact → ℕ → List ℕ → ℕ
+last_view g facts s digest = greatest_of (committed_views g facts s digest)
+
+-- the rows as number s, with the commits of a quorum in the greatest view in which one committed them
+abbrev pub whole_order : Group → List OrderFact → ℕ → List (List ℕ) → GiveOrdered
+whole_order g facts s rows = record {
+  s = s;
+  v = last_view g facts s (digest_of_rows rows);
+  rows = rows;
+  commits = quorum_of g (commit_by (last_view g facts s (digest_of_rows rows)) s (digest_of_rows rows)) facts;
+}
+
+-- the whole order of number s, where it is ordered
+abbrev pub given_order : Group → List OrderFact → ℕ → Option GiveOrdered
+given_order g facts s = option_map (whole_order g facts s) (ordered g facts s)
+
+-- an ordered number that another master asked for
 abbrev pub give_ordered_due : Group → ℕ → List (Signed Body) → List OrderFact → List Body → ℕ → List Body
 give_ordered_due g me known facts said s =
     if list_any (asks_for_order me s) known && not (list_any (orders_given s) said)
     then (elim (ordered g facts s) [
-      | Some rows ↦
-          let v = greatest_of (committed_views g facts s (digest_of_rows rows)) in
-          body.GiveOrdered record { s = s; v = v; rows = rows; commits = quorum_of g (commit_by v s (digest_of_rows rows)) facts } ∷ []
+      | Some rows ↦ body.GiveOrdered (whole_order g facts s rows) ∷ []
       | None ↦ []
     ])
     else []

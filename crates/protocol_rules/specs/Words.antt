@@ -1,5 +1,6 @@
 -- Words on lists and numbers that the rules are made of.
-use Rattle.std.specs.Prelude.{ℕ, zero, suc, Bool, List, [], ◌∷◌, ◌++◌, Option, Some, None, max, nat_eq, nat_le, if◌then◌else◌}
+use Rattle.std.specs.Prelude.{ℕ, zero, suc, Bool, List, [], ◌∷◌, ◌++◌, Option, Some, None, max, nat_eq, nat_le}
+use Rattle.std.specs.Prelude.{if◌then◌else◌}
 
 -- the first value, where there is one, else the second
 abbrev pub or_else : {X : Type 0} → Option X → Option X → Option X

@@ -4,5 +4,9 @@
 #![tactic(auto)]
 
 pub mod facts;
+pub mod limits;
+pub mod rows;
 
 pub use facts::OrderFact;
+pub use limits::{MARK_STEP, MOST_BOUND, MOST_NUMBER, MOST_TICKS, MOST_VIEW, WINDOW};
+pub use rows::rows_of;

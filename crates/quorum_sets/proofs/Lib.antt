@@ -1,1 +1,2 @@
 pub mod MastersLemmas
+pub mod Numbered

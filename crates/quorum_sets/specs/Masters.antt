@@ -1,6 +1,7 @@
 -- Sets of masters as rising lists of numbers, and how many of them there are.
 use Rattle.std.specs.Prelude.{ℕ, zero, suc, Bool, ◌||◌, ◌&&◌, List, [], ◌∷◌, ◌++◌, nat_eq, filter}
 use Rattle.std.specs.List.{list_any}
+use Rattle.quorum_sets.specs.declared.limits.TheConstants.{MOST_MASTERS}
 
 -- the numbers below n, rising
 unfoldable pub numbers_below : ℕ → List ℕ
@@ -17,7 +18,7 @@ voters test n = filter test (numbers_below n)
 
 -- the set with one master more
 abbrev pub with_master : List ℕ → ℕ → List ℕ
-with_master masters m = voters (λ x. nat_eq x m || has_master masters x) 14
+with_master masters m = voters (λ x. nat_eq x m || has_master masters x) MOST_MASTERS
 
 -- the masters of both sets that are below n
 abbrev pub shared_masters : List ℕ → List ℕ → ℕ → List ℕ

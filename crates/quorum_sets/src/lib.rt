@@ -1,9 +1,11 @@
-//! The sizes of a group of masters, sets of masters, and why any two quorums meet.
+//! The sizes of a group of masters and their limits, sets of masters, and why any two quorums meet.
 #![tactic(auto)]
 
 pub mod laws;
+pub mod limits;
 pub mod sizes;
 pub mod voters;
 
+pub use limits::{CLIENT_PLACES, MASTER_PLACES, MOST_CLIENTS, MOST_MASTERS};
 pub use sizes::{BadSizes, Sizes};
-pub use voters::{MOST_MASTERS, VoterSet};
+pub use voters::VoterSet;

@@ -5,7 +5,7 @@ use thiserror::Error;
 
 /// The sizes of a group: `f` masters may be intruded and `k` more may be away, `n = 3f + 2k + 1` is their
 /// number and `q = 2f + k + 1` a quorum.
-#[derive(Clone, Copy, Debug)]
+#[derive(Clone, Copy)]
 pub struct Sizes {
     pub n: u32,
     pub f: u32,

@@ -2,24 +2,23 @@ ghost use Rattle.std.specs.Prelude.{◌≡◌, ◌↔◌, ℕ, ◌<◌, ◌≤�
 ghost use Rattle.std.specs.List.{slice_index_or};
 ghost use Rattle.quorum_sets.specs.Masters.{has_master, voters, with_master};
 ghost use Rattle.quorum_sets.specs.Quorum.{IsQuorum};
+ghost use Rattle.quorum_sets.specs.declared.limits.TheConstants.{MOST_MASTERS};
 
+use crate::limits::{MASTER_PLACES, MOST_MASTERS};
 use crate::sizes::Sizes;
-use plain_lists::{Copied, Same, Want};
+use plain_lists::{Copied, Want};
 use std::marker::Model;
-
-/// No group has more masters than this.
-pub const MOST_MASTERS: u32 = 14;
 
 /// A set of masters, seen as the rising list of their numbers. Two votes of one master count once.
 #[derive(Drop)]
 pub struct VoterSet {
-    marked: [bool; 14],
+    marked: [bool; MASTER_PLACES],
 }
 
 impl Model for VoterSet {
     ghost Value = { List ℕ };
 
-    ghost view = { λ set. voters (λ m. slice_index_or set.marked m false) 14 };
+    ghost view = { λ set. voters (λ m. slice_index_or set.marked m false) MOST_MASTERS };
 }
 
 impl VoterSet {
@@ -27,7 +26,7 @@ impl VoterSet {
         ensures { result ≡ [] }
     {
         VoterSet {
-            marked: [false; 14],
+            marked: [false; MASTER_PLACES],
         }
     }
 
@@ -86,16 +85,5 @@ impl Copied for VoterSet {
         Ok(VoterSet {
             marked: self.marked,
         })
-    }
-}
-
-impl Same for VoterSet {
-    fn is_same(&self, other: &Self) -> bool {
-        for master in 0..MOST_MASTERS {
-            if self.marked[master as usize] != other.marked[master as usize] {
-                return false;
-            }
-        }
-        true
     }
 }

@@ -2,3 +2,11 @@ pub mod Order
 pub mod Sets
 pub mod Taken
 pub mod Said
+pub mod Sorted
+pub mod Merge
+pub mod Grid
+pub mod Joined
+pub mod First
+pub mod Keeping
+pub mod Passed
+pub mod Loops

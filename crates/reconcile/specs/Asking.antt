@@ -1,17 +1,23 @@
 -- What others want of a master: what they asked for and it hasn't given.
-use Rattle.std.specs.Prelude.{ℕ, Bool, true, false, ◌&&◌, ◌||◌, not, List, Option, Some, None, is_some, nat_eq, nat_le, nat_lt}
+use Rattle.std.specs.Prelude.{ℕ, Bool, true, false, ◌&&◌, ◌||◌, not, List, Option, Some, None, is_some, nat_eq}
+use Rattle.std.specs.Prelude.{nat_le, nat_lt}
 use Rattle.std.specs.List.{list_any}
 use Rattle.message_types.specs.declared.signed.Signed.{Signed}
 use Rattle.message_types.specs.declared.body.Body.{Body}
 use Rattle.message_types.specs.declared.body.Body.TheVariants as body
 use Rattle.protocol_rules.specs.Group.{Group, most_number}
-use Rattle.protocol_rules.specs.Reconcile.{updates_asked, orders_asked, updates_given, orders_given, asks_for_update, asks_for_order}
+use Rattle.protocol_rules.specs.Reconcile.{updates_asked, orders_asked, updates_given, orders_given, asks_for_update}
+use Rattle.protocol_rules.specs.Reconcile.{asks_for_order}
 use Rattle.reconcile.specs.declared.wanted.Wanted.{Wanted}
 use Rattle.reconcile.specs.declared.wanted.Wanted.TheVariants.{Request, Number}
 
 -- what a body asks for
 abbrev pub wanted_in : Body → Option Wanted
-wanted_in word = elim word [ body.AskUpdate b ↦ Some (Request b.j b.k) | body.AskOrder b ↦ Some (Number b.s) | _ ↦ None ]
+wanted_in word = elim word [
+  | body.AskUpdate b ↦ Some (Request b.j b.k)
+  | body.AskOrder b ↦ Some (Number b.s)
+  | _ ↦ None
+]
 
 -- the body that asks for it
 abbrev pub ask_for : Wanted → Body

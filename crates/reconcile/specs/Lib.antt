@@ -1,2 +1,4 @@
 pub mod Asking
-pub mod Kept
+pub mod AskState
+pub mod GiftState
+pub mod Giving

@@ -1,21 +1,18 @@
 ghost use Rattle.std.specs.Prelude.{◌≡◌, ◌++◌, ◌∷◌, ℕ, Bool, ◌&&◌, not, List, [], Option, Some, None, IsTrue, OnOk, OnErr, IfOk, IfSome, ◌||◌, false, option_map};
-ghost use Rattle.message_types.specs.declared.signed.Signed.{Signed as SignedWord};
 ghost use Rattle.message_types.specs.declared.body.Body.{Body};
 ghost use Rattle.protocol_rules.specs.Group.{Group};
 ghost use Rattle.protocol_rules.specs.Reconcile.{ask_update_due, ask_order_due};
 ghost use Rattle.reconcile.specs.Asking.{gives, is_among, is_place};
-ghost use Rattle.reconcile.specs.Kept.{AreAsksOf, IsListOfWanted, request_at, new_ask, asks_for, is_one, with_one};
+ghost use Rattle.reconcile.specs.AskState.{AreAsksOf, Learns, Says, Where, IsListOfWanted, request_at, new_ask, asks_for, is_one, with_one};
 
 use crate::wanted::{Wanted, asked_in, asking};
 use message_types::Body;
 use plain_lists::Want;
+use protocol_rules::MOST_NUMBER;
 use quorum_sets::Sizes;
 use std::alloc::Global;
 use std::collections::BTreeSet;
 use std::marker::Model;
-
-/// The greatest number of a request and of the global order.
-const MOST_NUMBER: u64 = 4096;
 
 /// What a master asked of others, and what others want of it.
 pub struct Asks {
@@ -42,9 +39,9 @@ impl Drop for Asks {
 }
 
 impl Model for Asks {
-    ghost use Rattle.reconcile.specs.Kept.{Kept};
+    ghost use Rattle.reconcile.specs.AskState.{AskState};
 
-    ghost Value = { Kept };
+    ghost Value = { AskState };
 
     ghost view = { λ a. record { masters = a.sizes.n; me = a.me; wanted = a.wanted.keys; given = a.given.keys; asked = a.asked.keys } };
 }
@@ -66,9 +63,7 @@ impl Asks {
 
     /// Takes the next word known. Only what another master asks for changes anything.
     pub fn take(&mut self, signer: u32, body: &Body) -> Result<(), Want>
-        ensures ok { OnOk result ((g : Group) (me : ℕ) (known : List (SignedWord Body)) (said : List Body) (sig : List ℕ)
-            → AreAsksOf g me self.old known said
-            → AreAsksOf g me self.new (known ++ record { signer = signer; body = body.now; sig = sig } ∷ []) said) }
+        ensures ok { OnOk result ((sig : List ℕ) → Learns self.old self.new record { signer = signer; body = body.now; sig = sig }) }
         ensures err { OnErr result (self.new ≡ self.old) }
     {
         if signer == self.me {
@@ -92,11 +87,9 @@ impl Asks {
         waiting: Option<(u32, u64)>,
         gap: Option<u64>,
     ) -> Result<Vec<Body>, Want>
-        ensures bodies { IfOk result (λ bodies. (g : Group) (me : ℕ) (known : List (SignedWord Body)) (said : List Body)
-            → AreAsksOf g me self.old known said
-            → bodies.items ≡ ask_update_due said at_tick (request_at waiting) ++ ask_order_due said at_tick gap) }
-        ensures counted { IfOk result (λ bodies. (g : Group) (me : ℕ) (known : List (SignedWord Body)) (said : List Body)
-            → AreAsksOf g me self.old known said → AreAsksOf g me self.new known (said ++ bodies.items)) }
+        ensures bodies { IfOk result (λ bodies. Where self.old (λ g me known said.
+            bodies.items ≡ ask_update_due said at_tick (request_at waiting) ++ ask_order_due said at_tick gap)) }
+        ensures counted { IfOk result (λ bodies. Says self.old self.new bodies.items) }
         ensures err { OnErr result (self.new ≡ self.old) }
     {
         let request = self.not_asked(at_tick, wanted_request(waiting));
@@ -111,8 +104,7 @@ impl Asks {
     /// All that others asked for and this master hasn't given: requests by master and then by their numbers,
     /// then global numbers, rising.
     pub fn wanted(&self) -> Result<Vec<Wanted>, Want>
-        ensures { IfOk result (λ list. (g : Group) (me : ℕ) (known : List (SignedWord Body)) (said : List Body)
-            → AreAsksOf g me self.now known said → IsListOfWanted g me known said list.items) }
+        ensures { IfOk result (λ list. Where self.now (λ g me known said. IsListOfWanted g me known said list.items)) }
     {
         let mut list = Vec::with_capacity(self.alloc, self.wanted.len())?;
         for wanted in &self.wanted {
@@ -123,9 +115,7 @@ impl Asks {
 
     /// Is told that the master said a body that gives it.
     pub fn given(&mut self, wanted: &Wanted) -> Result<(), Want>
-        ensures ok { OnOk result ((g : Group) (me : ℕ) (known : List (SignedWord Body)) (said : List Body) (body : Body)
-            → IsTrue (gives wanted.now body)
-            → AreAsksOf g me self.old known said → AreAsksOf g me self.new known (said ++ body ∷ [])) }
+        ensures ok { OnOk result ((body : Body) → IsTrue (gives wanted.now body) → Says self.old self.new (body ∷ [])) }
         ensures err { OnErr result (self.new ≡ self.old) }
     {
         self.given.insert(*wanted)?;

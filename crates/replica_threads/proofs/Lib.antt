@@ -6,3 +6,4 @@ mod Fitting
 mod Texts
 mod Ends
 mod Threads
+mod ActorsCross

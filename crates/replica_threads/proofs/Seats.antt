@@ -1,5 +1,6 @@
 -- The stations of a run, as they are made one after the other.
-use Rattle.std.proofs.Common.{◌≡◌, ℕ, suc, ◌+◌, ◌<◌, true, List, [], ◌∷◌, ◌++◌, length, map, drop, refl, sym, ◌∙◌, ap, subst, arith}
+use Rattle.std.proofs.Common.{◌≡◌, ℕ, suc, ◌+◌, ◌<◌, true, List, [], ◌∷◌, ◌++◌, length, map, drop, refl, sym, ◌∙◌, ap}
+use Rattle.std.proofs.Common.{subst, arith}
 use Rattle.std.specs.Prelude.{Result, Ok, Err, OnOk}
 use Rattle.std.specs.List.{slice_index_or}
 use Rattle.plain_lists.specs.declared.want.Want.{Want}
@@ -19,20 +20,30 @@ abbrev pub lists : List (Vec Input Global) → List (List Input)
 lists inputs = map (λ list. list.items) inputs
 
 -- So many actors have their seats, and the inputs of the others are left.
-pub record AreSeated (name : RunName) (source : Source) (first : Drawer) (made : ℕ) (rest : List (Vec Input Global)) : Type 0 where
+pub record AreSeated (name : RunName) (source : Source) (first : Drawer) (made : ℕ)
+    (rest : List (Vec Input Global)) : Type 0 where
   pub first_is : first ≡ seats_made source made
   pub rest_is : drop made name.inputs ≡ lists rest
   pub all : made + length rest ≡ actors_in name.scenario
 
-pub none_seated : (name : RunName) (source : Source) (first : Drawer) (made : ℕ) (inputs rest : List (Vec Input Global)) → made ≡ 0 → rest ≡ inputs → first ≡ seats_made source 0
+pub none_seated : (name : RunName) (source : Source) (first : Drawer) (made : ℕ)
+    (inputs rest : List (Vec Input Global)) → made ≡ 0 → rest ≡ inputs → first ≡ seats_made source 0
     → lists inputs ≡ name.inputs → AreFit name.scenario name.inputs → AreSeated name source first made rest
 none_seated name source first made inputs rest none same is are fit = record {
   first_is = is ∙ ap (seats_made source) (sym none);
   rest_is = ap (λ (k : ℕ). drop k name.inputs) none ∙ drop_none name.inputs ∙ sym are ∙ ap lists (sym same);
-  all = omega (arith, none, ap length same, length-map inputs (λ (list : Vec Input Global). list.items), ap length are, fit.all);
+  all = omega (
+    arith,
+    none,
+    ap length same,
+    length-map inputs (λ (list : Vec Input Global). list.items),
+    ap length are,
+    fit.all,
+  );
 }
 
-module _ (name : RunName) (source : Source) (first : Drawer) (made : ℕ) (list : Vec Input Global) (was rest : List (Vec Input Global)) (next : was ≡ list ∷ rest)
+module _ (name : RunName) (source : Source) (first : Drawer) (made : ℕ) (list : Vec Input Global)
+    (was rest : List (Vec Input Global)) (next : was ≡ list ∷ rest)
     (so : AreSeated name source first made was) where
   dropped : drop made name.inputs ≡ list.items ∷ lists rest
   dropped = so.rest_is ∙ ap lists next
@@ -44,23 +55,28 @@ module _ (name : RunName) (source : Source) (first : Drawer) (made : ℕ) (list 
   next_inputs = sym (drop_next made name.inputs (lists rest) list.items [] dropped).0
 
   pub next_fit : AreFit name.scenario name.inputs → fit_inputs name.scenario made list.items ≡ true
-  next_fit fit = subst (λ (inputs : List Input). fit_inputs name.scenario made inputs ≡ true) (sym next_inputs) (fit.each made next_there)
+  next_fit fit = subst (λ (inputs : List Input). fit_inputs name.scenario made inputs ≡ true) (sym next_inputs)
+      (fit.each made next_there)
 
-  pub one_seated : (new : Drawer) (now : ℕ) → new ≡ seats_made source (made + 1) → now ≡ made + 1 → AreSeated name source new now rest
+  pub one_seated : (new : Drawer) (now : ℕ) → new ≡ seats_made source (made + 1) → now ≡ made + 1 →
+      AreSeated name source new now rest
   one_seated new now is more = record {
     first_is = is ∙ ap (seats_made source) (sym more);
-    rest_is = (let one : now ≡ suc made = omega (arith, more) in ap (λ (k : ℕ). drop k name.inputs) one ∙ (drop_next made name.inputs (lists rest) list.items [] dropped).1);
+    rest_is = (let one : now ≡ suc made = omega (arith, more) in ap (λ (k : ℕ). drop k name.inputs) one
+        ∙ (drop_next made name.inputs (lists rest) list.items [] dropped).1);
     all = omega (arith, more, so.all, ap length next);
   }
 
-pub all_seated : (name : RunName) (source : Source) (first : Drawer) (made : ℕ) (rest : List (Vec Input Global)) → length rest ≡ 0 → AreSeated name source first made rest
+pub all_seated : (name : RunName) (source : Source) (first : Drawer) (made : ℕ) (rest : List (Vec Input Global)) →
+    length rest ≡ 0 → AreSeated name source first made rest
     → (made ≡ actors_in name.scenario) × (first ≡ seats_made source (actors_in name.scenario))
 all_seated name source first made rest none so =
     let all : made ≡ actors_in name.scenario = omega (arith, none, so.all) in
     (all, so.first_is ∙ ap (seats_made source) all)
 
 -- a seat that was split off from the first one
-pub seat_split : (source : Source) (first seat : Drawer) (actor : ℕ) → first ≡ seats_made source actor → seat ≡ new_seat source first.made
+pub seat_split : (source : Source) (first seat : Drawer) (actor : ℕ) → first ≡ seats_made source actor →
+    seat ≡ new_seat source first.made
     → (seat.number ≡ actor + 1) × (seat.numbers ≡ seat.number ∷ []) × (seat.drawn ≡ [])
 seat_split source first seat actor is split =
     let made : first.made ≡ actor + 1 = ap (λ (d : Drawer). d.made) is in
@@ -71,7 +87,8 @@ seat_split source first seat actor is split =
     )
 
 -- the first seat then counts one more
-pub first_after : (source : Source) (first new : Drawer) (actor : ℕ) → first ≡ seats_made source actor → new ≡ record first { made = first.made + 1 } → new ≡ seats_made source (actor + 1)
+pub first_after : (source : Source) (first new : Drawer) (actor : ℕ) → first ≡ seats_made source actor →
+    new ≡ record first { made = first.made + 1 } → new ≡ seats_made source (actor + 1)
 first_after source first new actor is counted = counted ∙ ap (λ (d : Drawer). record d { made = d.made + 1 }) is
 
 pub ok_after : (P : Type 0) {A : Type 0} (result : Result A Want) → P → OnOk result P

@@ -2,7 +2,7 @@
 use denote.Ref.{NamedLft}
 use denote.Param.Send.{IsSend, IsSync, sendable}
 use Rattle.std.proofs.Crossing.{crosses}
-use Rattle.actor_crossing.proofs.Threads.{scenario_sync}
+use Rattle.replica_threads.proofs.ActorsCross.{scenario_sync}
 use Rattle.checked_frames.proofs.key_ring.KeyRing.TheSendSync as ring
 use Rattle.inboxes.proofs.inbox.Inbox.TheSendSync as inbox
 use Rattle.run_hands.proofs.posted.Posted.TheSendSync as posted
@@ -10,4 +10,13 @@ use Rattle.stamps.proofs.source.Stamps.TheSendSync as stamps
 use Rattle.run_hands.specs.contracts.shared.Shared as Shared
 
 pub shared_sync : (a : NamedLft) → IsSync (Shared.the_row a)
-shared_sync a = search (scenario_sync, ring.the_sync, stamps.the_sync, inbox.the_sync, posted.the_send, posted.the_sync, crosses, sendable) depth 60 fits 20000
+shared_sync a = search (
+  scenario_sync,
+  ring.the_sync,
+  stamps.the_sync,
+  inbox.the_sync,
+  posted.the_send,
+  posted.the_sync,
+  crosses,
+  sendable,
+) depth 60 fits 20000

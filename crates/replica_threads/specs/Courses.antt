@@ -35,8 +35,8 @@ pub record IsCourse (name : RunName) (course : Course) : Type 0 where
   pub turns : course.turns ≡ name.turns
   pub most : course.turns ≤ 4000
 
--- the first seat of some stamps once the seats of so many actors were split off from it: it is one of them itself, and drew
--- nothing
+-- the first seat of some stamps once the seats of so many actors were split off from it: it is one of them itself, and
+-- drew nothing
 abbrev pub seats_made : Source → ℕ → Drawer
 seats_made source actors = record { of = source; number = 0; made = actors + 1; numbers = 0 ∷ []; drawn = [] }
 

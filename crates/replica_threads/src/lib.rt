@@ -3,6 +3,7 @@
 #![tactic(auto)]
 
 mod course;
+pub mod crossing;
 mod finishing;
 mod handing;
 mod job;

@@ -14,7 +14,7 @@ ghost use Rattle.replica_threads.specs.Texts.{CanBePrinted};
 use crate::running::run;
 use ended_runs::laws::runs_are_legal;
 use history_benches::merge;
-use kept_lists::Kept;
+use kept_lists::{Kept, benches_of};
 use plain_lists::Want;
 use printed_run::write_run_of;
 use run_hands::{Gate, PaceGate};
@@ -24,16 +24,6 @@ use std::alloc::Global;
 use std::sync::Wait;
 use std::thread::Threads;
 use world_history::Bench;
-
-fn benches_of(alloc: Global, kept: Vec<Kept>) -> Result<Vec<Bench>, Want>
-    ensures { IfOk result (λ benches. benches.items ≡ map (λ k. k.bench) kept.items) }
-{
-    let mut benches = Vec::with_capacity(alloc, kept.len())?;
-    for actor in kept {
-        benches.push(actor.into_bench())?;
-    }
-    Ok(benches)
-}
 
 /// The text of the history that the benches of all actors merge to. They have each entry once, and nothing is replayed.
 fn text_of_benches(alloc: Global, scenario: &Scenario, benches: &[Bench]) -> Result<Vec<u8>, Want>

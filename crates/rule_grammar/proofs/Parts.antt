@@ -1,7 +1,10 @@
-use Rattle.std.proofs.Common.{◌≡◌, ◌≤◌, ◌+◌, ℕ, zero, suc, List, [], ◌∷◌, ◌++◌, Option, Some, None, refl, sym, ◌∙◌, ap, subst, arith, append_assoc, append-nil, add-one}
+-- What the tokens read so far spell, as the parts of a rule that isn't whole yet: the chains of `or` and `and`,
+-- the `not`s and the open brackets. And how these parts grow into larger rules.
+use Rattle.std.proofs.Common.{◌≡◌, ◌≤◌, ◌+◌, ℕ, zero, suc, List, [], ◌∷◌, ◌++◌, Option, Some, None, refl, sym, ◌∙◌}
+use Rattle.std.proofs.Common.{ap, subst, arith, append_assoc, append-nil, add-one}
 use Rattle.interlocks.specs.declared.token.Token.{Token}
 use Rattle.interlocks.specs.declared.token.Token.TheVariants as token
-use Rattle.interlocks.specs.declared.reader.Frame.{Frame}
+use Rattle.interlocks.specs.declared.reader.Scope.{Scope}
 use Rattle.interlocks.specs.Formula.{Formula, negation, negated}
 use Rattle.interlocks.specs.Part.{Part}
 use Rattle.interlocks.specs.Tokens.{Piece}
@@ -25,7 +28,7 @@ AreNots zero ts = ts ≡ []
 AreNots (suc n) ts = Back token.Not (AreNots n) ts
 
 -- what stands before the present operand, within its brackets
-pub record Before (names : Names) (f : Frame) (ts : List Piece) : Type 0 where
+pub record Before (names : Names) (f : Scope) (ts : List Piece) : Type 0 where
   pub anys : List Piece
   pub alls : List Piece
   pub nots : List Piece
@@ -35,24 +38,36 @@ pub record Before (names : Names) (f : Frame) (ts : List Piece) : Type 0 where
   pub are_nots : AreNots f.nots nots
 
 -- what stands before the present operand, in all brackets
-abbrev pub Opens : Names → List Frame → Frame → List Piece → Type 0
+abbrev pub Opens : Names → List Scope → Scope → List Piece → Type 0
 Opens names [] f ts = Before names f ts
 Opens names (g ∷ gs) f ts = Between token.Open (Opens names gs g) (Before names f) ts
 
 pub weaker : (names : Names) (r s : ℕ) (f : Formula) (ts : List Piece) → r ≤ s → Fits names r f ts → Fits names s f ts
-weaker names r s f ts h x = let low : rank f ≤ r = x.low in record { low = omega arith; grouped = x.grouped; spelled = x.spelled }
+weaker names r s f ts h x = let low : rank f ≤ r = x.low in
+    record { low = omega arith; grouped = x.grouped; spelled = x.spelled }
 
 -- `not`s before a rule
-pub negated-fits : (names : Names) (n : ℕ) (f : Formula) (nots ts : List Piece) → AreNots n nots → Fits names 0 f ts → Fits names 0 (negated n f) (nots ++ ts)
+pub negated-fits : (names : Names) (n : ℕ) (f : Formula) (nots ts : List Piece) → AreNots n nots → Fits names 0 f ts →
+    Fits names 0 (negated n f) (nots ++ ts)
 negated-fits names zero f nots ts h x = subst (λ (us : List Piece). Fits names 0 f (us ++ ts)) (sym h) x
 negated-fits names (suc n) f nots ts h x =
-    let made : Fits names 0 (negation f) (h.word ∷ ts) = record { low = omega arith; grouped = (x.low, x.grouped); spelled = record { word = h.word; rest = ts; all = refl; is_word = h.is_word; spelled = x.spelled } } in
-    let same : h.rest ++ (h.word ∷ ts) ≡ nots ++ ts = sym (append_assoc h.rest (h.word ∷ []) ts) ∙ ap (λ (us : List Piece). us ++ ts) (sym h.all) in
-    subst (λ (us : List Piece). Fits names 0 (negated n (negation f)) us) same (negated-fits names n (negation f) h.rest (h.word ∷ ts) h.spelled made)
+    let made : Fits names 0 (negation f) (h.word ∷ ts) =
+    record {
+      low = omega arith;
+      grouped = (x.low, x.grouped);
+      spelled =
+          record { word = h.word; rest = ts; all = refl; is_word = h.is_word; spelled = x.spelled };
+    } in
+    let same : h.rest ++ (h.word ∷ ts) ≡ nots ++ ts = sym (append_assoc h.rest (h.word ∷ []) ts)
+    ∙ ap (λ (us : List Piece). us ++ ts) (sym h.all) in
+    subst (λ (us : List Piece). Fits names 0 (negated n (negation f)) us) same
+    (negated-fits names n (negation f) h.rest (h.word ∷ ts) h.spelled made)
 
 -- a chain of `and` that one part ends
-pub all-fits : (names : Names) (o : Option Part) (f : Formula) (alls ts : List Piece) → Parts token.And names 1 o alls → Fits names 0 f ts → Fits names 1 (all_tree o f) (alls ++ ts)
-all-fits names None f alls ts h x = subst (λ (us : List Piece). Fits names 1 f (us ++ ts)) (sym h) (weaker names 0 1 f ts (omega arith) x)
+pub all-fits : (names : Names) (o : Option Part) (f : Formula) (alls ts : List Piece) →
+    Parts token.And names 1 o alls → Fits names 0 f ts → Fits names 1 (all_tree o f) (alls ++ ts)
+all-fits names None f alls ts h x = subst (λ (us : List Piece). Fits names 1 f (us ++ ts)) (sym h)
+    (weaker names 0 1 f ts (omega arith) x)
 all-fits names (Some a) f alls ts h x = record {
   low = omega arith;
   grouped = (h.spelled.low, h.spelled.grouped, x.low, x.grouped);
@@ -67,8 +82,10 @@ all-fits names (Some a) f alls ts h x = record {
   };
 }
 
-pub any-fits : (names : Names) (o : Option Part) (f : Formula) (anys ts : List Piece) → Parts token.Or names 2 o anys → Fits names 1 f ts → Fits names 2 (any_tree o f) (anys ++ ts)
-any-fits names None f anys ts h x = subst (λ (us : List Piece). Fits names 2 f (us ++ ts)) (sym h) (weaker names 1 2 f ts (omega arith) x)
+pub any-fits : (names : Names) (o : Option Part) (f : Formula) (anys ts : List Piece) →
+    Parts token.Or names 2 o anys → Fits names 1 f ts → Fits names 2 (any_tree o f) (anys ++ ts)
+any-fits names None f anys ts h x = subst (λ (us : List Piece). Fits names 2 f (us ++ ts)) (sym h)
+    (weaker names 1 2 f ts (omega arith) x)
 any-fits names (Some a) f anys ts h x = record {
   low = omega arith;
   grouped = (h.spelled.low, h.spelled.grouped, x.low, x.grouped);
@@ -84,7 +101,9 @@ any-fits names (Some a) f anys ts h x = record {
 }
 
 -- one token more within the present brackets
-pub opens-more : (names : Names) (gs : List Frame) (f f' : Frame) (t : Piece) (ts : List Piece) → ((us : List Piece) → Before names f us → Before names f' (us ++ t ∷ [])) → Opens names gs f ts → Opens names gs f' (ts ++ t ∷ [])
+pub opens-more : (names : Names) (gs : List Scope) (f f' : Scope) (t : Piece) (ts : List Piece) →
+    ((us : List Piece) → Before names f us → Before names f' (us ++ t ∷ [])) → Opens names gs f ts →
+    Opens names gs f' (ts ++ t ∷ [])
 opens-more names [] f f' t ts more h = more ts h
 opens-more names (g ∷ gs) f f' t ts more h = record {
   left = h.left;
@@ -97,31 +116,45 @@ opens-more names (g ∷ gs) f f' t ts more h = record {
 }
 
 -- one `not` more
-pub before-not : (names : Names) (f : Frame) (t : Piece) → Is token.Not t → (us : List Piece) → Before names f us → Before names (with_nots f (f.nots + 1)) (us ++ t ∷ [])
+pub before-not : (names : Names) (f : Scope) (t : Piece) → Is token.Not t → (us : List Piece) → Before names f us →
+    Before names (with_nots f (f.nots + 1)) (us ++ t ∷ [])
 before-not names f t is us h = record {
   anys = h.anys;
   alls = h.alls;
   nots = h.nots ++ t ∷ [];
-  all = ap (λ (vs : List Piece). vs ++ t ∷ []) h.all ∙ (append_assoc h.anys (h.alls ++ h.nots) (t ∷ []) ∙ ap (λ (vs : List Piece). h.anys ++ vs) (append_assoc h.alls h.nots (t ∷ [])));
+  all = ap (λ (vs : List Piece). vs ++ t ∷ []) h.all
+      ∙ (append_assoc h.anys (h.alls ++ h.nots) (t ∷ []) ∙ ap (λ (vs : List Piece). h.anys ++ vs)
+      (append_assoc h.alls h.nots (t ∷ [])));
   are_anys = h.are_anys;
   are_alls = h.are_alls;
   are_nots = rw (add-one f.nots) (record { rest = h.nots; word = t; all = refl; is_word = is; spelled = h.are_nots });
 }
 
 -- what stands before the `not`s of an operand, and those
-pub record Split (names : Names) (gs : List Frame) (f : Frame) (ts : List Piece) : Type 0 where
+pub record Split (names : Names) (gs : List Scope) (f : Scope) (ts : List Piece) : Type 0 where
   pub before : List Piece
   pub nots : List Piece
   pub all : ts ≡ before ++ nots
   pub opens : Opens names gs (with_nots f 0) before
   pub are_nots : AreNots f.nots nots
 
-pub opens-split : (names : Names) (gs : List Frame) (f : Frame) (ts : List Piece) → Opens names gs f ts → Split names gs f ts
+pub opens-split : (names : Names) (gs : List Scope) (f : Scope) (ts : List Piece) →
+    Opens names gs f ts → Split names gs f ts
 opens-split names [] f ts h = record {
   before = h.anys ++ (h.alls ++ []);
   nots = h.nots;
-  all = h.all ∙ (ap (λ (us : List Piece). h.anys ++ (us ++ h.nots)) (sym (append-nil h.alls)) ∙ sym (append_assoc h.anys (h.alls ++ []) h.nots));
-  opens = record { anys = h.anys; alls = h.alls; nots = []; all = refl; are_anys = h.are_anys; are_alls = h.are_alls; are_nots = refl };
+  all = h.all ∙ (ap (λ (us : List Piece). h.anys ++ (us ++ h.nots)) (sym (append-nil h.alls))
+      ∙ sym (append_assoc h.anys (h.alls ++ []) h.nots));
+  opens = record {
+    anys = h.anys;
+    alls = h.alls;
+    nots = [];
+    all = refl;
+    are_anys = h.are_anys;
+    are_alls =
+        h.are_alls;
+    are_nots = refl;
+  };
   are_nots = h.are_nots;
 }
 opens-split names (g ∷ gs) f ts h =
@@ -129,7 +162,10 @@ opens-split names (g ∷ gs) f ts h =
     record {
       before = h.left ++ h.word ∷ (b.anys ++ (b.alls ++ []));
       nots = b.nots;
-      all = h.all ∙ (ap (λ (us : List Piece). h.left ++ h.word ∷ us) (b.all ∙ (ap (λ (us : List Piece). b.anys ++ (us ++ b.nots)) (sym (append-nil b.alls)) ∙ sym (append_assoc b.anys (b.alls ++ []) b.nots))) ∙ sym (append_assoc h.left (h.word ∷ (b.anys ++ (b.alls ++ []))) b.nots));
+      all = h.all ∙ (ap (λ (us : List Piece). h.left ++ h.word ∷ us)
+          (b.all ∙ (ap (λ (us : List Piece). b.anys ++ (us ++ b.nots)) (sym (append-nil b.alls))
+          ∙ sym (append_assoc b.anys (b.alls ++ []) b.nots)))
+          ∙ sym (append_assoc h.left (h.word ∷ (b.anys ++ (b.alls ++ []))) b.nots));
       opens = record {
         left = h.left;
         word = h.word;
@@ -137,7 +173,16 @@ opens-split names (g ∷ gs) f ts h =
         all = refl;
         is_word = h.is_word;
         is_left = h.is_left;
-        is_right = record { anys = b.anys; alls = b.alls; nots = []; all = refl; are_anys = b.are_anys; are_alls = b.are_alls; are_nots = refl };
+        is_right = record {
+          anys = b.anys;
+          alls = b.alls;
+          nots = [];
+          all = refl;
+          are_anys = b.are_anys;
+          are_alls =
+              b.are_alls;
+          are_nots = refl;
+        };
       };
       are_nots = b.are_nots;
     }

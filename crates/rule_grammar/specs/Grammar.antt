@@ -89,4 +89,5 @@ Spells names (either f g) ts = Between token.Or (Spells names f) (Spells names g
 
 -- what is read from a text is grouped as the grammar does, and the text's tokens spell it
 abbrev pub EachRuleIsSpelled : Type 0
-EachRuleIsSpelled = (names : Names) (text : List ℕ) (f : Formula) → read_rule names text ≡ Ok f → IsGrouped f × Spells names f (pieces text)
+EachRuleIsSpelled = (names : Names) (text : List ℕ) (f : Formula) → read_rule names text ≡ Ok f →
+    IsGrouped f × Spells names f (pieces text)

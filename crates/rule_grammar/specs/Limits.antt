@@ -63,4 +63,5 @@ abbrev mutual
 -- each rule that is grouped as the grammar does, of at most 64 nodes on at most 16 levels, is read from every
 -- text of at most 256 bytes whose tokens spell it
 abbrev pub EachSpelledRuleIsRead : Type 0
-EachSpelledRuleIsRead = (names : Names) (text : List ℕ) (f : Formula) → length text ≤ 256 → IsGrouped f → Spells names f (pieces text) → nodes f ≤ 64 → levels f ≤ 16 → read_rule names text ≡ Ok f
+EachSpelledRuleIsRead = (names : Names) (text : List ℕ) (f : Formula) → length text ≤ 256 → IsGrouped f →
+    Spells names f (pieces text) → nodes f ≤ 64 → levels f ≤ 16 → read_rule names text ≡ Ok f

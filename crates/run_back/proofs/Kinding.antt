@@ -1,9 +1,9 @@
 -- Names of actors, of kinds of bodies and of areas that are written and read again.
-use Rattle.std.proofs.Common.{◌≡◌, ℕ, zero, suc, ◌+◌, ◌-◌, ◌<◌, ◌≤◌, ◌^◌, Bool, true, false, cond, nat_lt, List, [], ◌∷◌, ◌++◌, Some, Ok, map, refl, sym, ◌∙◌, ap, arith}
-use Rattle.std.specs.Prelude.{codes, decimal}
+use Rattle.std.proofs.Common.{◌≡◌, ℕ, zero, suc, ◌+◌, ◌-◌, ◌<◌, ◌≤◌, ◌^◌, Bool, true, false, cond, List, [], ◌∷◌}
+use Rattle.std.proofs.Common.{Some, Ok, map, refl, sym, ◌∙◌, ap, arith}
+use Rattle.std.specs.Prelude.{decimal}
 use Rattle.std.specs.Str.{bytes_eq}
 use Rattle.std.proofs.lemmas.Bool.{false≢true}
-use Rattle.std.proofs.lemmas.Bool.Decides.{nat_tests}
 use Rattle.std.proofs.lemmas.Fmt.{decimal_injective}
 use Rattle.std.proofs.lemmas.Slice.Eq.{bytes_eq-Decides}
 use Rattle.message_types.specs.declared.body.Body.{Body}
@@ -19,7 +19,8 @@ use Rattle.script_grammar.specs.Kinds.{kind_name, kind_named}
 use Rattle.script_grammar.specs.Names.{is_name, there, actor_in}
 use Rattle.run_lines.specs.Names.{kind_of, area_name, area_named}
 use Rattle.run_lines.specs.Reading.{kind_in}
-use Rattle.run_back.proofs.Numerals.{is_one}
+use Rattle.script_grammar.proofs.NamedParts.{Part, master, proxy, screen, part_of}
+use Rattle.script_grammar.proofs.Worded.{is_one}
 
 pub kind_back : (k : Kind) → kind_in (kind_name k) ≡ Ok k
 unfolding kind_named
@@ -47,7 +48,8 @@ kind_back kind.Mark = refl
 
 pub kinds_back : (bodies : List Body) → each kind_in (map (λ b. kind_name (kind_of b)) bodies) ≡ Ok (map kind_of bodies)
 kinds_back [] = refl
-kinds_back (b ∷ bodies) = λ i. said (λ (p : Kind × List Kind). p.0 ∷ p.1) (both (kind_back (kind_of b) i) (kinds_back bodies i))
+kinds_back (b ∷ bodies) =
+    λ i. said (λ (p : Kind × List Kind). p.0 ∷ p.1) (both (kind_back (kind_of b) i) (kinds_back bodies i))
 
 pub area_back : (a : Area) → area_named (area_name a) ≡ Some a
 unfolding area_named
@@ -55,29 +57,6 @@ area_back area.Coil = refl
 area_back area.Discrete = refl
 area_back area.Holding = refl
 area_back area.Input = refl
-
--- Whether an actor is a master, a proxy or a screen, with its name.
-data Part (cast : Cast) (a : ℕ) : Type 0 where
-  master : a < cast.masters → actor_name cast a ≡ 109 ∷ decimal a → Part cast a
-  proxy : cast.masters ≤ a → a < cast.masters + cast.proxies → actor_name cast a ≡ 112 ∷ decimal (a - cast.masters) → Part cast a
-  screen : cast.masters + cast.proxies ≤ a → actor_name cast a ≡ 115 ∷ decimal (a - (cast.masters + cast.proxies)) → Part cast a
-
-part_by : (cast : Cast) (a : ℕ) (m p : Bool) → nat_lt a cast.masters ≡ m → nat_lt a (cast.masters + cast.proxies) ≡ p → Part cast a
-unfolding actor_name
-part_by cast a true p low below =
-    master (grind (arith, nat_tests))
-    (ap (λ (b : Bool). cond b (codes "m" ++ decimal a) (cond (nat_lt a (cast.masters + cast.proxies)) (codes "p" ++ decimal (a - cast.masters)) (codes "s" ++ decimal (a - (cast.masters + cast.proxies))))) low)
-part_by cast a false true low below =
-    proxy (grind (arith, nat_tests)) (grind (arith, nat_tests))
-    (ap (λ (b : Bool). cond b (codes "m" ++ decimal a) (cond (nat_lt a (cast.masters + cast.proxies)) (codes "p" ++ decimal (a - cast.masters)) (codes "s" ++ decimal (a - (cast.masters + cast.proxies))))) low
-    ∙ ap (λ (b : Bool). cond b (codes "p" ++ decimal (a - cast.masters)) (codes "s" ++ decimal (a - (cast.masters + cast.proxies)))) below)
-part_by cast a false false low below =
-    screen (grind (arith, nat_tests))
-    (ap (λ (b : Bool). cond b (codes "m" ++ decimal a) (cond (nat_lt a (cast.masters + cast.proxies)) (codes "p" ++ decimal (a - cast.masters)) (codes "s" ++ decimal (a - (cast.masters + cast.proxies))))) low
-    ∙ ap (λ (b : Bool). cond b (codes "p" ++ decimal (a - cast.masters)) (codes "s" ++ decimal (a - (cast.masters + cast.proxies)))) below)
-
-part_of : (cast : Cast) (a : ℕ) → Part cast a
-part_of cast a = part_by cast a (nat_lt a cast.masters) (nat_lt a (cast.masters + cast.proxies)) refl refl
 
 head_of : List ℕ → ℕ
 head_of [] = 0
@@ -91,56 +70,76 @@ digits_same : (a b m n : ℕ) → m < 2 ^ 64 → n < 2 ^ 64 → a ∷ decimal m 
 unfolding tail_of
 digits_same a b m n few many same = decimal_injective m n few many (ap tail_of same)
 
-names_apart : (cast : Cast) (a b : ℕ) → a < 2 ^ 64 → b < 2 ^ 64 → Part cast a → Part cast b → actor_name cast a ≡ actor_name cast b → a ≡ b
+names_apart : (cast : Cast) (a b : ℕ) → a < 2 ^ 64 → b < 2 ^ 64 → Part cast a → Part cast b →
+    actor_name cast a ≡ actor_name cast b → a ≡ b
 unfolding head_of
-names_apart cast a b few many (master low named) (master below called) same = digits_same 109 109 a b few many (sym named ∙ same ∙ called)
-names_apart cast a b few many (master low named) (proxy over below called) same = let apart : ◌≡◌ {A = ℕ} 109 112 = ap head_of (sym named ∙ same ∙ called) in omega (arith, apart)
-names_apart cast a b few many (master low named) (screen over called) same = let apart : ◌≡◌ {A = ℕ} 109 115 = ap head_of (sym named ∙ same ∙ called) in omega (arith, apart)
-names_apart cast a b few many (proxy above low named) (master below called) same = let apart : ◌≡◌ {A = ℕ} 112 109 = ap head_of (sym named ∙ same ∙ called) in omega (arith, apart)
+names_apart cast a b few many (master low named) (master below called) same =
+    digits_same 109 109 a b few many (sym named ∙ same ∙ called)
+names_apart cast a b few many (master low named) (proxy over below called) same = let apart : ◌≡◌ {A = ℕ} 109 112 =
+    ap head_of (sym named ∙ same ∙ called) in omega (arith, apart)
+names_apart cast a b few many (master low named) (screen over called) same = let apart : ◌≡◌ {A = ℕ} 109 115 =
+    ap head_of (sym named ∙ same ∙ called) in omega (arith, apart)
+names_apart cast a b few many (proxy above low named) (master below called) same = let apart : ◌≡◌ {A = ℕ} 112 109 =
+    ap head_of (sym named ∙ same ∙ called) in omega (arith, apart)
 names_apart cast a b few many (proxy above low named) (proxy over below called) same =
-    let is : a - cast.masters ≡ b - cast.masters = digits_same 112 112 (a - cast.masters) (b - cast.masters) (omega arith) (omega arith) (sym named ∙ same ∙ called) in omega arith
-names_apart cast a b few many (proxy above low named) (screen over called) same = let apart : ◌≡◌ {A = ℕ} 112 115 = ap head_of (sym named ∙ same ∙ called) in omega (arith, apart)
-names_apart cast a b few many (screen above named) (master below called) same = let apart : ◌≡◌ {A = ℕ} 115 109 = ap head_of (sym named ∙ same ∙ called) in omega (arith, apart)
-names_apart cast a b few many (screen above named) (proxy over below called) same = let apart : ◌≡◌ {A = ℕ} 115 112 = ap head_of (sym named ∙ same ∙ called) in omega (arith, apart)
+    let is : a - cast.masters ≡ b - cast.masters = digits_same 112 112 (a - cast.masters) (b - cast.masters)
+    (omega arith) (omega arith) (sym named ∙ same ∙ called) in omega arith
+names_apart cast a b few many (proxy above low named) (screen over called) same = let apart : ◌≡◌ {A = ℕ} 112 115 =
+    ap head_of (sym named ∙ same ∙ called) in omega (arith, apart)
+names_apart cast a b few many (screen above named) (master below called) same = let apart : ◌≡◌ {A = ℕ} 115 109 =
+    ap head_of (sym named ∙ same ∙ called) in omega (arith, apart)
+names_apart cast a b few many (screen above named) (proxy over below called) same = let apart : ◌≡◌ {A = ℕ} 115 112 =
+    ap head_of (sym named ∙ same ∙ called) in omega (arith, apart)
 names_apart cast a b few many (screen above named) (screen over called) same =
-    let is : a - (cast.masters + cast.proxies) ≡ b - (cast.masters + cast.proxies) = digits_same 115 115 (a - (cast.masters + cast.proxies)) (b - (cast.masters + cast.proxies)) (omega arith) (omega arith) (sym named ∙ same ∙ called) in
+    let is : a - (cast.masters + cast.proxies) ≡ b - (cast.masters + cast.proxies) =
+    digits_same 115 115 (a - (cast.masters + cast.proxies)) (b - (cast.masters + cast.proxies)) (omega arith)
+    (omega arith) (sym named ∙ same ∙ called) in
     omega arith
 
 above : (m k : ℕ) → m ≤ k → (m ≡ k → ⊥) → suc m ≤ k
 above m k least apart = grind (arith, apart)
 
-first_step : (p : ℕ → Bool) (first n a : ℕ) → first ≤ a → a < first + suc n → p a ≡ true → ((x : ℕ) → p x ≡ true → x < first + suc n → x ≡ a)
+first_step : (p : ℕ → Bool) (first n a : ℕ) → first ≤ a → a < first + suc n → p a ≡ true →
+    ((x : ℕ) → p x ≡ true → x < first + suc n → x ≡ a)
     → (suc first ≤ a → first_that p (suc first) n ≡ Some a) → first_that p first (suc n) ≡ Some a
 first_step p first n a low high is only later = by (p first) refl
   where
     by : (b : Bool) → p first ≡ b → first_that p first (suc n) ≡ Some a
-    by true here = ap (λ b. cond b (Some first) (first_that p (suc first) n)) here ∙ ap (λ (x : ℕ). Some x) (only first here (omega arith))
+    by true here = ap (λ b. cond b (Some first) (first_that p (suc first) n)) here
+        ∙ ap (λ (x : ℕ). Some x) (only first here (omega arith))
     by false here =
         ap (λ b. cond b (Some first) (first_that p (suc first) n)) here
         ∙ later (above first a low (λ (same : first ≡ a). false≢true (sym here ∙ ap p same ∙ is)))
 
 -- the first number that passes, where only one does
-first_of_one : (p : ℕ → Bool) (first n a : ℕ) → first ≤ a → a < first + n → p a ≡ true → ((x : ℕ) → p x ≡ true → x < first + n → x ≡ a) → first_that p first n ≡ Some a
+first_of_one : (p : ℕ → Bool) (first n a : ℕ) → first ≤ a → a < first + n → p a ≡ true →
+    ((x : ℕ) → p x ≡ true → x < first + n → x ≡ a) → first_that p first n ≡ Some a
 first_of_one p first zero a low high is only = absurd (omega arith)
 first_of_one p first (suc n) a low high is only =
-    first_step p first n a low high is only (λ past. first_of_one p (suc first) n a past (omega arith) is (λ x passes below. only x passes (omega arith)))
+    first_step p first n a low high is only
+    (λ past. first_of_one p (suc first) n a past (omega arith) is (λ x passes below. only x passes (omega arith)))
 
-named_so : (cast : Cast) (a : ℕ) → a < actors_of cast → actors_of cast < 2 ^ 64 → actor_named cast (actor_name cast a) ≡ Some a
+named_so : (cast : Cast) (a : ℕ) → a < actors_of cast → actors_of cast < 2 ^ 64 →
+    actor_named cast (actor_name cast a) ≡ Some a
 unfolding actor_named
 named_so cast a below few =
-    first_of_one (λ x. bytes_eq (actor_name cast x) (actor_name cast a)) 0 (actors_of cast) a (omega arith) (omega arith)
+    first_of_one (λ x. bytes_eq (actor_name cast x) (actor_name cast a)) 0 (actors_of cast)
+    a (omega arith) (omega arith)
     ((bytes_eq-Decides (actor_name cast a) (actor_name cast a)).1 refl)
-    (λ x passes under. names_apart cast x a (omega arith) (omega arith) (part_of cast x) (part_of cast a) ((bytes_eq-Decides (actor_name cast x) (actor_name cast a)).0 passes))
+    (λ x passes under. names_apart cast x a (omega arith) (omega arith) (part_of cast x) (part_of cast a)
+    ((bytes_eq-Decides (actor_name cast x) (actor_name cast a)).0 passes))
 
 is_name_of : (cast : Cast) (a : ℕ) → a < 2 ^ 64 → Part cast a → is_name (actor_name cast a) ≡ true
 is_name_of cast a few (master low named) = ap is_name named ∙ is_one a few
 is_name_of cast a few (proxy above low named) = ap is_name named ∙ is_one (a - cast.masters) (omega arith)
 is_name_of cast a few (screen above named) = ap is_name named ∙ is_one (a - (cast.masters + cast.proxies)) (omega arith)
 
-pub actor_back : (cast : Cast) (a : ℕ) → a < actors_of cast → actors_of cast < 2 ^ 64 → actor_in cast (actor_name cast a) ≡ Ok a
+pub actor_back : (cast : Cast) (a : ℕ) → a < actors_of cast → actors_of cast < 2 ^ 64 →
+    actor_in cast (actor_name cast a) ≡ Ok a
 unfolding actor_in
 actor_back cast a below few =
-    ap (λ b. cond b (there (actor_named cast (actor_name cast a))) bad) (is_name_of cast a (omega arith) (part_of cast a))
+    ap (λ b. cond b (there (actor_named cast (actor_name cast a))) bad)
+    (is_name_of cast a (omega arith) (part_of cast a))
     ∙ ap there (named_so cast a below few)
 
 -- the letter and the number of an actor's name
@@ -153,9 +152,25 @@ pub record NamedBy (cast : Cast) (a : ℕ) : Type 0 where
   pub name : actor_name cast a ≡ letter ∷ decimal number
 
 named_by : (cast : Cast) (a : ℕ) → a < 2 ^ 64 → Part cast a → NamedBy cast a
-named_by cast a few (master low named) = record { letter = 109; number = a; above = omega arith; below = omega arith; few = few; name = named }
-named_by cast a few (proxy above low named) = record { letter = 112; number = a - cast.masters; above = omega arith; below = omega arith; few = omega arith; name = named }
-named_by cast a few (screen above named) = record { letter = 115; number = a - (cast.masters + cast.proxies); above = omega arith; below = omega arith; few = omega arith; name = named }
+named_by cast a few (master low named) =
+    record { letter = 109; number = a; above = omega arith; below = omega arith; few = few; name = named }
+named_by cast a few (proxy above low named) = record {
+  letter = 112;
+  number = a - cast.masters;
+  above = omega arith;
+  below = omega arith;
+  few = omega arith;
+  name = named;
+}
+named_by cast a few (screen above named) = record {
+  letter = 115;
+  number = a - (cast.masters + cast.proxies);
+  above =
+      omega arith;
+  below = omega arith;
+  few = omega arith;
+  name = named;
+}
 
 pub name_of : (cast : Cast) (a : ℕ) → a < 2 ^ 64 → NamedBy cast a
 name_of cast a few = named_by cast a few (part_of cast a)

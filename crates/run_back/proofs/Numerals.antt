@@ -1,52 +1,25 @@
 -- Numbers and bytes that are written and read again.
-use Rattle.std.proofs.Common.{◌≡◌, ℕ, ℤ, pos, negsuc, zero, suc, ◌*◌, ◌<◌, ◌≤◌, ◌^◌, Bool, true, false, cond, not, nat_le, List, [], ◌∷◌, Ok, length, get_or, refl, ◌∙◌, ap, arith}
+use Rattle.std.proofs.Common.{◌≡◌, ℕ, ℤ, pos, negsuc, suc, ◌*◌, ◌<◌, ◌≤◌, ◌^◌, true, false, cond, List, [], ◌∷◌, Ok}
+use Rattle.std.proofs.Common.{length, get_or, refl, ◌∙◌, ap, arith}
 use Rattle.std.specs.Prelude.{codes, decimal, FitsSigned, neg_ℤ}
 use Rattle.std.specs.Fmt.{signed_decimal}
 use Rattle.std.specs.Int.{w64}
 use Rattle.std.specs.List.{list_all}
 use Rattle.std.specs.Char.{is_ascii_digit}
 use Rattle.std.specs.Str.{bytes_eq}
-use Rattle.std.specs.Str.Parse.{digits_value}
-use Rattle.std.proofs.lemmas.Bool.{and_parts, and_from, ne_eqb, le-leb, false_from_ne_true}
-use Rattle.std.proofs.lemmas.Fmt.{digits_decimal, digits_value-decimal, decimal_nonempty, first_decimal, decimal_digit}
+use Rattle.std.proofs.lemmas.Bool.{and_parts, false_from_ne_true}
+use Rattle.std.proofs.lemmas.Fmt.{decimal_nonempty}
 use Rattle.std.proofs.lemmas.Slice.Eq.{bytes_eq-Decides}
 use Rattle.hex.specs.Hex.{encode_lower, decode_of, lower_digits}
 use Rattle.hex.proofs.HexLemmas.{decode_of-encode_lower, length-encode_with}
-use Rattle.script_grammar.specs.Faults.{Answer, bad, said}
-use Rattle.script_grammar.specs.Numbers.{starts_as_number, is_numeral, within, number_in, wide_in, narrow_in, short_in, signed_in}
-use Rattle.script_grammar.proofs.NumberLaws.{own, signed_plain}
+use Rattle.script_grammar.specs.Faults.{said}
+use Rattle.script_grammar.specs.Numbers.{number_in, wide_in, narrow_in, short_in, signed_in, hex_bytes, bytes_in}
+use Rattle.script_grammar.proofs.NumberLaws.{signed_plain}
+use Rattle.script_grammar.proofs.Worded.{number_between, digits_all}
 use Rattle.run_lines.specs.Texts.{hex_text}
-use Rattle.run_lines.specs.Reading.{hex_bytes, bytes_in}
-
-starts : (ds : List ℕ) → 0 < length ds → (1 < length ds → 48 < get_or ds 0 0) → starts_as_number ds ≡ true
-starts [] some high = absurd (omega arith)
-starts (d ∷ []) some high = refl
-starts (d ∷ e ∷ ds) some high =
-    let more : 48 < d = high (omega arith) in
-    ap not (ne_eqb d 48 (λ (is : d ≡ 48). omega arith))
-
-starts_as_one : (n : ℕ) → n < 2 ^ 64 → starts_as_number (decimal n) ≡ true
-starts_as_one zero small = ap starts_as_number (decimal_digit 0 (omega arith))
-starts_as_one (suc n) small = starts (decimal (suc n)) (decimal_nonempty (suc n) small) (λ many. first_decimal (suc n) (omega arith) small)
-
-pub digits_all : (n : ℕ) → n < 2 ^ 64 → list_all is_ascii_digit (decimal n) ≡ true
-digits_all n small = digits_decimal own n small
-
-pub is_one : (n : ℕ) → n < 2 ^ 64 → is_numeral (decimal n) ≡ true
-is_one n small = and_from (starts_as_number (decimal n)) (list_all is_ascii_digit (decimal n)) (starts_as_one n small) (digits_all n small)
-
-pub value_is : (n : ℕ) → n < 2 ^ 64 → digits_value 10 (decimal n) ≡ n
-value_is n small = digits_value-decimal own n small
-
-ranged : ℕ → Bool → Answer ℕ
-ranged n b = cond b (Ok n) bad
 
 pub number_back : (most n : ℕ) → n ≤ most → n < 2 ^ 64 → number_in 0 most (decimal n) ≡ Ok n
-unfolding number_in ranged
-number_back most n low small =
-    ap (λ b. cond b (within 0 most (digits_value 10 (decimal n))) bad) (is_one n small)
-    ∙ ap (within 0 most) (value_is n small)
-    ∙ ap (ranged n) (and_from (nat_le 0 n) (nat_le n most) (le-leb 0 n (omega arith)) (le-leb n most low))
+number_back most n low small = number_between 0 most n (omega arith) low small
 
 pub wide_back : (n : ℕ) → n < 2 ^ 64 → wide_in (decimal n) ≡ Ok n
 wide_back n small = number_back 18446744073709551615 n (omega arith) small
@@ -57,7 +30,8 @@ narrow_back n small = number_back 4294967295 n (omega arith) (omega arith)
 pub short_back : (n : ℕ) → n < 2 ^ 16 → short_in (decimal n) ≡ Ok n
 short_back n small = number_back 65535 n (omega arith) (omega arith)
 
-first_digit : (ds : List ℕ) → 0 < length ds → list_all is_ascii_digit ds ≡ true → (48 ≤ get_or ds 0 0) × (get_or ds 0 0 ≤ 57)
+first_digit : (ds : List ℕ) → 0 < length ds → list_all is_ascii_digit ds ≡ true →
+    (48 ≤ get_or ds 0 0) × (get_or ds 0 0 ≤ 57)
 first_digit [] some all = absurd (omega arith)
 first_digit (d ∷ ds) some all =
     let digit = and_parts (is_ascii_digit d) (list_all is_ascii_digit ds) all in

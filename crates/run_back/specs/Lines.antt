@@ -31,7 +31,12 @@ event_line told Restart = line.Restart
 
 -- what the line of an entry says
 abbrev pub line_read : Bool → Entry → EntryLine
-line_read told e = record { stamp = e.stamp; actor = Some e.actor; event = event_line told e.event; kinds = map kind_of e.said }
+line_read told e = record {
+  stamp = e.stamp;
+  actor = Some e.actor;
+  event = event_line told e.event;
+  kinds = map kind_of e.said;
+}
 
 -- The numbers and bytes that the line of an event has are within the program's types.
 abbrev pub IsWritable : Bool → Event → Type 0
@@ -53,4 +58,5 @@ pub record IsPrintable (cast : Cast) (told : Bool) (e : Entry) : Type 0 where
 
 -- Whole lines, none of which tells how many entries follow, are passed over.
 abbrev pub IsPassed : List ℕ → Type 0
-IsPassed text = (cast : Cast) (number : ℕ) (rest : List ℕ) → (more : ℕ) × (after_heads cast number (pieces (text ++ rest)) ≡ after_heads cast more (pieces rest))
+IsPassed text = (cast : Cast) (number : ℕ) (rest : List ℕ) →
+    (more : ℕ) × (after_heads cast number (pieces (text ++ rest)) ≡ after_heads cast more (pieces rest))

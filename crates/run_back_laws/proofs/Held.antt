@@ -1,5 +1,6 @@
 -- The entries of a legal history that the program can hold can be printed.
-use Rattle.std.proofs.Common.{◌≡◌, ℕ, ◌+◌, ◌<◌, ◌^◌, Bool, true, false, List, [], ◌∷◌, ◌++◌, length, append_assoc, sym, ◌∙◌, ap, subst, arith}
+use Rattle.std.proofs.Common.{◌≡◌, ℕ, ◌+◌, ◌<◌, ◌^◌, Bool, true, false, List, [], ◌∷◌, ◌++◌, length, append_assoc}
+use Rattle.std.proofs.Common.{sym, ◌∙◌, ap, subst, arith}
 use Rattle.std.specs.List.{All}
 use Rattle.std.proofs.lemmas.List.{length-append}
 use Rattle.std.proofs.lemmas.List.Elements.{All-nil, All-cons, All-head, All-tail, All-weaker}
@@ -29,11 +30,14 @@ can_be_told told (Cry them) fits bytes = bytes
 can_be_told told Skip fits bytes = tt
 can_be_told told Restart fits bytes = tt
 
-pub held_can_be_told : (w : Setup) (history entries : List Entry) → All IsHeld entries → All (λ e. CanBeTold (is_said w history e.event) e.event) entries
+pub held_can_be_told : (w : Setup) (history entries : List Entry) → All IsHeld entries →
+    All (λ e. CanBeTold (is_said w history e.event) e.event) entries
 held_can_be_told w history entries held =
-    All-weaker IsHeld (λ e. CanBeTold (is_said w history e.event) e.event) (λ e one. can_be_told (is_said w history e.event) e.event one.fits.1 one.bytes) entries held
+    All-weaker IsHeld (λ e. CanBeTold (is_said w history e.event) e.event)
+    (λ e one. can_be_told (is_said w history e.event) e.event one.fits.1 one.bytes) entries held
 
-writable : (w : Setup) (now : ℕ) (told : Bool) (event : Event) → now < 2 ^ 64 → TakesWell w now event → CanBeTold told event → IsWritable told event
+writable : (w : Setup) (now : ℕ) (told : Bool) (event : Event) → now < 2 ^ 64 → TakesWell w now event →
+    CanBeTold told event → IsWritable told event
 writable w now true (Took stamp place frame) few takes can = (omega (arith, few, takes.1), can)
 writable w now false (Took stamp place frame) few takes can = can.1
 writable w now told Tick few takes can = tt
@@ -45,9 +49,11 @@ writable w now told Skip few takes can = tt
 writable w now told Restart few takes can = tt
 
 -- the actors of a scenario's group and plant are those of its cast
-there : (c : Contents) (actor : ℕ) → actor < (setup_of c).group.n + (setup_of c).group.clients → actor < actors_of (cast_in c)
+there : (c : Contents) (actor : ℕ) → actor < (setup_of c).group.n + (setup_of c).group.clients →
+    actor < actors_of (cast_in c)
 there c actor below =
-    let its : actor < (group_in c).n + (group_in c).clients = subst (λ (g : Group). actor < g.n + g.clients) (group_is c) below in
+    let its : actor < (group_in c).n + (group_in c).clients =
+    subst (λ (g : Group). actor < g.n + g.clients) (group_is c) below in
     omega (arith, its)
 
 -- there are few
@@ -59,7 +65,8 @@ few_actors c is =
     let screens = is.at_most_four_screens in
     omega (arith, some, away, proxies, screens)
 
-printable : (c : Contents) (history before : List Entry) (e : Entry) → IsLegalEntry (setup_of c) before e → length before < 2 ^ 64 → CanBeTold (is_said (setup_of c) history e.event) e.event
+printable : (c : Contents) (history before : List Entry) (e : Entry) → IsLegalEntry (setup_of c) before e →
+    length before < 2 ^ 64 → CanBeTold (is_said (setup_of c) history e.event) e.event
     → IsPrintable (cast_in c) (is_said (setup_of c) history e.event) e
 printable c history before e legal few can = record {
   wide = subst (λ (n : ℕ). n < 2 ^ 64) (sym legal.stamp) few;
@@ -67,12 +74,17 @@ printable c history before e legal few can = record {
   event = writable (setup_of c) (length before) (is_said (setup_of c) history e.event) e.event few legal.taken can;
 }
 
-pub all_printable : (c : Contents) (history before rest : List Entry) → IsLegal (setup_of c) history → length history < 2 ^ 32 → history ≡ before ++ rest
-    → All (λ e. CanBeTold (is_said (setup_of c) history e.event) e.event) rest → All (λ e. IsPrintable (cast_in c) (is_said (setup_of c) history e.event) e) rest
-all_printable c history before [] legal short whole can = All-nil (λ e. IsPrintable (cast_in c) (is_said (setup_of c) history e.event) e)
+pub all_printable : (c : Contents) (history before rest : List Entry) → IsLegal (setup_of c) history →
+    length history < 2 ^ 32 → history ≡ before ++ rest
+    → All (λ e. CanBeTold (is_said (setup_of c) history e.event) e.event) rest →
+    All (λ e. IsPrintable (cast_in c) (is_said (setup_of c) history e.event) e) rest
+all_printable c history before [] legal short whole can =
+    All-nil (λ e. IsPrintable (cast_in c) (is_said (setup_of c) history e.event) e)
 all_printable c history before (e ∷ rest) legal short whole can =
     let long : length history ≡ length before + length (e ∷ rest) = ap length whole ∙ length-append before (e ∷ rest) in
     let told : Entry → Type 0 = λ x. CanBeTold (is_said (setup_of c) history x.event) x.event in
     All-cons (λ x. IsPrintable (cast_in c) (is_said (setup_of c) history x.event) x) e rest
-    (printable c history before e (legal.entries before e (record { after = rest; whole = whole })) (omega (arith, long, short)) (All-head told e rest can))
-    (all_printable c history (before ++ e ∷ []) rest legal short (whole ∙ sym (append_assoc before (e ∷ []) rest)) (All-tail told e rest can))
+    (printable c history before e (legal.entries before e (record { after = rest; whole = whole }))
+    (omega (arith, long, short)) (All-head told e rest can))
+    (all_printable c history (before ++ e ∷ []) rest legal short (whole ∙ sym (append_assoc before (e ∷ []) rest))
+    (All-tail told e rest can))

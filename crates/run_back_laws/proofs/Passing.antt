@@ -11,10 +11,12 @@ use Rattle.world_rules.specs.Headline.{agrees}
 use Rattle.world_rules.specs.Scenarios.{setup_of, masters_in, proxies_in}
 use Rattle.history_benches.specs.Benches.{actors_in}
 use Rattle.run_lines.specs.Texts.{intruded_text, master_text, proxy_text, screen_text, audit_text, agree_text}
-use Rattle.printed_run.specs.Printed.{cast_in, writes_of, notices_of, master_lines, client_lines, actor_lines, actors_text, totals_text}
+use Rattle.printed_run.specs.Printed.{cast_in, writes_of, notices_of, master_lines, client_lines, actor_lines}
+use Rattle.printed_run.specs.Printed.{actors_text, totals_text}
 use Rattle.run_back.specs.Lines.{IsPassed}
 use Rattle.run_back.proofs.Heading.{both_passed, each_passed}
-use Rattle.run_back.proofs.Heads.{intruded_passed, master_passed, proxy_passed, screen_passed, audit_passed, agree_passed}
+use Rattle.run_back.proofs.Heads.{intruded_passed, master_passed, proxy_passed, screen_passed, audit_passed}
+use Rattle.run_back.proofs.Heads.{agree_passed}
 
 either_passed : (b : Bool) (one other : List ℕ) → IsPassed one → IsPassed other → IsPassed (cond b one other)
 either_passed true one other first second = first
@@ -24,27 +26,35 @@ master_is_passed : (c : Contents) (master : ℕ) (list : List Entry) → IsPasse
 unfolding master_lines
 master_is_passed c master list =
     either_passed (has_master c.settings.intruded master) (intruded_text (cast_in c) master)
-    (master_text (cast_in c) master (view_in (setup_of c) master list) (executions_in (setup_of c) master list) (is_halted (setup_of c) master list))
+    (master_text (cast_in c) master (view_in (setup_of c) master list) (executions_in (setup_of c) master list)
+    (is_halted (setup_of c) master list))
     (intruded_passed (cast_in c) master)
-    (master_passed (cast_in c) master (view_in (setup_of c) master list) (executions_in (setup_of c) master list) (is_halted (setup_of c) master list))
+    (master_passed (cast_in c) master (view_in (setup_of c) master list) (executions_in (setup_of c) master list)
+    (is_halted (setup_of c) master list))
 
 client_is_passed : (c : Contents) (actor : ℕ) (list : List Entry) → IsPassed (client_lines c actor list)
 unfolding client_lines
 client_is_passed c actor list =
     let client : ℕ = actor - masters_in c in
-    either_passed (nat_lt client (proxies_in c)) (proxy_text (cast_in c) actor (writes_of c client list) (is_halted (setup_of c) actor list))
+    either_passed (nat_lt client (proxies_in c))
+    (proxy_text (cast_in c) actor (writes_of c client list) (is_halted (setup_of c) actor list))
     (screen_text (cast_in c) actor (notices_of c client list) (is_halted (setup_of c) actor list))
     (proxy_passed (cast_in c) actor (writes_of c client list) (is_halted (setup_of c) actor list))
     (screen_passed (cast_in c) actor (notices_of c client list) (is_halted (setup_of c) actor list))
 
 actor_is_passed : (c : Contents) (actor : ℕ) (list : List Entry) → IsPassed (actor_lines c actor list)
 actor_is_passed c actor list =
-    either_passed (nat_lt actor (masters_in c)) (master_lines c actor list) (client_lines c actor list) (master_is_passed c actor list) (client_is_passed c actor list)
+    either_passed (nat_lt actor (masters_in c)) (master_lines c actor list) (client_lines c actor list)
+    (master_is_passed c actor list) (client_is_passed c actor list)
 
-pub heads_are_passed : (c : Contents) (history : List Entry) → IsPassed (actors_text c history ++ totals_text (setup_of c) history)
+pub heads_are_passed : (c : Contents) (history : List Entry) →
+    IsPassed (actors_text c history ++ totals_text (setup_of c) history)
 heads_are_passed c history =
     both_passed (actors_text c history) (totals_text (setup_of c) history)
-    (each_passed (λ actor. actor_lines c actor (own history actor)) (numbers_below (actors_in c)) (λ actor. actor_is_passed c actor (own history actor)))
-    (both_passed (audit_text (forged (setup_of c) history) (alike (setup_of c).group history) (intruded_masters (setup_of c)) (setup_of c).group.f) (agree_text (agrees (setup_of c) history))
-    (audit_passed (forged (setup_of c) history) (alike (setup_of c).group history) (intruded_masters (setup_of c)) (setup_of c).group.f)
+    (each_passed (λ actor. actor_lines c actor (own history actor)) (numbers_below (actors_in c))
+    (λ actor. actor_is_passed c actor (own history actor)))
+    (both_passed (audit_text (forged (setup_of c) history) (alike (setup_of c).group history)
+    (intruded_masters (setup_of c)) (setup_of c).group.f) (agree_text (agrees (setup_of c) history))
+    (audit_passed (forged (setup_of c) history) (alike (setup_of c).group history) (intruded_masters (setup_of c))
+    (setup_of c).group.f)
     (agree_passed (agrees (setup_of c) history)))

@@ -16,7 +16,8 @@ use Rattle.run_back_laws.specs.Laws.{told_by_bytes_at, entry_as_told}
 abbrev pub event_as_told : Bool → ℕ → Event → Event
 event_as_told b stamp event = cond b event (told_by_bytes_at stamp event)
 
-pub plain_told : (b : Bool) (stamp : ℕ) (event : Event) → without_place (event_as_told b stamp event) ≡ without_place event
+pub plain_told : (b : Bool) (stamp : ℕ) (event : Event) →
+    without_place (event_as_told b stamp event) ≡ without_place event
 plain_told true stamp event = refl
 plain_told false stamp (Took at place frame) = refl
 plain_told false stamp Tick = refl
@@ -28,7 +29,8 @@ plain_told false stamp Skip = refl
 plain_told false stamp Restart = refl
 
 -- its frame still stands
-pub stands_told : (w : Setup) (now stamp : ℕ) (b : Bool) (event : Event) → TakesWell w now event → frame_stands w (event_as_told b stamp event) ≡ true
+pub stands_told : (w : Setup) (now stamp : ℕ) (b : Bool) (event : Event) → TakesWell w now event →
+    frame_stands w (event_as_told b stamp event) ≡ true
 stands_told w now stamp true (Took at place frame) takes = takes.0
 stands_told w now stamp false (Took at place frame) takes = takes.0
 stands_told w now stamp true Tick takes = refl
@@ -71,6 +73,8 @@ alike_told w history [] = refl
 alike_told w history (e ∷ entries) = λ i. bare_told w history e i ∷ alike_told w history entries i
 
 -- so it comes to the same
-pub told_comes_to_the_same : (c : Contents) (history entries : List Entry) → ComeToTheSame c (map (entry_as_told (setup_of c) history) entries) entries
+pub told_comes_to_the_same : (c : Contents) (history entries : List Entry) →
+    ComeToTheSame c (map (entry_as_told (setup_of c) history) entries) entries
 told_comes_to_the_same c history entries =
-    alike_come_to_the_same c (map (entry_as_told (setup_of c) history) entries) entries (alike_told (setup_of c) history entries)
+    alike_come_to_the_same c (map (entry_as_told (setup_of c) history) entries) entries
+    (alike_told (setup_of c) history entries)

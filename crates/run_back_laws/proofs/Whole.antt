@@ -19,19 +19,24 @@ use Rattle.run_back_laws.proofs.Passing.{heads_are_passed}
 use Rattle.run_back_laws.proofs.Entering.{entries_told}
 use Rattle.run_back_laws.proofs.Again.{text_again}
 
-lines_back : (c : Contents) (history : List Entry) → IsScenario c → IsLegal (setup_of c) history → length history < 2 ^ 32
+lines_back : (c : Contents) (history : List Entry) → IsScenario c → IsLegal (setup_of c) history →
+    length history < 2 ^ 32
     → All (λ e. CanBeTold (is_said (setup_of c) history e.event) e.event) history
-    → run_in (cast_in c) (text_of c history) ≡ Ok (map (λ e. line_read (is_said (setup_of c) history e.event) e) history)
+    → run_in (cast_in c) (text_of c history) ≡ Ok
+    (map (λ e. line_read (is_said (setup_of c) history e.event) e) history)
 unfolding text_of
 lines_back c history scenario legal short can =
-    ap (λ (bs : List ℕ). run_in (cast_in c) (bs ++ count_text (length history) ++ flat_map (entry_line c history) history)) (append_assoc (codes "spire 1\n") (actors_text c history) (totals_text (setup_of c) history))
-    ∙ printed_lines_read_back (cast_in c) (actors_text c history ++ totals_text (setup_of c) history) (λ e. is_said (setup_of c) history e.event) history (few_actors c scenario)
+    ap (λ (bs : List ℕ). run_in (cast_in c) (bs ++ count_text (length history) ++ flat_map (entry_line c history)
+    history)) (append_assoc (codes "spire 1\n") (actors_text c history) (totals_text (setup_of c) history))
+    ∙ printed_lines_read_back (cast_in c) (actors_text c history ++ totals_text (setup_of c) history)
+    (λ e. is_said (setup_of c) history e.event) history (few_actors c scenario)
     (heads_are_passed c history) (omega (arith, short)) (all_printable c history [] history legal short refl can)
 
 pub texts_tell_histories : TextsTellHistories
 unfolding history_in
 texts_tell_histories c history scenario legal short can =
-    ap (history_of (setup_of c)) (lines_back c history scenario legal short can) ∙ entries_told c history [] history legal refl can
+    ap (history_of (setup_of c)) (lines_back c history scenario legal short can)
+    ∙ entries_told c history [] history legal refl can
 
 pub printed_runs_read_back : PrintedRunsReadBack
 printed_runs_read_back c history scenario legal held short = record {

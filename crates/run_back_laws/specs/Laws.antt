@@ -19,14 +19,15 @@ HasBytes (Took stamp place frame) = IsBytes (frame_text frame)
 HasBytes (Cry bytes) = IsBytes bytes
 HasBytes _ = Unit {0}
 
--- An entry that a value of the program can be: its numbers are within their fields, and fewer than 2^31 bodies were said at it.
+-- An entry that a value of the program can be: its numbers are within their fields, and fewer than 2^31 bodies were
+-- said at it.
 pub record IsHeld (e : Entry) : Type 0 where
   pub fits : FitsEntry e.stamp e.event
   pub bytes : HasBytes e.event
   pub few : length e.said < 2 ^ 31
 
--- The numbers and bytes of an event's line are within the program's types: of a frame that is named by where it was said that
--- place, of one that is told by its bytes those.
+-- The numbers and bytes of an event's line are within the program's types: of a frame that is named by where it was
+-- said that place, of one that is told by its bytes those.
 abbrev pub CanBeTold : Bool → Event → Type 0
 CanBeTold true (Took stamp place frame) = Is32 place
 CanBeTold false (Took stamp place frame) = FitsFields frame × IsBytes (frame_text frame)
@@ -45,22 +46,27 @@ told_by_bytes_at stamp event = event
 
 -- an entry of a history as the history's text tells it: its frame by where it was said, where it was said there
 abbrev pub entry_as_told : Setup → List Entry → Entry → Entry
-entry_as_told w history e = record e { event = if is_said w history e.event then e.event else told_by_bytes_at e.stamp e.event }
+entry_as_told w history e =
+    record e { event = if is_said w history e.event then e.event else told_by_bytes_at e.stamp e.event }
 
 abbrev pub as_told : Contents → List Entry → List Entry
 as_told c history = map (entry_as_told (setup_of c) history) history
 
--- The text of a history tells the history, up to where its frames come from, and what is read is printed as the same text.
+-- The text of a history tells the history, up to where its frames come from, and what is read is printed as the same
+-- text.
 pub record ReadsBack (c : Contents) (history : List Entry) : Type 0 where
   pub read : history_in c (text_of c history) ≡ Ok (as_told c history)
   pub again : text_of c (as_told c history) ≡ text_of c history
 
 -- A legal history that the program can hold reads back.
 abbrev pub PrintedRunsReadBack : Type 0
-PrintedRunsReadBack = (c : Contents) (history : List Entry) → IsScenario c → IsLegal (setup_of c) history → All IsHeld history → length history < 2 ^ 32
+PrintedRunsReadBack = (c : Contents) (history : List Entry) → IsScenario c → IsLegal (setup_of c) history →
+    All IsHeld history → length history < 2 ^ 32
     → ReadsBack c history
 
 -- A legal history whose lines' numbers and bytes are within the program's types is told by its text.
 abbrev pub TextsTellHistories : Type 0
-TextsTellHistories = (c : Contents) (history : List Entry) → IsScenario c → IsLegal (setup_of c) history → length history < 2 ^ 32
-    → All (λ e. CanBeTold (is_said (setup_of c) history e.event) e.event) history → history_in c (text_of c history) ≡ Ok (as_told c history)
+TextsTellHistories = (c : Contents) (history : List Entry) → IsScenario c → IsLegal (setup_of c) history →
+    length history < 2 ^ 32
+    → All (λ e. CanBeTold (is_said (setup_of c) history e.event) e.event) history →
+    history_in c (text_of c history) ≡ Ok (as_told c history)

@@ -1,5 +1,6 @@
 -- Why each question that ends well was answered, and each with status 9 has no answer.
-use Rattle.std.proofs.Common.{◌≡◌, ℕ, Bool, true, false, List, [], ◌∷◌, Option, None, Some, Result, Ok, Err, refl, sym, ◌∙◌, ap, subst, arith, true≢false}
+use Rattle.std.proofs.Common.{◌≡◌, ℕ, Bool, true, false, List, [], ◌∷◌, Option, None, Some, Result, Ok, Err, refl}
+use Rattle.std.proofs.Common.{sym, ◌∙◌, ap, subst, arith, true≢false}
 use Rattle.std.specs.Prelude.{option_and_then, option_map}
 use Rattle.std.proofs.lemmas.Option.{same_Some}
 use Rattle.outside.specs.Piece.{with_piece}
@@ -8,7 +9,8 @@ use Rattle.scenario_file.specs.Valid.{IsScenario}
 use Rattle.scenario_file.specs.declared.refusal.ScenarioRefusal.{ScenarioRefusal}
 use Rattle.scenario_file.specs.declared.refusal.ScenarioRefusal.TheVariants as scenario
 use Rattle.history_rules.specs.Events.{Entry}
-use Rattle.command_words.specs.Wanted.{Wanted, play, run, replay, make, keys, verify, parts, rebuild, blame, trend, is_command, wanted_in}
+use Rattle.command_words.specs.Wanted.{Wanted, play, run, replay, make, keys, verify, parts, rebuild, blame, trend}
+use Rattle.command_words.specs.Wanted.{is_command, wanted_in}
 use Rattle.command_ends.specs.Refusals.{status_of}
 use Rattle.command_ends.specs.Steps.{Step}
 use Rattle.command_ends.specs.Steps.Step.{Load, Gives, Refuses}
@@ -22,10 +24,13 @@ use Rattle.command_ends.specs.declared.refusal.Refusal.TheVariants as refusal
 use Rattle.run_commands.specs.declared.questions.Question.{Question}
 use Rattle.run_commands.specs.Posed.{posed}
 use Rattle.run_commands.specs.Readers.{Readers, Keeps, NoRequest, request_refusal}
-use Rattle.run_commands.specs.Reading.{accepted, scenario_at, scenario_refusal, with_scenario, with_history, with_answer, with_pieces}
+use Rattle.run_commands.specs.Reading.{accepted, scenario_at, scenario_refusal, with_scenario, with_history}
+use Rattle.run_commands.specs.Reading.{with_answer, with_pieces}
 use Rattle.run_commands.specs.Course.{QuestionCourse, RebuildCourse, CommandStep, AskedStep, NextStep}
-use Rattle.run_commands.specs.Answered.{asked_by, Spells, Answered, Unanswered, KeepsAnswers, HasPieces, Rebuilt, NotRebuilt, KeepsRequests}
+use Rattle.run_commands.specs.Answered.{asked_by, Spells, Answered, Unanswered, KeepsAnswers, HasPieces, Rebuilt}
+use Rattle.run_commands.specs.Answered.{NotRebuilt, KeepsRequests}
 use Rattle.run_commands.proofs.Headlines.{accepted-gives, scenario-valid, same-file, refused-not-well}
+use Rattle.command_ends.proofs.Completes.{text_in}
 
 -- ---- The last step of a call that gives a text, or has no answer.
 
@@ -37,10 +42,6 @@ is_last _ = false
 abbrev is_usage : Step → Bool
 is_usage (Refuses refusal.Usage) = true
 is_usage _ = false
-
-abbrev text_in : Step → List ℕ
-text_in (Gives text) = text
-text_in _ = []
 
 abbrev lack_in : NoAnswer → Step → NoAnswer
 lack_in other (Refuses (refusal.NoAnswer why)) = why
@@ -66,8 +67,10 @@ no-load : (step : Step) (name : List ℕ) → is_last step ≡ true → step ≡
 no-load step name last is = true≢false (sym last ∙ ap is_last is)
 
 -- where the last step comes of an answer whose faults are others, there was a value
-accepted-last : {A E : Type 0} (refuse : E → Refusal) → ((e : E) → is_last (Refuses (refuse e)) ≡ false) → (answer : Result A E) (onward : A → Step) (step : Step)
-    → is_last step ≡ true → step ≡ accepted refuse answer onward → (value : A) × (answer ≡ Ok value) × (step ≡ onward value)
+accepted-last : {A E : Type 0} (refuse : E → Refusal) → ((e : E) → is_last (Refuses (refuse e)) ≡ false) →
+    (answer : Result A E) (onward : A → Step) (step : Step)
+    → is_last step ≡ true → step ≡ accepted refuse answer onward →
+    (value : A) × (answer ≡ Ok value) × (step ≡ onward value)
 accepted-last refuse other (Ok value) onward step last is = (value, refl, is)
 accepted-last refuse other (Err e) onward step last is = absurd (true≢false (sym last ∙ ap is_last is ∙ other e))
 
@@ -79,12 +82,15 @@ not-of-scenario (scenario.TooMany name) = refl
 not-of-scenario (scenario.UnknownKey name) = refl
 not-of-scenario scenario.Want = refl
 
-of-scenario : (first : List ℕ) (onward : Contents → Step) (step : Step) → is_last step ≡ true → step ≡ with_scenario first onward
+of-scenario : (first : List ℕ) (onward : Contents → Step) (step : Step) → is_last step ≡ true →
+    step ≡ with_scenario first onward
     → (c : Contents) × (scenario_at first ≡ Ok c) × (step ≡ onward c)
-of-scenario first onward step last is = accepted-last scenario_refusal not-of-scenario (scenario_at first) onward step last is
+of-scenario first onward step last is =
+    accepted-last scenario_refusal not-of-scenario (scenario_at first) onward step last is
 
 -- the second file is the one that is due, where the first is a scenario
-second-due : (first name other : List ℕ) (c : Contents) → scenario_at first ≡ Ok c → Load other ≡ with_scenario first (λ d. Load name) → Load other ≡ Load name
+second-due : (first name other : List ℕ) (c : Contents) → scenario_at first ≡ Ok c →
+    Load other ≡ with_scenario first (λ d. Load name) → Load other ≡ Load name
 second-due first name other c one is = is ∙ ap (λ a. accepted scenario_refusal a (λ (d : Contents). Load name)) one
 
 -- ---- A question.
@@ -92,7 +98,8 @@ second-due first name other c one is = is ∙ ap (λ a. accepted scenario_refusa
 none : {A B : Type 0} (x : A) → (let nothing : Option A = None in nothing ≡ Some x) → B
 none x is = absurd (cc)
 
-course-of : (r : Readers) (w : Wanted) (p : List ℕ × List ℕ × Question) (contents : List (List ℕ)) (step : Step) → posed w ≡ Some p
+course-of : (r : Readers) (w : Wanted) (p : List ℕ × List ℕ × Question) (contents : List (List ℕ)) (step : Step) →
+    posed w ≡ Some p
     → CommandStep r w contents step → QuestionCourse r p.0 p.1 p.2 contents step
 course-of r (parts scenario history originator number) p contents step is comes =
     subst (λ (q : List ℕ × List ℕ × Question). QuestionCourse r q.0 q.1 q.2 contents step) (same_Some _ _ is) comes
@@ -108,24 +115,29 @@ course-of r (keys scenario) p contents step is comes = none p is
 course-of r (verify public message sig) p contents step is comes = none p is
 course-of r (rebuild scenario pieces) p contents step is comes = none p is
 
-next-question : (r : Readers) (is : Bool) (o : Option Wanted) (p : List ℕ × List ℕ × Question) (contents : List (List ℕ)) (step : Step)
-    → option_and_then posed o ≡ Some p → is_usage step ≡ false → AskedStep r is o contents step → QuestionCourse r p.0 p.1 p.2 contents step
+next-question : (r : Readers) (is : Bool) (o : Option Wanted) (p : List ℕ × List ℕ × Question)
+    (contents : List (List ℕ)) (step : Step)
+    → option_and_then posed o ≡ Some p → is_usage step ≡ false → AskedStep r is o contents step →
+    QuestionCourse r p.0 p.1 p.2 contents step
 next-question r false o p contents step named other asked = absurd (true≢false (sym (ap is_usage asked) ∙ other))
 next-question r true None p contents step named other asked = absurd asked
 next-question r true (Some w) p contents step named other asked = course-of r w p contents step named asked
 
 abbrev ComesLast : Readers → Call → Question → Step → Type 0
-ComesLast r call asked step = (c : Contents) × (history : List Entry) × Spells r call asked c history × (step ≡ with_answer r c history asked)
+ComesLast r call asked step = (c : Contents) × (history : List Entry) × Spells r call asked c history
+    × (step ≡ with_answer r c history asked)
 
 question-whole : (r : Readers) → Keeps r → (call : Call) (scenario name : List ℕ) (asked : Question)
     → option_and_then posed (wanted_in call.words) ≡ Some (scenario, name, asked)
     → (a b first second : List ℕ) (step : Step) → IsContent (call.held a) first → IsContent (call.held b) second
     → Load a ≡ Load scenario → Load b ≡ with_scenario first (λ c. Load name)
-    → is_last step ≡ true → step ≡ with_scenario first (λ c. with_history r c second (λ h. with_answer r c h asked)) → ComesLast r call asked step
+    → is_last step ≡ true → step ≡ with_scenario first (λ c. with_history r c second (λ h. with_answer r c h asked)) →
+    ComesLast r call asked step
 question-whole r laws call scenario name asked named a b first second step at_a at_b due_a due_b last is =
     let one = of-scenario first (λ c. with_history r c second (λ h. with_answer r c h asked)) step last is in
     let c : Contents = one.0 in
-    let two = accepted-last (λ (e : LineFault × ℕ). refusal.History e.0 e.1) (λ e. refl) (r.history_in c second) (λ h. with_answer r c h asked) step last one.2 in
+    let two = accepted-last (λ (e : LineFault × ℕ). refusal.History e.0 e.1) (λ e. refl) (r.history_in c second)
+    (λ h. with_answer r c h asked) step last one.2 in
     let history : List Entry = two.0 in
     let valid : IsScenario c = scenario-valid first c one.1 in (
       c,
@@ -148,40 +160,52 @@ question-whole r laws call scenario name asked named a b first second step at_a 
 
 question-run : (r : Readers) → Keeps r → (call : Call) (scenario name : List ℕ) (asked : Question) (step : Step)
     → option_and_then posed (wanted_in call.words) ≡ Some (scenario, name, asked) → is_last step ≡ true
-    → (contents : List (List ℕ)) → Loaded (NextStep r call.words) call.held [] contents → NextStep r call.words contents step → ComesLast r call asked step
+    → (contents : List (List ℕ)) → Loaded (NextStep r call.words) call.held [] contents →
+    NextStep r call.words contents step → ComesLast r call asked step
 question-run r laws call scenario name asked step named last [] loaded next =
-    absurd (no-load step scenario last (next-question r (is_command call.words) (wanted_in call.words) (scenario, name, asked) [] step named (no-usage step last) next))
+    absurd (no-load step scenario last
+    (next-question r (is_command call.words) (wanted_in call.words) (scenario, name, asked) [] step named
+    (no-usage step last) next))
 question-run r laws call scenario name asked step named last (first ∷ []) loaded next =
     let one = of-scenario first (λ c. Load name) step last
-    (next-question r (is_command call.words) (wanted_in call.words) (scenario, name, asked) (first ∷ []) step named (no-usage step last) next) in
+    (next-question r (is_command call.words) (wanted_in call.words) (scenario, name, asked) (first ∷ []) step named
+    (no-usage step last) next) in
     absurd (no-load step name last one.2)
 question-run r laws call scenario name asked step named last (first ∷ second ∷ more) loaded next =
     question-whole r laws call scenario name asked named loaded.0 loaded.4.0 first second step loaded.2 loaded.4.2
-    (next-question r (is_command call.words) (wanted_in call.words) (scenario, name, asked) [] (Load loaded.0) named refl loaded.1)
-    (next-question r (is_command call.words) (wanted_in call.words) (scenario, name, asked) (first ∷ []) (Load loaded.4.0) named refl loaded.4.1)
-    last (next-question r (is_command call.words) (wanted_in call.words) (scenario, name, asked) (first ∷ second ∷ more) step named (no-usage step last) next)
+    (next-question r (is_command call.words) (wanted_in call.words) (scenario, name, asked) []
+    (Load loaded.0) named refl loaded.1)
+    (next-question r (is_command call.words) (wanted_in call.words) (scenario, name, asked) (first ∷ [])
+    (Load loaded.4.0) named refl loaded.4.1)
+    last (next-question r (is_command call.words) (wanted_in call.words) (scenario, name, asked)
+    (first ∷ second ∷ more) step named (no-usage step last) next)
 
 -- ---- What the last step tells of the answer.
 
-answer-given : (answer : Result (List ℕ) NoAnswer) (text : List ℕ) → Gives text ≡ accepted (λ (why : NoAnswer). refusal.NoAnswer why) answer (λ t. Gives t)
+answer-given : (answer : Result (List ℕ) NoAnswer) (text : List ℕ) →
+    Gives text ≡ accepted (λ (why : NoAnswer). refusal.NoAnswer why) answer (λ t. Gives t)
     → answer ≡ Ok text
 answer-given answer text is =
     let gives = accepted-gives (λ (why : NoAnswer). refusal.NoAnswer why) answer (λ t. Gives t) text is in
     gives.1 ∙ ap Ok (sym (ap text_in gives.2))
 
 answer-lacks : (answer : Result (List ℕ) NoAnswer) (why : NoAnswer)
-    → Refuses (refusal.NoAnswer why) ≡ accepted (λ (w : NoAnswer). refusal.NoAnswer w) answer (λ t. Gives t) → answer ≡ Err why
+    → Refuses (refusal.NoAnswer why) ≡ accepted (λ (w : NoAnswer). refusal.NoAnswer w) answer (λ t. Gives t) →
+    answer ≡ Err why
 answer-lacks (Ok text) why is = absurd (cc)
 answer-lacks (Err lack) why is = ap Err (sym (ap (lack_in why) is))
 
 -- the names of a question
-of-asked : (o : Option (List ℕ × List ℕ × Question)) (asked : Question) → option_map (λ (p : List ℕ × List ℕ × Question). p.2) o ≡ Some asked
+of-asked : (o : Option (List ℕ × List ℕ × Question)) (asked : Question) →
+    option_map (λ (p : List ℕ × List ℕ × Question). p.2) o ≡ Some asked
     → (scenario : List ℕ) × (name : List ℕ) × (o ≡ Some (scenario, name, asked))
 of-asked None asked is = none asked is
 of-asked (Some p) asked is = (p.0, p.1, ap (λ (q : Question). Some (p.0, p.1, q)) (same_Some p.2 asked is))
 
-by-text : (r : Readers) → Keeps r → (call : Call) (text : List ℕ) → Comes (NextStep r call.words) call.held [] (Gives text)
-    → call.put_after ≡ with_piece call.put_before text → (asked : Question) → asked_by call.words ≡ Some asked → Answered r call asked
+by-text : (r : Readers) → Keeps r → (call : Call) (text : List ℕ) →
+    Comes (NextStep r call.words) call.held [] (Gives text)
+    → call.put_after ≡ with_piece call.put_before text → (asked : Question) → asked_by call.words ≡ Some asked →
+    Answered r call asked
 by-text r laws call text comes put asked is =
     let names = of-asked (option_and_then posed (wanted_in call.words)) asked is in
     let whole = question-run r laws call names.0 names.1 asked (Gives text) names.2 refl comes.0 comes.1 comes.2 in
@@ -195,11 +219,13 @@ by-text r laws call text comes put asked is =
     }
 
 by-lack : (r : Readers) → Keeps r → (call : Call) (err : ErrorSink) (status : ℕ) (why : NoAnswer)
-    → Comes (NextStep r call.words) call.held [] (Refuses (refusal.NoAnswer why)) → PutsNothing call → Told (refusal.NoAnswer why) err status
+    → Comes (NextStep r call.words) call.held [] (Refuses (refusal.NoAnswer why)) → PutsNothing call →
+    Told (refusal.NoAnswer why) err status
     → (asked : Question) → asked_by call.words ≡ Some asked → Unanswered r call err status asked
 by-lack r laws call err status why comes nothing told asked is =
     let names = of-asked (option_and_then posed (wanted_in call.words)) asked is in
-    let whole = question-run r laws call names.0 names.1 asked (Refuses (refusal.NoAnswer why)) names.2 refl comes.0 comes.1 comes.2 in
+    let whole = question-run r laws call names.0 names.1 asked (Refuses (refusal.NoAnswer why))
+    names.2 refl comes.0 comes.1 comes.2 in
     record {
       scenario = whole.0;
       history = whole.1;
@@ -226,7 +252,8 @@ status-nine refusal.NotVerified is = absurd (omega arith)
 status-nine refusal.Output is = absurd (omega arith)
 status-nine refusal.Memory is = absurd (omega arith)
 
-told-nine : (why : Refusal) (err : ErrorSink) (status : ℕ) → status ≡ 9 → Told why err status → (lack : NoAnswer) × (why ≡ refusal.NoAnswer lack)
+told-nine : (why : Refusal) (err : ErrorSink) (status : ℕ) → status ≡ 9 → Told why err status →
+    (lack : NoAnswer) × (why ≡ refusal.NoAnswer lack)
 told-nine why err status nine (Told.whole is same line) = status-nine why (sym is ∙ nine)
 told-nine why err status nine (Told.begun is risen put) = status-nine why (sym is ∙ nine)
 told-nine why err status nine (Told.memory is put) = absurd (omega arith)
@@ -247,19 +274,24 @@ keeps-by r laws call err status (Err why) cause finish = record {
   answers = λ zero asked is. absurd (refused-not-well why err status zero finish);
   lacks = λ nine asked is.
       let lack = told-nine why err status nine finish in
-      let both : CausedAndTold r call err status (refusal.NoAnswer lack.0) = subst (CausedAndTold r call err status) lack.1 (cause, finish) in
+      let both : CausedAndTold r call err status (refusal.NoAnswer lack.0) =
+      subst (CausedAndTold r call err status) lack.1 (cause, finish) in
       by-lack r laws call err status lack.0 both.0.0 both.0.1 both.1 asked is;
 }
 
 -- Each question that ends well is answered, and each with status 9 has no answer.
-pub answers : (r : Readers) → Keeps r → (call : Call) (err : ErrorSink) (status : ℕ) → Ends (NextStep r) call err status → KeepsAnswers r call err status
+pub answers : (r : Readers) → Keeps r → (call : Call) (err : ErrorSink) (status : ℕ) →
+    Ends (NextStep r) call err status → KeepsAnswers r call err status
 answers r laws call err status ends = keeps-by r laws call err status ends.result ends.cause ends.finish
 
 -- ---- A request from its parts.
 
-next-rebuild : (r : Readers) (is : Bool) (o : Option Wanted) (scenario pieces : List ℕ) (contents : List (List ℕ)) (step : Step)
-    → o ≡ Some (rebuild scenario pieces) → is_usage step ≡ false → AskedStep r is o contents step → RebuildCourse r scenario pieces contents step
-next-rebuild r false o scenario pieces contents step named other asked = absurd (true≢false (sym (ap is_usage asked) ∙ other))
+next-rebuild : (r : Readers) (is : Bool) (o : Option Wanted) (scenario pieces : List ℕ)
+    (contents : List (List ℕ)) (step : Step)
+    → o ≡ Some (rebuild scenario pieces) → is_usage step ≡ false → AskedStep r is o contents step →
+    RebuildCourse r scenario pieces contents step
+next-rebuild r false o scenario pieces contents step named other asked =
+    absurd (true≢false (sym (ap is_usage asked) ∙ other))
 next-rebuild r true o scenario pieces contents step named other asked =
     subst (λ (w : Option Wanted). AskedStep r true w contents step) named asked
 
@@ -267,46 +299,58 @@ abbrev ComesRebuilt : Readers → Call → List ℕ → List ℕ → Step → Ty
 ComesRebuilt r call scenario pieces step =
     (c : Contents) × (content : List ℕ) × HasPieces call scenario pieces c content × (step ≡ with_pieces r c content)
 
-rebuild-run : (r : Readers) (call : Call) (scenario pieces : List ℕ) (step : Step) → wanted_in call.words ≡ Some (rebuild scenario pieces) → is_last step ≡ true
-    → (contents : List (List ℕ)) → Loaded (NextStep r call.words) call.held [] contents → NextStep r call.words contents step
+rebuild-run : (r : Readers) (call : Call) (scenario pieces : List ℕ) (step : Step) →
+    wanted_in call.words ≡ Some (rebuild scenario pieces) → is_last step ≡ true
+    → (contents : List (List ℕ)) → Loaded (NextStep r call.words) call.held [] contents →
+    NextStep r call.words contents step
     → ComesRebuilt r call scenario pieces step
 rebuild-run r call scenario pieces step named last [] loaded next =
-    absurd (no-load step scenario last (next-rebuild r (is_command call.words) (wanted_in call.words) scenario pieces [] step named (no-usage step last) next))
+    absurd (no-load step scenario last
+    (next-rebuild r (is_command call.words) (wanted_in call.words) scenario pieces [] step named
+    (no-usage step last) next))
 rebuild-run r call scenario pieces step named last (first ∷ []) loaded next =
     let one = of-scenario first (λ c. Load pieces) step last
-    (next-rebuild r (is_command call.words) (wanted_in call.words) scenario pieces (first ∷ []) step named (no-usage step last) next) in
+    (next-rebuild r (is_command call.words) (wanted_in call.words) scenario pieces (first ∷ []) step named
+    (no-usage step last) next) in
     absurd (no-load step pieces last one.2)
 rebuild-run r call scenario pieces step named last (first ∷ second ∷ more) loaded next =
     let one = of-scenario first (λ c. with_pieces r c second) step last
-    (next-rebuild r (is_command call.words) (wanted_in call.words) scenario pieces (first ∷ second ∷ more) step named (no-usage step last) next) in
+    (next-rebuild r (is_command call.words) (wanted_in call.words) scenario pieces (first ∷ second ∷ more) step named
+    (no-usage step last) next) in
     let c : Contents = one.0 in
-    let due_a = next-rebuild r (is_command call.words) (wanted_in call.words) scenario pieces [] (Load loaded.0) named refl loaded.1 in
-    let due_b = next-rebuild r (is_command call.words) (wanted_in call.words) scenario pieces (first ∷ []) (Load loaded.4.0) named refl loaded.4.1 in (
+    let due_a = next-rebuild r (is_command call.words) (wanted_in call.words) scenario pieces []
+    (Load loaded.0) named refl loaded.1 in
+    let due_b = next-rebuild r (is_command call.words) (wanted_in call.words) scenario pieces (first ∷ [])
+    (Load loaded.4.0) named refl loaded.4.1 in (
       c,
       second,
       record {
         first = first;
         first_held = same-file call.held loaded.0 scenario first due_a loaded.2;
-        second_held = same-file call.held loaded.4.0 pieces second (second-due first pieces loaded.4.0 c one.1 due_b) loaded.4.2;
+        second_held = same-file call.held loaded.4.0 pieces second (second-due first pieces loaded.4.0 c one.1 due_b)
+            loaded.4.2;
         scenario_read = one.1;
         valid = scenario-valid first c one.1;
       },
       one.2,
     )
 
-request-given : (answer : Result (List ℕ) NoRequest) (text : List ℕ) → Gives text ≡ accepted request_refusal answer (λ t. Gives t) → answer ≡ Ok text
+request-given : (answer : Result (List ℕ) NoRequest) (text : List ℕ) →
+    Gives text ≡ accepted request_refusal answer (λ t. Gives t) → answer ≡ Ok text
 request-given answer text is =
     let gives = accepted-gives request_refusal answer (λ t. Gives t) text is in
     gives.1 ∙ ap Ok (sym (ap text_in gives.2))
 
-request-lacks : (answer : Result (List ℕ) NoRequest) (why : NoAnswer) → Refuses (refusal.NoAnswer why) ≡ accepted request_refusal answer (λ t. Gives t)
+request-lacks : (answer : Result (List ℕ) NoRequest) (why : NoAnswer) →
+    Refuses (refusal.NoAnswer why) ≡ accepted request_refusal answer (λ t. Gives t)
     → (answer ≡ Err NoRequest.NoText) × (why ≡ lacks.NoText)
 request-lacks (Ok text) why is = absurd (cc)
 request-lacks (Err (NoRequest.BadLine number)) why is = absurd (true≢false (ap is_last is))
 request-lacks (Err NoRequest.NoText) why is = (refl, ap (lack_in why) is)
 
 requested : (r : Readers) (call : Call) (text : List ℕ) → Comes (NextStep r call.words) call.held [] (Gives text)
-    → call.put_after ≡ with_piece call.put_before text → (scenario pieces : List ℕ) → wanted_in call.words ≡ Some (rebuild scenario pieces)
+    → call.put_after ≡ with_piece call.put_before text → (scenario pieces : List ℕ) →
+    wanted_in call.words ≡ Some (rebuild scenario pieces)
     → Rebuilt r call scenario pieces
 requested r call text comes put scenario pieces named =
     let whole = rebuild-run r call scenario pieces (Gives text) named refl comes.0 comes.1 comes.2 in
@@ -320,10 +364,13 @@ requested r call text comes put scenario pieces named =
     }
 
 not-requested : (r : Readers) (call : Call) (err : ErrorSink) (status : ℕ) (why : NoAnswer)
-    → Comes (NextStep r call.words) call.held [] (Refuses (refusal.NoAnswer why)) → PutsNothing call → Told (refusal.NoAnswer why) err status
-    → (scenario pieces : List ℕ) → wanted_in call.words ≡ Some (rebuild scenario pieces) → NotRebuilt r call err status scenario pieces
+    → Comes (NextStep r call.words) call.held [] (Refuses (refusal.NoAnswer why)) → PutsNothing call →
+    Told (refusal.NoAnswer why) err status
+    → (scenario pieces : List ℕ) → wanted_in call.words ≡ Some (rebuild scenario pieces) →
+    NotRebuilt r call err status scenario pieces
 not-requested r call err status why comes nothing told scenario pieces named =
-    let whole = rebuild-run r call scenario pieces (Refuses (refusal.NoAnswer why)) named refl comes.0 comes.1 comes.2 in
+    let whole = rebuild-run r call scenario pieces (Refuses (refusal.NoAnswer why))
+    named refl comes.0 comes.1 comes.2 in
     let none = request-lacks (r.rebuilt whole.0 whole.1) why whole.3 in
     record {
       contents = whole.0;
@@ -344,10 +391,12 @@ requests-by r call err status (Err why) cause finish = record {
   rebuilds = λ zero scenario pieces is. absurd (refused-not-well why err status zero finish);
   lacks = λ nine scenario pieces is.
       let lack = told-nine why err status nine finish in
-      let both : CausedAndTold r call err status (refusal.NoAnswer lack.0) = subst (CausedAndTold r call err status) lack.1 (cause, finish) in
+      let both : CausedAndTold r call err status (refusal.NoAnswer lack.0) =
+      subst (CausedAndTold r call err status) lack.1 (cause, finish) in
       not-requested r call err status lack.0 both.0.0 both.0.1 both.1 scenario pieces is;
 }
 
 -- Each request asked for from parts that ends well is the one that they rebuild, and each with status 9 is none.
-pub requests : (r : Readers) (call : Call) (err : ErrorSink) (status : ℕ) → Ends (NextStep r) call err status → KeepsRequests r call err status
+pub requests : (r : Readers) (call : Call) (err : ErrorSink) (status : ℕ) → Ends (NextStep r) call err status →
+    KeepsRequests r call err status
 requests r call err status ends = requests-by r call err status ends.result ends.cause ends.finish

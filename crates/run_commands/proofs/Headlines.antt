@@ -1,15 +1,15 @@
 -- Why the headline holds of a play or a replay that ends well.
-use Rattle.std.proofs.Common.{◌≡◌, ◌<◌, ℕ, Bool, true, false, List, [], ◌∷◌, Option, None, Some, Result, Ok, Err, refl, sym, ◌∙◌, ap, subst, arith, true≢false}
+use Rattle.std.proofs.Common.{◌≡◌, ◌<◌, ℕ, Bool, true, false, List, [], ◌∷◌, Option, None, Some, Result, Ok, Err}
+use Rattle.std.proofs.Common.{refl, sym, ◌∙◌, ap, subst, arith, true≢false}
 use Rattle.std.specs.Prelude.{if◌then◌else◌}
 use Rattle.std.specs.Str.{is_utf8}
-use Rattle.toml.specs.Data.{Members}
 use Rattle.toml.specs.Parse.{parse_document}
 use Rattle.outside.specs.Piece.{with_piece}
-use Rattle.scenario_file.specs.Reading.{Contents, scenario_in, or_no_toml}
+use Rattle.scenario_file.specs.Reading.{Contents, scenario_in}
 use Rattle.scenario_file.specs.Valid.{IsScenario}
 use Rattle.scenario_file.specs.declared.refusal.ScenarioRefusal.{ScenarioRefusal}
 use Rattle.scenario_file.specs.declared.refusal.ScenarioRefusal.TheVariants as scenario
-use Rattle.scenario_file.proofs.ValidLaws.{scenario_of-valid}
+use Rattle.scenario_file.proofs.ValidLaws.{or_no_toml-valid}
 use Rattle.history_rules.specs.Events.{Entry}
 use Rattle.world_rules.proofs.Following.{headline_of_legal}
 use Rattle.script_grammar.specs.Names.{who_of}
@@ -17,7 +17,8 @@ use Rattle.script_lines.specs.Scripts.{script_in}
 use Rattle.script_lines.specs.Sayings.{words_in}
 use Rattle.script_lines.specs.declared.script.Line.{Line}
 use Rattle.script_lines.specs.declared.saying.Saying.{Saying}
-use Rattle.command_words.specs.Wanted.{Wanted, play, run, replay, make, keys, verify, parts, rebuild, blame, trend, is_command, wanted_in}
+use Rattle.command_words.specs.Wanted.{Wanted, play, run, replay, make, keys, verify, parts, rebuild, blame, trend}
+use Rattle.command_words.specs.Wanted.{is_command, wanted_in}
 use Rattle.command_ends.specs.Refusals.{status_of}
 use Rattle.command_ends.specs.Steps.{Step}
 use Rattle.command_ends.specs.Steps.Step.{Load, Gives, Refuses}
@@ -27,43 +28,29 @@ use Rattle.command_ends.specs.declared.refusal.LineFault.{LineFault}
 use Rattle.command_ends.specs.declared.refusal.Refusal.{Refusal}
 use Rattle.command_ends.specs.declared.refusal.Refusal.TheVariants as refusal
 use Rattle.run_commands.specs.Readers.{Readers, Keeps}
-use Rattle.run_commands.specs.Reading.{accepted, scenario_at, scenario_refusal, script_refusal, words_refusal, with_scenario, with_script, with_words, with_play, with_history}
+use Rattle.run_commands.specs.Reading.{accepted, scenario_at, scenario_refusal, script_refusal, words_refusal}
+use Rattle.run_commands.specs.Reading.{with_scenario, with_script, with_words, with_play, with_history}
 use Rattle.run_commands.specs.Course.{CommandStep, AskedStep, NextStep}
 use Rattle.run_commands.specs.Headline.{IsRun, Headline, KeepsHeadline, asks_for_run}
-
-abbrev is_text : Step → Bool
-is_text (Gives text) = true
-is_text _ = false
+use Rattle.command_ends.proofs.Completes.{file_of, is_text, text_in}
 
 abbrev is_refusal : Step → Bool
 is_refusal (Refuses why) = true
 is_refusal _ = false
 
-abbrev text_in : Step → List ℕ
-text_in (Gives text) = text
-text_in _ = []
-
-abbrev file_of : Step → List ℕ
-file_of (Load name) = name
-file_of _ = []
-
 -- where a text comes of an answer, there was a value
-pub accepted-gives : {A E : Type 0} (refuse : E → Refusal) (answer : Result A E) (onward : A → Step) (text : List ℕ) → Gives text ≡ accepted refuse answer onward
+pub accepted-gives : {A E : Type 0} (refuse : E → Refusal) (answer : Result A E) (onward : A → Step) (text : List ℕ) →
+    Gives text ≡ accepted refuse answer onward
     → (value : A) × (answer ≡ Ok value) × (Gives text ≡ onward value)
 accepted-gives refuse (Ok value) onward text is = (value, refl, is)
 accepted-gives refuse (Err e) onward text is = absurd (true≢false (ap is_text is))
 
-no-text : (name text : List ℕ) → Gives text ≡ Load name → ⊥
+pub no-text : (name text : List ℕ) → Gives text ≡ Load name → ⊥
 no-text name text is = true≢false (ap is_text is)
-
--- what is read is a scenario
-document-valid : (doc : Option Members) (c : Contents) → or_no_toml doc ≡ Ok c → IsScenario c
-document-valid None c is = absurd (cc)
-document-valid (Some doc) c is = scenario_of-valid doc c is
 
 text-valid : (text : List ℕ) (c : Contents) → scenario_in text ≡ Ok c → IsScenario c
 unfolding scenario_in
-text-valid text c is = document-valid (parse_document text) c is
+text-valid text c is = or_no_toml-valid (parse_document text) c is
 
 abbrev read-if : Bool → List ℕ → Result Contents ScenarioRefusal
 read-if is text = if is then scenario_in text else Err scenario.BadToml
@@ -82,40 +69,58 @@ as-command : (r : Readers) (is : Bool) (w : Wanted) (contents : List (List ℕ))
 as-command r false w contents step other asked = absurd (true≢false (sym (ap is_refusal asked) ∙ other))
 as-command r true w contents step other asked = asked
 
-next-command : (r : Readers) (words : List (List ℕ)) (w : Wanted) (contents : List (List ℕ)) (step : Step) → wanted_in words ≡ Some w
+next-command : (r : Readers) (words : List (List ℕ)) (w : Wanted) (contents : List (List ℕ)) (step : Step) →
+    wanted_in words ≡ Some w
     → is_refusal step ≡ false → NextStep r words contents step → CommandStep r w contents step
 next-command r words w contents step asked other next =
-    as-command r (is_command words) w contents step other (subst (λ (o : Option Wanted). AskedStep r (is_command words) o contents step) asked next)
+    as-command r (is_command words) w contents step other
+    (subst (λ (o : Option Wanted). AskedStep r (is_command words) o contents step) asked next)
 
 -- the content is that of the file that is due
-pub same-file : (held : List ℕ → Option (List ℕ)) (name due content : List ℕ) → Load name ≡ Load due → IsContent (held name) content → IsContent (held due) content
+pub same-file : (held : List ℕ → Option (List ℕ)) (name due content : List ℕ) → Load name ≡ Load due →
+    IsContent (held name) content → IsContent (held due) content
 same-file held name due content is told = subst (λ n. IsContent (held n) content) (ap file_of is) told
 
 -- ---- A play.
 
-play-second : (scenario script : List ℕ) (first name : List ℕ) (c : Contents) → scenario_at first ≡ Ok c → Load name ≡ with_scenario first (λ d. Load script)
+play-second : (scenario script : List ℕ) (first name : List ℕ) (c : Contents) → scenario_at first ≡ Ok c →
+    Load name ≡ with_scenario first (λ d. Load script)
     → Load name ≡ Load script
-play-second scenario script first name c one is = is ∙ ap (λ a. accepted scenario_refusal a (λ (d : Contents). Load script)) one
+play-second scenario script first name c one is =
+    is ∙ ap (λ a. accepted scenario_refusal a (λ (d : Contents). Load script)) one
 
 play-third : (words : List ℕ) (first second name : List ℕ) (c : Contents) (lines : List Line) → scenario_at first ≡ Ok c
-    → script_in (who_of c) second ≡ Ok lines → Load name ≡ with_scenario first (λ d. with_script d second (λ ls. Load words)) → Load name ≡ Load words
+    → script_in (who_of c) second ≡ Ok lines →
+    Load name ≡ with_scenario first (λ d. with_script d second (λ ls. Load words)) → Load name ≡ Load words
 play-third words first second name c lines one two is =
     is ∙ ap (λ a. accepted scenario_refusal a (λ (d : Contents). with_script d second (λ ls. Load words))) one
     ∙ ap (λ a. accepted script_refusal a (λ (ls : List Line). Load words)) two
 
 play-whole : (r : Readers) → Keeps r → (call : Call) (scenario script words text first second third : List ℕ)
-    → wanted_in call.words ≡ Some (play scenario script words) → (a b d : List ℕ) → IsContent (call.held a) first → IsContent (call.held b) second → IsContent (call.held d) third
-    → Load a ≡ Load scenario → Load b ≡ with_scenario first (λ c. Load script) → Load d ≡ with_scenario first (λ c. with_script c second (λ lines. Load words))
-    → Gives text ≡ with_scenario first (λ c. with_script c second (λ lines. with_words c third (λ sayings. with_play r c lines sayings (λ history. Gives (r.text_of c history)))))
+    → wanted_in call.words ≡ Some (play scenario script words) → (a b d : List ℕ) → IsContent (call.held a) first →
+    IsContent (call.held b) second → IsContent (call.held d) third
+    → Load a ≡ Load scenario → Load b ≡ with_scenario first (λ c. Load script) →
+    Load d ≡ with_scenario first (λ c. with_script c second (λ lines. Load words))
+    → Gives text ≡ with_scenario first
+    (λ c. with_script c second
+    (λ lines. with_words c third (λ sayings. with_play r c lines sayings (λ history. Gives (r.text_of c history)))))
     → call.put_after ≡ with_piece call.put_before text → Headline r call
-play-whole r laws call scenario script words text first second third asked a b d at_a at_b at_d due_a due_b due_d is put =
-    let one = accepted-gives scenario_refusal (scenario_at first) (λ c. with_script c second (λ lines. with_words c third (λ sayings. with_play r c lines sayings (λ history. Gives (r.text_of c history))))) text is in
+play-whole r laws call scenario script words text first second third asked a b d at_a at_b
+    at_d due_a due_b due_d is put =
+    let one = accepted-gives scenario_refusal (scenario_at first)
+    (λ c. with_script c second
+    (λ lines. with_words c third
+    (λ sayings. with_play r c lines sayings (λ history. Gives (r.text_of c history))))) text is in
     let c : Contents = one.0 in
-    let two = accepted-gives script_refusal (script_in (who_of c) second) (λ lines. with_words c third (λ sayings. with_play r c lines sayings (λ history. Gives (r.text_of c history)))) text one.2 in
+    let two = accepted-gives script_refusal (script_in (who_of c) second)
+    (λ lines. with_words c third
+    (λ sayings. with_play r c lines sayings (λ history. Gives (r.text_of c history)))) text one.2 in
     let lines : List Line = two.0 in
-    let three = accepted-gives words_refusal (words_in (who_of c) third) (λ sayings. with_play r c lines sayings (λ history. Gives (r.text_of c history))) text two.2 in
+    let three = accepted-gives words_refusal (words_in (who_of c) third)
+    (λ sayings. with_play r c lines sayings (λ history. Gives (r.text_of c history))) text two.2 in
     let sayings : List Saying = three.0 in
-    let four = accepted-gives (λ (e : LineFault × ℕ). refusal.Script e.0 e.1) (r.played c lines sayings) (λ history. Gives (r.text_of c history)) text three.2 in
+    let four = accepted-gives (λ (e : LineFault × ℕ). refusal.Script e.0 e.1) (r.played c lines sayings)
+    (λ history. Gives (r.text_of c history)) text three.2 in
     let history : List Entry = four.0 in
     let valid : IsScenario c = scenario-valid first c one.1 in
     let legal = laws.played_legal c lines sayings history valid (second, two.1) (third, three.1) four.1 in
@@ -133,11 +138,14 @@ play-whole r laws call scenario script words text first second third asked a b d
       agreed = headline_of_legal c history valid legal;
     }
 
-play-run : (r : Readers) → Keeps r → (call : Call) (scenario script words text : List ℕ) → wanted_in call.words ≡ Some (play scenario script words)
-    → (contents : List (List ℕ)) → Loaded (NextStep r call.words) call.held [] contents → NextStep r call.words contents (Gives text)
+play-run : (r : Readers) → Keeps r → (call : Call) (scenario script words text : List ℕ) →
+    wanted_in call.words ≡ Some (play scenario script words)
+    → (contents : List (List ℕ)) → Loaded (NextStep r call.words) call.held [] contents →
+    NextStep r call.words contents (Gives text)
     → call.put_after ≡ with_piece call.put_before text → Headline r call
 play-run r laws call scenario script words text asked [] loaded next put =
-    absurd (no-text scenario text (next-command r call.words (play scenario script words) [] (Gives text) asked refl next))
+    absurd (no-text scenario text
+    (next-command r call.words (play scenario script words) [] (Gives text) asked refl next))
 play-run r laws call scenario script words text asked (first ∷ []) loaded next put =
     let one = accepted-gives scenario_refusal (scenario_at first) (λ c. Load script) text
     (next-command r call.words (play scenario script words) (first ∷ []) (Gives text) asked refl next) in
@@ -149,7 +157,8 @@ play-run r laws call scenario script words text asked (first ∷ second ∷ []) 
     absurd (no-text words text two.2)
 play-run r laws call scenario script words text asked (first ∷ second ∷ third ∷ more) loaded next put =
     let w : Wanted = play scenario script words in
-    play-whole r laws call scenario script words text first second third asked loaded.0 loaded.4.0 loaded.4.4.0 loaded.2 loaded.4.2 loaded.4.4.2
+    play-whole r laws call scenario script words text first second third asked loaded.0 loaded.4.0 loaded.4.4.0
+    loaded.2 loaded.4.2 loaded.4.4.2
     (next-command r call.words w [] (Load loaded.0) asked refl loaded.1)
     (next-command r call.words w (first ∷ []) (Load loaded.4.0) asked refl loaded.4.1)
     (next-command r call.words w (first ∷ second ∷ []) (Load loaded.4.4.0) asked refl loaded.4.4.1)
@@ -158,14 +167,17 @@ play-run r laws call scenario script words text asked (first ∷ second ∷ thir
 -- ---- A replay.
 
 replay-whole : (r : Readers) → Keeps r → (call : Call) (scenario spelt text first second : List ℕ)
-    → wanted_in call.words ≡ Some (replay scenario spelt) → (a b : List ℕ) → IsContent (call.held a) first → IsContent (call.held b) second
+    → wanted_in call.words ≡ Some (replay scenario spelt) → (a b : List ℕ) → IsContent (call.held a) first →
+    IsContent (call.held b) second
     → Load a ≡ Load scenario → Load b ≡ with_scenario first (λ c. Load spelt)
     → Gives text ≡ with_scenario first (λ c. with_history r c second (λ history. Gives (r.text_of c history)))
     → call.put_after ≡ with_piece call.put_before text → Headline r call
 replay-whole r laws call scenario spelt text first second asked a b at_a at_b due_a due_b is put =
-    let one = accepted-gives scenario_refusal (scenario_at first) (λ c. with_history r c second (λ history. Gives (r.text_of c history))) text is in
+    let one = accepted-gives scenario_refusal (scenario_at first)
+    (λ c. with_history r c second (λ history. Gives (r.text_of c history))) text is in
     let c : Contents = one.0 in
-    let two = accepted-gives (λ (e : LineFault × ℕ). refusal.History e.0 e.1) (r.history_in c second) (λ history. Gives (r.text_of c history)) text one.2 in
+    let two = accepted-gives (λ (e : LineFault × ℕ). refusal.History e.0 e.1) (r.history_in c second)
+    (λ history. Gives (r.text_of c history)) text one.2 in
     let history : List Entry = two.0 in
     let valid : IsScenario c = scenario-valid first c one.1 in
     let legal = laws.read_legal c second history valid two.1 in
@@ -181,8 +193,10 @@ replay-whole r laws call scenario spelt text first second asked a b at_a at_b du
       agreed = headline_of_legal c history valid legal;
     }
 
-replay-run : (r : Readers) → Keeps r → (call : Call) (scenario spelt text : List ℕ) → wanted_in call.words ≡ Some (replay scenario spelt)
-    → (contents : List (List ℕ)) → Loaded (NextStep r call.words) call.held [] contents → NextStep r call.words contents (Gives text)
+replay-run : (r : Readers) → Keeps r → (call : Call) (scenario spelt text : List ℕ) →
+    wanted_in call.words ≡ Some (replay scenario spelt)
+    → (contents : List (List ℕ)) → Loaded (NextStep r call.words) call.held [] contents →
+    NextStep r call.words contents (Gives text)
     → call.put_after ≡ with_piece call.put_before text → Headline r call
 replay-run r laws call scenario spelt text asked [] loaded next put =
     absurd (no-text scenario text (next-command r call.words (replay scenario spelt) [] (Gives text) asked refl next))
@@ -203,8 +217,10 @@ replay-run r laws call scenario spelt text asked (first ∷ second ∷ more) loa
 not-asked : false ≡ true → {A : Type 0} → A
 not-asked is = absurd (true≢false (sym is))
 
-by-wanted : (r : Readers) → Keeps r → (call : Call) (text : List ℕ) (o : Option Wanted) → wanted_in call.words ≡ o → asks_for_run o ≡ true
-    → (contents : List (List ℕ)) → Loaded (NextStep r call.words) call.held [] contents → NextStep r call.words contents (Gives text)
+by-wanted : (r : Readers) → Keeps r → (call : Call) (text : List ℕ) (o : Option Wanted) → wanted_in call.words ≡ o →
+    asks_for_run o ≡ true
+    → (contents : List (List ℕ)) → Loaded (NextStep r call.words) call.held [] contents →
+    NextStep r call.words contents (Gives text)
     → call.put_after ≡ with_piece call.put_before text → Headline r call
 by-wanted r laws call text (Some (play scenario script words)) asked asks contents loaded next put =
     play-run r laws call scenario script words text asked contents loaded next put
@@ -214,11 +230,14 @@ by-wanted r laws call text None asked asks contents loaded next put = not-asked 
 by-wanted r laws call text (Some (make number)) asked asks contents loaded next put = not-asked asks
 by-wanted r laws call text (Some (keys scenario)) asked asks contents loaded next put = not-asked asks
 by-wanted r laws call text (Some (verify public message sig)) asked asks contents loaded next put = not-asked asks
-by-wanted r laws call text (Some (run scenario script words hands turns)) asked asks contents loaded next put = not-asked asks
-by-wanted r laws call text (Some (parts scenario history originator number)) asked asks contents loaded next put = not-asked asks
+by-wanted r laws call text (Some (run scenario script words hands turns)) asked asks contents loaded next put =
+    not-asked asks
+by-wanted r laws call text (Some (parts scenario history originator number)) asked asks contents loaded next put =
+    not-asked asks
 by-wanted r laws call text (Some (rebuild scenario pieces)) asked asks contents loaded next put = not-asked asks
 by-wanted r laws call text (Some (blame scenario history)) asked asks contents loaded next put = not-asked asks
-by-wanted r laws call text (Some (trend scenario history point first last)) asked asks contents loaded next put = not-asked asks
+by-wanted r laws call text (Some (trend scenario history point first last)) asked asks contents loaded next put =
+    not-asked asks
 
 status-some : (why : Refusal) → 0 < status_of why
 status-some refusal.Usage = omega arith
@@ -246,5 +265,6 @@ by-result r laws call err status (Ok done) cause finish zero asks =
 by-result r laws call err status (Err why) cause finish zero asks = absurd (refused-not-well why err status zero finish)
 
 -- The headline holds of each play and each replay that ends well.
-pub headline : (r : Readers) → Keeps r → (call : Call) (err : ErrorSink) (status : ℕ) → Ends (NextStep r) call err status → KeepsHeadline r call status
+pub headline : (r : Readers) → Keeps r → (call : Call) (err : ErrorSink) (status : ℕ) →
+    Ends (NextStep r) call err status → KeepsHeadline r call status
 headline r laws call err status ends = by-result r laws call err status ends.result ends.cause ends.finish

@@ -25,19 +25,23 @@ use Rattle.run_commands.specs.Made.{Makes}
 abbrev Posed : Type 0
 Posed = List ℕ × List ℕ × Question
 
-abbrev CausedBy : Readers → (List ℕ → Option (List ℕ)) → (List ℕ → ℕ) → (List ℕ → ℕ) → Result (Vec ℕ Global) Refusal → Posed → Type 0
+abbrev CausedBy : Readers → (List ℕ → Option (List ℕ)) → (List ℕ → ℕ) → (List ℕ → ℕ) →
+    Result (Vec ℕ Global) Refusal → Posed → Type 0
 CausedBy r held first last result p = TextCause (QuestionCourse r p.0 p.1 p.2) held first last [] result
 
 none : {A B : Type 0} (x : A) → (let nothing : Option A = None in nothing ≡ Some x) → B
 none x is = absurd (cc)
 
 -- what words ask that pose a question is that question
-pub question-cause : (r : Readers) (w : Wanted) (p : List ℕ × List ℕ × Question) (held : List ℕ → Option (List ℕ)) (first last : List ℕ → ℕ)
-    (result : Result (Vec ℕ Global) Refusal) → posed w ≡ Some p → TextCause (QuestionCourse r p.0 p.1 p.2) held first last [] result
+pub question-cause : (r : Readers) (w : Wanted) (p : List ℕ × List ℕ × Question) (held : List ℕ → Option (List ℕ))
+    (first last : List ℕ → ℕ)
+    (result : Result (Vec ℕ Global) Refusal) → posed w ≡ Some p →
+    TextCause (QuestionCourse r p.0 p.1 p.2) held first last [] result
     → TextCause (CommandStep r w) held first last [] result
 question-cause r (parts scenario history originator number) p held first last result is cause =
     subst (CausedBy r held first last result) (sym (same_Some _ _ is)) cause
-question-cause r (blame scenario history) p held first last result is cause = subst (CausedBy r held first last result) (sym (same_Some _ _ is)) cause
+question-cause r (blame scenario history) p held first last result is cause =
+    subst (CausedBy r held first last result) (sym (same_Some _ _ is)) cause
 question-cause r (trend scenario history point from to) p held first last result is cause =
     subst (CausedBy r held first last result) (sym (same_Some _ _ is)) cause
 question-cause r (play scenario script words) p held first last result is cause = none p is
@@ -48,23 +52,27 @@ question-cause r (keys scenario) p held first last result is cause = none p is
 question-cause r (verify public message sig) p held first last result is cause = none p is
 question-cause r (rebuild scenario pieces) p held first last result is cause = none p is
 
-pub question-first : (r : Readers) (scenario history : List ℕ) (asked : Question) (first : List ℕ) (c : Contents) → LeadsTo with_scenario first c
+pub question-first : (r : Readers) (scenario history : List ℕ) (asked : Question) (first : List ℕ) (c : Contents) →
+    LeadsTo with_scenario first c
     → QuestionCourse r scenario history asked (first ∷ []) (Load history)
 question-first r scenario history asked first c one = sym (one (λ d. Load history))
 
 pub question-refused : (r : Readers) (scenario history : List ℕ) (asked : Question) (first : List ℕ) (w : Refusal)
-    → ((onward : Contents → Step) → with_scenario first onward ≡ Refuses w) → QuestionCourse r scenario history asked (first ∷ []) (Refuses w)
+    → ((onward : Contents → Step) → with_scenario first onward ≡ Refuses w) →
+    QuestionCourse r scenario history asked (first ∷ []) (Refuses w)
 question-refused r scenario history asked first w one = sym (one (λ d. Load history))
 
 -- the last step, where the scenario is read
 abbrev pub question-last : Readers → Contents → List ℕ → Question → Step
 question-last r c text asked = with_history r c text (λ h. with_answer r c h asked)
 
-pub question-second : (r : Readers) (scenario history : List ℕ) (asked : Question) (first second : List ℕ) (c : Contents) → LeadsTo with_scenario first c
+pub question-second : (r : Readers) (scenario history : List ℕ) (asked : Question) (first second : List ℕ)
+    (c : Contents) → LeadsTo with_scenario first c
     → QuestionCourse r scenario history asked (first ∷ second ∷ []) (question-last r c second asked)
 question-second r scenario history asked first second c one = sym (one (λ d. question-last r d second asked))
 
-pub question-makes : (r : Readers) (c : Contents) (text : List ℕ) (asked : Question) (result : Result (Vec ℕ Global) Refusal)
+pub question-makes : (r : Readers) (c : Contents) (text : List ℕ) (asked : Question)
+    (result : Result (Vec ℕ Global) Refusal)
     → AnswerGives r c text asked result → Makes (question-last r c text asked) result
 question-makes r c text asked (Ok answer) (history, spelt, is) =
     ap (λ p. accepted (λ (e : LineFault × ℕ). refusal.History e.0 e.1) p (λ h. with_answer r c h asked)) spelt
@@ -92,10 +100,12 @@ pub rebuild-first : (r : Readers) (scenario pieces first : List ℕ) (c : Conten
 rebuild-first r scenario pieces first c one = sym (one (λ d. Load pieces))
 
 pub rebuild-refused : (r : Readers) (scenario pieces first : List ℕ) (w : Refusal)
-    → ((onward : Contents → Step) → with_scenario first onward ≡ Refuses w) → RebuildCourse r scenario pieces (first ∷ []) (Refuses w)
+    → ((onward : Contents → Step) → with_scenario first onward ≡ Refuses w) →
+    RebuildCourse r scenario pieces (first ∷ []) (Refuses w)
 rebuild-refused r scenario pieces first w one = sym (one (λ d. Load pieces))
 
-pub rebuild-second : (r : Readers) (scenario pieces first second : List ℕ) (c : Contents) → LeadsTo with_scenario first c
+pub rebuild-second : (r : Readers) (scenario pieces first second : List ℕ) (c : Contents) →
+    LeadsTo with_scenario first c
     → RebuildCourse r scenario pieces (first ∷ second ∷ []) (with_pieces r c second)
 rebuild-second r scenario pieces first second c one = sym (one (λ d. with_pieces r d second))
 
@@ -113,9 +123,11 @@ made-lack : (r : Readers) (c : Contents) (text : List ℕ) (why : Refusal)
     → (lack : NoRequest) × (r.rebuilt c text ≡ Err lack) × (why ≡ request_refusal lack)
     → (let result : Result (Vec ℕ Global) Refusal = Err why in Makes (with_pieces r c text) result)
 made-lack r c text why (lack, is, told) =
-    subst (λ w. let result : Result (Vec ℕ Global) Refusal = Err w in Makes (with_pieces r c text) result) (sym told) (made-refused r c text lack is)
+    subst (λ w. let result : Result (Vec ℕ Global) Refusal = Err w in Makes (with_pieces r c text) result) (sym told)
+    (made-refused r c text lack is)
 
-pub rebuild-makes : (r : Readers) (c : Contents) (text : List ℕ) (result : Result (Vec ℕ Global) Refusal) → RebuildGives r c text result
+pub rebuild-makes : (r : Readers) (c : Contents) (text : List ℕ) (result : Result (Vec ℕ Global) Refusal) →
+    RebuildGives r c text result
     → Makes (with_pieces r c text) result
 rebuild-makes r c text (Ok request) is = ap (λ a. accepted request_refusal a (λ t. Gives t)) is
 rebuild-makes r c text (Err refusal.Memory) gives = tt
@@ -123,9 +135,11 @@ rebuild-makes r c text (Err refusal.Usage) gives = made-lack r c text refusal.Us
 rebuild-makes r c text (Err (refusal.Fault name)) gives = made-lack r c text (refusal.Fault name) gives
 rebuild-makes r c text (Err (refusal.TooLong name)) gives = made-lack r c text (refusal.TooLong name) gives
 rebuild-makes r c text (Err (refusal.Scenario fault)) gives = made-lack r c text (refusal.Scenario fault) gives
-rebuild-makes r c text (Err (refusal.Script fault number)) gives = made-lack r c text (refusal.Script fault number) gives
+rebuild-makes r c text (Err (refusal.Script fault number)) gives =
+    made-lack r c text (refusal.Script fault number) gives
 rebuild-makes r c text (Err (refusal.Words fault number)) gives = made-lack r c text (refusal.Words fault number) gives
-rebuild-makes r c text (Err (refusal.History fault number)) gives = made-lack r c text (refusal.History fault number) gives
+rebuild-makes r c text (Err (refusal.History fault number)) gives =
+    made-lack r c text (refusal.History fault number) gives
 rebuild-makes r c text (Err refusal.NotVerified) gives = made-lack r c text refusal.NotVerified gives
 rebuild-makes r c text (Err (refusal.NoAnswer lack)) gives = made-lack r c text (refusal.NoAnswer lack) gives
 rebuild-makes r c text (Err (refusal.Pieces at)) gives = made-lack r c text (refusal.Pieces at) gives

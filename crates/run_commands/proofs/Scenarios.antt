@@ -18,7 +18,8 @@ use Rattle.run_commands.specs.Opened.{Leads, LeadsTo}
 abbrev read_if : Bool → List ℕ → Result Contents ScenarioRefusal
 read_if is text = if is then scenario_in text else Err scenario.BadToml
 
-shown_if : (is : Bool) (text : List ℕ) (result : Result Scenario ScenarioRefusal) → is_utf8 text ≡ is → (IsUtf8 text → Shows contents result (scenario_in text))
+shown_if : (is : Bool) (text : List ℕ) (result : Result Scenario ScenarioRefusal) → is_utf8 text ≡ is →
+    (IsUtf8 text → Shows contents result (scenario_in text))
     → (¬ IsUtf8 text → result ≡ Err scenario.BadToml) → Shows contents result (read_if is text)
 shown_if true text result is reads none = reads (IsUtf8-from_is_utf8 text is)
 shown_if false text result is reads none =
@@ -26,7 +27,8 @@ shown_if false text result is reads none =
     subst (λ (r : Result Scenario ScenarioRefusal). Shows contents r (Err scenario.BadToml)) (sym (none no_text)) refl
 
 -- what a scenario is read from
-pub shown-at : (text : List ℕ) (result : Result Scenario ScenarioRefusal) → (IsUtf8 text → Shows contents result (scenario_in text))
+pub shown-at : (text : List ℕ) (result : Result Scenario ScenarioRefusal) →
+    (IsUtf8 text → Shows contents result (scenario_in text))
     → (¬ IsUtf8 text → result ≡ Err scenario.BadToml) → Shows contents result (scenario_at text)
 unfolding scenario_at
 shown-at text result reads none = shown_if (is_utf8 text) text result refl reads none
@@ -34,7 +36,8 @@ shown-at text result reads none = shown_if (is_utf8 text) text result refl reads
 pub leads-on : (text : List ℕ) (c : Contents) → scenario_at text ≡ Ok c → LeadsTo with_scenario text c
 leads-on text c is = λ onward. ap (λ a. accepted scenario_refusal a onward) is
 
-leads-off : (text : List ℕ) (e : ScenarioRefusal) → scenario_at text ≡ Err e → (onward : Contents → Step) → with_scenario text onward ≡ Refuses (scenario_refusal e)
+leads-off : (text : List ℕ) (e : ScenarioRefusal) → scenario_at text ≡ Err e → (onward : Contents → Step) →
+    with_scenario text onward ≡ Refuses (scenario_refusal e)
 leads-off text e is = λ onward. ap (λ a. accepted scenario_refusal a onward) is
 
 by-fault : (text : List ℕ) (e : ScenarioRefusal) → RefusesScenario e (scenario_at text)
@@ -47,6 +50,8 @@ by-fault text (scenario.UnknownKey name) is = leads-off text (scenario.UnknownKe
 by-fault text scenario.Want is = tt
 
 -- a fault leads to its refusal
-pub leads-by : (text : List ℕ) (e : ScenarioRefusal) (result : Result Scenario Refusal) → result ≡ Err (scenario_refusal e)
+pub leads-by : (text : List ℕ) (e : ScenarioRefusal) (result : Result Scenario Refusal) →
+    result ≡ Err (scenario_refusal e)
     → RefusesScenario e (scenario_at text) → Leads with_scenario contents text result
-leads-by text e result refused is = subst (λ (r : Result Scenario Refusal). Leads with_scenario contents text r) (sym refused) (by-fault text e is)
+leads-by text e result refused is = subst (λ (r : Result Scenario Refusal). Leads with_scenario contents text r)
+    (sym refused) (by-fault text e is)

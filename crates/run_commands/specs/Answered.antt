@@ -1,5 +1,5 @@
--- What a call puts that asks a question over a history: the answer over one legal history, the one that its file spells. (This
--- project's own.)
+-- What a call puts that asks a question over a history: the answer over one legal history, the one that its file
+-- spells. (This project's own.)
 use Rattle.std.specs.Prelude.{◌≡◌, ℕ, List, Option, Some, Ok, Err, option_map, option_and_then}
 use Rattle.outside.specs.Piece.{with_piece}
 use Rattle.scenario_file.specs.Reading.{Contents}
@@ -78,7 +78,8 @@ pub record Rebuilt (r : Readers) (call : Call) (scenario pieces : List ℕ) : Ty
   pub put : call.put_after ≡ with_piece call.put_before text
 
 -- there is no request of these parts
-pub record NotRebuilt (r : Readers) (call : Call) (err : ErrorSink) (status : ℕ) (scenario pieces : List ℕ) : Type 0 where
+pub record NotRebuilt (r : Readers) (call : Call) (err : ErrorSink) (status : ℕ)
+    (scenario pieces : List ℕ) : Type 0 where
   pub contents : Contents
   pub lines : List ℕ
   pub has : HasPieces call scenario pieces contents lines
@@ -88,6 +89,7 @@ pub record NotRebuilt (r : Readers) (call : Call) (err : ErrorSink) (status : �
 
 -- Each request that is asked for from parts and ends well is the one that they rebuild, and each with status 9 is none.
 pub record KeepsRequests (r : Readers) (call : Call) (err : ErrorSink) (status : ℕ) : Type 0 where
-  pub rebuilds : status ≡ 0 → (scenario pieces : List ℕ) → wanted_in call.words ≡ Some (rebuild scenario pieces) → Rebuilt r call scenario pieces
+  pub rebuilds : status ≡ 0 → (scenario pieces : List ℕ) → wanted_in call.words ≡ Some (rebuild scenario pieces) →
+      Rebuilt r call scenario pieces
   pub lacks : status ≡ 9 → (scenario pieces : List ℕ) → wanted_in call.words ≡ Some (rebuild scenario pieces)
       → NotRebuilt r call err status scenario pieces

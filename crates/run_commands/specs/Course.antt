@@ -3,7 +3,8 @@ use Rattle.std.specs.Prelude.{◌≡◌, ◌⊎◌, ℕ, Bool, true, false, List
 use Rattle.scenario_file.specs.Reading.{Contents}
 use Rattle.history_rules.specs.Events.{Entry}
 use Rattle.hash_signatures.specs.Verification.{Verifies}
-use Rattle.command_words.specs.Wanted.{Wanted, play, run, replay, make, keys, verify, parts, rebuild, blame, trend, is_command, wanted_in}
+use Rattle.command_words.specs.Wanted.{Wanted, play, run, replay, make, keys, verify, parts, rebuild, blame, trend}
+use Rattle.command_words.specs.Wanted.{is_command, wanted_in}
 use Rattle.made_runs.specs.Scenario.{made_scenario}
 use Rattle.made_runs.specs.Script.{made_script}
 use Rattle.made_runs.specs.Summary.{summary}
@@ -15,7 +16,8 @@ use Rattle.command_ends.specs.declared.refusal.Refusal.TheVariants as refusal
 use Rattle.run_commands.specs.declared.questions.Question.{Question}
 use Rattle.run_commands.specs.declared.questions.Question.TheVariants as question
 use Rattle.run_commands.specs.Readers.{Readers}
-use Rattle.run_commands.specs.Reading.{with_scenario, with_script, with_words, with_play, with_history, with_answer, with_pieces}
+use Rattle.run_commands.specs.Reading.{with_scenario, with_script, with_words, with_play, with_history, with_answer}
+use Rattle.run_commands.specs.Reading.{with_pieces}
 
 -- the files of a play are the scenario, the script and the words
 abbrev pub play_step : Readers → List ℕ → List ℕ → List ℕ → List (List ℕ) → Step
@@ -55,7 +57,8 @@ abbrev pub VerifyStep : List ℕ → List ℕ → List ℕ → List (List ℕ) �
 VerifyStep public message sig [] step = step ≡ Load message
 VerifyStep public message sig (a ∷ []) step = step ≡ Load sig
 VerifyStep public message sig (a ∷ b ∷ more) step =
-    (Verifies public a b × (step ≡ Gives verified_text)) ⊎ ((Verifies public a b → ⊥) × (step ≡ Refuses refusal.NotVerified))
+    (Verifies public a b × (step ≡ Gives verified_text))
+    ⊎ ((Verifies public a b → ⊥) × (step ≡ Refuses refusal.NotVerified))
 
 -- words whose public key isn't one are no command
 abbrev pub VerifyCourse : Option (List ℕ) → List ℕ → List ℕ → List (List ℕ) → Step → Type 0
@@ -66,7 +69,8 @@ VerifyCourse (Some public) message sig contents step = VerifyStep public message
 abbrev pub question_step : Readers → List ℕ → List ℕ → Question → List (List ℕ) → Step
 question_step r scenario history asked [] = Load scenario
 question_step r scenario history asked (a ∷ []) = with_scenario a (λ c. Load history)
-question_step r scenario history asked (a ∷ b ∷ more) = with_scenario a (λ c. with_history r c b (λ h. with_answer r c h asked))
+question_step r scenario history asked (a ∷ b ∷ more) =
+    with_scenario a (λ c. with_history r c b (λ h. with_answer r c h asked))
 
 abbrev pub QuestionCourse : Readers → List ℕ → List ℕ → Question → List (List ℕ) → Step → Type 0
 QuestionCourse r scenario history asked contents step = step ≡ question_step r scenario history asked contents
@@ -80,7 +84,8 @@ rebuild_step r scenario pieces (a ∷ b ∷ more) = with_scenario a (λ c. with_
 abbrev pub RebuildCourse : Readers → List ℕ → List ℕ → List (List ℕ) → Step → Type 0
 RebuildCourse r scenario pieces contents step = step ≡ rebuild_step r scenario pieces contents
 
--- What comes next in a command, after the contents of the files loaded so far. Runs in threads are `thread_commands`' matter, and are refused here.
+-- What comes next in a command, after the contents of the files loaded so far. Runs in threads are `thread_commands`'
+-- matter, and are refused here.
 abbrev pub CommandStep : Readers → Wanted → List (List ℕ) → Step → Type 0
 CommandStep r (play scenario script words) contents step = step ≡ play_step r scenario script words contents
 CommandStep r (replay scenario history) contents step = step ≡ replay_step r scenario history contents

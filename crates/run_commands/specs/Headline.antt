@@ -1,8 +1,8 @@
--- THE HEADLINE, as a clause of the program. Whatever the scenario, the words and the schedule: the text that is put is that of
--- one legal history, the one that the files define; and where at most f masters are intruded and the printed audit shows no
--- forged word and no shared digest, what is printed is agreed on, as `Agreed` of `world_rules` has it: of any two correct
--- masters' executions one begins the other, no update stands there twice or was never said by its client, and each proxy's
--- writes begin a correct master's orders.
+-- THE HEADLINE, as a clause of the program. Whatever the scenario, the words and the schedule: the text that is put is
+-- that of one legal history, the one that the files define; and where at most f masters are intruded and the printed
+-- audit shows no forged word and no shared digest, what is printed is agreed on, as `Agreed` of `world_rules` has it:
+-- of any two correct masters' executions one begins the other, no update stands there twice or was never said by its
+-- client, and each proxy's writes begin a correct master's orders.
 use Rattle.std.specs.Prelude.{◌≡◌, ℕ, Bool, true, false, List, Option, Some, Ok}
 use Rattle.outside.specs.Piece.{with_piece}
 use Rattle.scenario_file.specs.Reading.{Contents}
@@ -24,9 +24,11 @@ use Rattle.run_commands.specs.Reading.{scenario_at}
 -- The history of a call: the one that the script and the words define, or the one that the history's file spells.
 pub data IsRun (r : Readers) (call : Call) (c : Contents) (history : List Entry) : Type 0 where
   plays : (scenario script words : List ℕ) → wanted_in call.words ≡ Some (play scenario script words)
-      → (a b d : List ℕ) → IsContent (call.held scenario) a → IsContent (call.held script) b → IsContent (call.held words) d
+      → (a b d : List ℕ) → IsContent (call.held scenario) a → IsContent (call.held script) b →
+      IsContent (call.held words) d
       → (lines : List Line) (sayings : List Saying)
-      → scenario_at a ≡ Ok c → script_in (who_of c) b ≡ Ok lines → words_in (who_of c) d ≡ Ok sayings → r.played c lines sayings ≡ Ok history
+      → scenario_at a ≡ Ok c → script_in (who_of c) b ≡ Ok lines → words_in (who_of c) d ≡ Ok sayings →
+      r.played c lines sayings ≡ Ok history
       → (AreNotRaw sayings → forged (setup_of c) history ≡ 0)
       → IsRun r call c history
   replays : (scenario text : List ℕ) → wanted_in call.words ≡ Some (replay scenario text)

@@ -24,7 +24,9 @@ Makes step (Err why) = step ≡ Refuses why
 
 -- the text of the run that a number makes, or why there is none
 abbrev pub MakesRun : Readers → Contents → ℕ → Result (Vec ℕ Global) Refusal → Type 0
-MakesRun r c number (Ok text) = (history : List Entry) × ((onward : List Entry → Step) → made_history r c number onward ≡ onward history) × (text.items ≡ r.text_of c history)
+MakesRun r c number (Ok text) = (history : List Entry)
+    × ((onward : List Entry → Step) → made_history r c number onward ≡ onward history)
+    × (text.items ≡ r.text_of c history)
 MakesRun r c number (Err refusal.Memory) = Unit {0}
 MakesRun r c number (Err (refusal.Fault name)) = ⊥
 MakesRun r c number (Err (refusal.TooLong name)) = ⊥

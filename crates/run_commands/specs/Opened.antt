@@ -21,7 +21,8 @@ Leads reads shown content (Err refusal.Output) = ⊥
 Leads {A} {V} reads shown content (Err why) = (onward : V → Step) → reads content onward ≡ Refuses why
 
 -- the content of a file that isn't too long and was read, with what it leads to
-abbrev pub IsRead : {A V : Type 0} → (List ℕ → (V → Step) → Step) → (A → V) → Option (List ℕ) → Result A Refusal → Type 0
+abbrev pub IsRead : {A V : Type 0} → (List ℕ → (V → Step) → Step) → (A → V) → Option (List ℕ) →
+    Result A Refusal → Type 0
 IsRead reads shown held result =
     (content : List ℕ) × IsContent held content × (length content ≤ most_bytes) × Leads reads shown content result
 
@@ -30,7 +31,8 @@ abbrev pub IsOf : Option (List ℕ) → (List ℕ → Type 0) → Type 0
 IsOf held Holds = (content : List ℕ) × IsContent held content × (length content ≤ most_bytes) × Holds content
 
 -- Why a file of that name gave a value, or none. Want of memory alone is free.
-abbrev pub OpenCause : {A V : Type 0} → (List ℕ → (V → Step) → Step) → (A → V) → Option (List ℕ) → ℕ → ℕ → List ℕ → Result A Refusal → Type 0
+abbrev pub OpenCause : {A V : Type 0} → (List ℕ → (V → Step) → Step) → (A → V) → Option (List ℕ) → ℕ → ℕ →
+    List ℕ → Result A Refusal → Type 0
 OpenCause reads shown held before after name (Ok value) = IsRead reads shown held (Ok value)
 OpenCause reads shown held before after name (Err refusal.Memory) = Unit {0}
 OpenCause reads shown held before after name (Err (refusal.Fault named)) = (named ≡ name) × HasRisen before after

@@ -23,15 +23,15 @@ use Rattle.command_ends.specs.declared.refusal.Refusal.{Refusal}
 use Rattle.command_ends.specs.declared.refusal.Refusal.TheVariants as refusal
 use Rattle.run_commands.specs.declared.questions.Question.{Question}
 
--- Why lines of parts rebuild no request: the first line that isn't of its form, or no f + 1 of the parts are those of one
--- text that has the digest.
+-- Why lines of parts rebuild no request: the first line that isn't of its form, or no f + 1 of the parts are those of
+-- one text that has the digest.
 pub data NoRequest : Type 0 where
   BadLine : (number : ℕ) → NoRequest
   NoText : NoRequest
 
--- The one history of a script and words, the history that a text spells, and the text of a history; or the first fault with
--- its number. Then what a question over a history is answered with, and the request that lines of parts rebuild, as text; or
--- why there is none.
+-- The one history of a script and words, the history that a text spells, and the text of a history; or the first fault
+-- with its number. Then what a question over a history is answered with, and the request that lines of parts rebuild,
+-- as text; or why there is none.
 pub record Readers : Type 0 where
   pub played : Contents → List Line → List Saying → Result (List Entry) (LineFault × ℕ)
   pub history_in : Contents → List ℕ → Result (List Entry) (LineFault × ℕ)
@@ -54,8 +54,8 @@ IsScriptOf c lines = (bytes : List ℕ) × (script_in (who_of c) bytes ≡ Ok li
 abbrev pub AreWordsOf : Contents → List Saying → Type 0
 AreWordsOf c sayings = (bytes : List ℕ) × (words_in (who_of c) bytes ≡ Ok sayings)
 
--- What holds of these: a history played from files is legal, and without raw words nothing in it is forged; a history that a
--- text spells is legal.
+-- What holds of these: a history played from files is legal, and without raw words nothing in it is forged; a history
+-- that a text spells is legal.
 pub record Keeps (r : Readers) : Type 0 where
   pub played_legal : (c : Contents) (lines : List Line) (sayings : List Saying) (history : List Entry) → IsScenario c
       → IsScriptOf c lines → AreWordsOf c sayings → r.played c lines sayings ≡ Ok history
@@ -63,19 +63,22 @@ pub record Keeps (r : Readers) : Type 0 where
   pub played_unforged : (c : Contents) (lines : List Line) (sayings : List Saying) (history : List Entry) → IsScenario c
       → IsScriptOf c lines → AreWordsOf c sayings → r.played c lines sayings ≡ Ok history
       → AreNotRaw sayings → forged (setup_of c) history ≡ 0
-  pub read_legal : (c : Contents) (text : List ℕ) (history : List Entry) → IsScenario c → r.history_in c text ≡ Ok history
+  pub read_legal : (c : Contents) (text : List ℕ) (history : List Entry) → IsScenario c →
+      r.history_in c text ≡ Ok history
       → IsLegal (setup_of c) history
 
 -- the text of a play, or the line at which it stops
 abbrev pub PlayGives : Readers → Contents → List Line → List Saying → Result (Vec ℕ Global) Refusal → Type 0
-PlayGives r c lines sayings (Ok text) = (history : List Entry) × (r.played c lines sayings ≡ Ok history) × (text.items ≡ r.text_of c history)
+PlayGives r c lines sayings (Ok text) = (history : List Entry) × (r.played c lines sayings ≡ Ok history)
+    × (text.items ≡ r.text_of c history)
 PlayGives r c lines sayings (Err (refusal.Script fault line)) = r.played c lines sayings ≡ Err (fault, line)
 PlayGives r c lines sayings (Err refusal.Memory) = Unit {0}
 PlayGives r c lines sayings (Err _) = ⊥
 
 -- the text of a history that is read, or why it isn't one
 abbrev pub ReplayGives : Readers → Contents → List ℕ → Result (Vec ℕ Global) Refusal → Type 0
-ReplayGives r c bytes (Ok text) = (history : List Entry) × (r.history_in c bytes ≡ Ok history) × (text.items ≡ r.text_of c history)
+ReplayGives r c bytes (Ok text) = (history : List Entry) × (r.history_in c bytes ≡ Ok history)
+    × (text.items ≡ r.text_of c history)
 ReplayGives r c bytes (Err (refusal.History fault number)) = r.history_in c bytes ≡ Err (fault, number)
 ReplayGives r c bytes (Err refusal.Memory) = Unit {0}
 ReplayGives r c bytes (Err _) = ⊥

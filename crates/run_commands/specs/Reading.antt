@@ -61,14 +61,16 @@ with_words c bytes onward = accepted words_refusal (words_in (who_of c) bytes) o
 
 -- a play that stops counts as its script's fault
 abbrev pub with_play : Readers → Contents → List Line → List Saying → (List Entry → Step) → Step
-with_play r c lines sayings onward = accepted (λ (e : LineFault × ℕ). refusal.Script e.0 e.1) (r.played c lines sayings) onward
+with_play r c lines sayings onward = accepted (λ (e : LineFault × ℕ). refusal.Script e.0 e.1)
+    (r.played c lines sayings) onward
 
 abbrev pub with_history : Readers → Contents → List ℕ → (List Entry → Step) → Step
 with_history r c bytes onward = accepted (λ (e : LineFault × ℕ). refusal.History e.0 e.1) (r.history_in c bytes) onward
 
 -- what a question over a history comes to
 abbrev pub with_answer : Readers → Contents → List Entry → Question → Step
-with_answer r c history question = accepted (λ (why : NoAnswer). refusal.NoAnswer why) (r.answered c history question) (λ text. Gives text)
+with_answer r c history question = accepted (λ (why : NoAnswer). refusal.NoAnswer why) (r.answered c history question)
+    (λ text. Gives text)
 
 -- what lines of parts come to
 abbrev pub with_pieces : Readers → Contents → List ℕ → Step

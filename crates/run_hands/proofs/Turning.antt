@@ -1,5 +1,6 @@
 -- What is known of a turn that was made.
-use Rattle.std.proofs.Common.{◌≡◌, ℕ, ◌+◌, ◌<◌, ◌≤◌, Bool, true, false, cond, List, Option, Some, None, length, nat_lt, refl, sym, ◌∙◌, ap, subst, inl, inr, ◌⊎◌, arith}
+use Rattle.std.proofs.Common.{◌≡◌, ℕ, ◌+◌, ◌<◌, ◌≤◌, Bool, true, false, cond, List, Option, Some, None, length}
+use Rattle.std.proofs.Common.{nat_lt, refl, sym, ◌∙◌, ap, subst, inl, inr, ◌⊎◌, arith}
 use Rattle.std.specs.Prelude.{IfSome}
 use Rattle.std.specs.List.{list_all}
 use Rattle.std.proofs.lemmas.Bool.{true≢false}
@@ -28,13 +29,18 @@ back_when w true held well = well
 back_when w false held well = tt
 
 -- the frame that comes back from a turn stands
-back_stands : (w : Setup) (old new : Stationed) (held : Option Held) (t : Turned) → Turns old held t new → stand_held w held → stand_held w t.held
+back_stands : (w : Setup) (old new : Stationed) (held : Option Held) (t : Turned) → Turns old held t new →
+    stand_held w held → stand_held w t.held
 back_stands w old new held t (inl cut) well = subst (stand_held w) (sym cut.back) well
-back_stands w old new held t (inr adds) well = subst (stand_held w) (sym adds.back) (back_when w _ (still_held held adds.stamp) (still_stands w held adds.stamp well))
+back_stands w old new held t (inr adds) well =
+    subst (stand_held w) (sym adds.back)
+    (back_when w _ (still_held held adds.stamp) (still_stands w held adds.stamp well))
 
 -- what a station's turn gives can be handed on
-pub well_turned : (c : Contents) (old new : Stationed) (held : Option Held) (t : Turned) → Turns old held t new → stand_held (setup_of c) held → list_all has_spelling t.frames.items ≡ true
-    → (t.cried ≡ false → list_all (stands (setup_of c)) t.frames.items ≡ true) → list_all (is_there c) t.to ≡ true → IsWellTurned c t
+pub well_turned : (c : Contents) (old new : Stationed) (held : Option Held) (t : Turned) → Turns old held t new →
+    stand_held (setup_of c) held → list_all has_spelling t.frames.items ≡ true
+    → (t.cried ≡ false → list_all (stands (setup_of c)) t.frames.items ≡ true) → list_all (is_there c) t.to ≡ true →
+    IsWellTurned c t
 well_turned c old new held t turns well spelled stand there = record {
   spelled = spelled;
   stand = stand;
@@ -55,22 +61,27 @@ well_here c d t same well = subst (λ (x : Contents). IsWellTurned x t) (sym sam
 
 -- how many turns are left to an actor that isn't halted
 
-pub left_to_make : (halted : Bool) (made n turns : ℕ) → (halted ≡ true) ⊎ (made ≡ n) → halted ≡ false → n < turns → made < turns
+pub left_to_make : (halted : Bool) (made n turns : ℕ) → (halted ≡ true) ⊎ (made ≡ n) → halted ≡ false →
+    n < turns → made < turns
 left_to_make halted made n turns (inl is) isnt few = absurd (true≢false (sym is ∙ isnt))
 left_to_make halted made n turns (inr is) isnt few = omega arith
 
-pub made_more : (was now : Bool) (before after n : ℕ) → (was ≡ true) ⊎ (before ≡ n) → was ≡ false → (now ≡ true) ⊎ (after ≡ before + 1) → (now ≡ true) ⊎ (after ≡ n + 1)
+pub made_more : (was now : Bool) (before after n : ℕ) → (was ≡ true) ⊎ (before ≡ n) → was ≡ false →
+    (now ≡ true) ⊎ (after ≡ before + 1) → (now ≡ true) ⊎ (after ≡ n + 1)
 made_more was now before after n (inl is) isnt next = absurd (true≢false (sym is ∙ isnt))
 made_more was now before after n (inr is) isnt (inl halts) = inl halts
 made_more was now before after n (inr is) isnt (inr more) = inr (omega arith)
 
-pub made_all : (halted : Bool) (made n turns : ℕ) → (halted ≡ true) ⊎ (made ≡ n) → n ≡ turns → (halted ≡ true) ⊎ (made ≡ turns)
+pub made_all : (halted : Bool) (made n turns : ℕ) → (halted ≡ true) ⊎ (made ≡ n) → n ≡ turns →
+    (halted ≡ true) ⊎ (made ≡ turns)
 made_all halted made n turns (inl is) all = inl is
 made_all halted made n turns (inr is) all = inr (is ∙ all)
 
-pub some_well : (c : Contents) (o : Option Turned) (t : Turned) → IfSome o (λ x. IsWellTurned c x) → o ≡ Some t → IsWellTurned c t
+pub some_well : (c : Contents) (o : Option Turned) (t : Turned) → IfSome o (λ x. IsWellTurned c x) →
+    o ≡ Some t → IsWellTurned c t
 some_well c o t well is = subst (λ (p : Option Turned). IfSome p (λ x. IsWellTurned c x)) is well
 
 -- the held frame of a turn, once it is taken from it
-pub held_of : (c : Contents) (t : Turned) (held : Option Held) → IsWellTurned c t → held ≡ t.held → stand_held (setup_of c) held
+pub held_of : (c : Contents) (t : Turned) (held : Option Held) → IsWellTurned c t → held ≡ t.held →
+    stand_held (setup_of c) held
 held_of c t held well same = subst (stand_held (setup_of c)) (sym same) well.back

@@ -16,8 +16,8 @@ use Rattle.inboxes.specs.Steps.{Took}
 use Rattle.run_hands.specs.declared.posted.Posted.{Posted}
 use Rattle.run_hands.specs.declared.shared.Shared.{Shared}
 
--- It is what the hands of the run of this name share: its scenario with the keys of its actors, its stamps, and an inbox for
--- each actor.
+-- It is what the hands of the run of this name share: its scenario with the keys of its actors, its stamps, and an
+-- inbox for each actor.
 pub record IsShared (name : RunName) (shared : Shared) : Type 0 where
   pub valid : IsScenario name.scenario
   pub scenario : contents shared.scenario.now ≡ name.scenario
@@ -29,7 +29,8 @@ pub record IsShared (name : RunName) (shared : Shared) : Type 0 where
 -- the passes are of these inboxes, one of each, in their order
 pub record ArePassesOf (inboxes : List (Inbox Posted)) (passes : List (InboxPass Posted)) : Type 0 where
   pub count : length passes ≡ length inboxes
-  pub each : (place : ℕ) (inbox : Inbox Posted) (pass : InboxPass Posted) → slice_get inboxes place ≡ Some inbox → slice_get passes place ≡ Some pass → IsPassOf inbox pass
+  pub each : (place : ℕ) (inbox : Inbox Posted) (pass : InboxPass Posted) → slice_get inboxes place ≡ Some inbox →
+      slice_get passes place ≡ Some pass → IsPassOf inbox pass
 
 -- what may be posted
 abbrev pub may_post : Posted → Type 0

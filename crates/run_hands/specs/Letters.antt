@@ -1,5 +1,6 @@
 -- What is handed on of a turn, and to whom. (This project's own.)
-use Rattle.std.specs.Prelude.{◌≡◌, ℕ, suc, ◌^◌, ◌<◌, true, false, List, [], ◌∷◌, ◌++◌, length, map, filter, take, Option, Some, None, slice_get, nat_eq, if◌then◌else◌, IfSome}
+use Rattle.std.specs.Prelude.{◌≡◌, ℕ, suc, ◌^◌, ◌<◌, true, false, List, [], ◌∷◌, ◌++◌, length, map, filter, take}
+use Rattle.std.specs.Prelude.{Option, Some, None, slice_get, nat_eq, if◌then◌else◌, IfSome}
 use Rattle.std.specs.List.{list_all, flat_map}
 use Rattle.message_types.specs.declared.signed.Signed.{Signed}
 use Rattle.message_types.specs.declared.body.Body.{Body}
@@ -27,7 +28,8 @@ posted_from stamp place (f ∷ fs) = record { stamp = stamp; place = place; fram
 abbrev pub posts_of : Turned → List Posted
 posts_of t = posted_from t.stamp 0 (take most_frames t.frames.items)
 
--- The actors that a frame of an actor's turn goes to: the cry of a word to whom the word was said, each other where its body does.
+-- The actors that a frame of an actor's turn goes to: the cry of a word to whom the word was said, each other where its
+-- body does.
 abbrev pub goes_to : Contents → ℕ → Turned → Signed Body → List ℕ
 goes_to c actor t f = if t.cried then t.to else addressees (setup_of c).group actor f.body
 
@@ -48,13 +50,16 @@ abbrev pub sent_by : Option (InboxPass Posted) → List Posted
 sent_by None = []
 sent_by (Some pass) = map (λ item. item.1) (known pass).posted
 
--- By these passes, one an actor's inbox, the letters were posted: to each actor those that are for it, in their order, and
--- nothing else.
-pub record HaveSent (old : List (InboxPass Posted)) (all : List (ℕ × Posted)) (new : List (InboxPass Posted)) : Type 0 where
+-- By these passes, one an actor's inbox, the letters were posted: to each actor those that are for it, in their order,
+-- and nothing else.
+pub record HaveSent (old : List (InboxPass Posted)) (all : List (ℕ × Posted))
+    (new : List (InboxPass Posted)) : Type 0 where
   pub count : length new ≡ length old
-  pub each : (actor : ℕ) → actor < length old → sent_by (slice_get new actor) ≡ sent_by (slice_get old actor) ++ to_actor actor all
+  pub each : (actor : ℕ) → actor < length old → sent_by (slice_get new actor) ≡ sent_by (slice_get old actor)
+      ++ to_actor actor all
 
--- A frame of a turn that can be handed on: it stands, unless a word was cried, and then the word was said to actors that are there.
+-- A frame of a turn that can be handed on: it stands, unless a word was cried, and then the word was said to actors
+-- that are there.
 pub record CanGo (c : Contents) (t : Turned) (f : Signed Body) : Type 0 where
   pub spelled : has_spelling f ≡ true
   pub stand : t.cried ≡ false → stands (setup_of c) f ≡ true

@@ -11,6 +11,7 @@ use crate::posted::Posted;
 use crate::posting::post_all;
 use crate::shared::Shared;
 use crate::taking::next_held;
+use checked_frames::RingMemory;
 use inboxes::InboxPass;
 use plain_lists::Want;
 use station_turns::{Held, Naming, Station};
@@ -20,6 +21,7 @@ use std::sync::Wait;
 fn make_turn<N: Naming, R: Wait>(
     rt: &R,
     shared: &Shared<'_>,
+    memory: &mut RingMemory,
     station: &mut Station<N>,
     actor: u32,
     held: Option<Held>,
@@ -37,7 +39,7 @@ fn make_turn<N: Naming, R: Wait>(
     ensures works { OnOk result (station.new.given_up ≡ false) }
     ensures made { OnOk result ((halted_in station.new.kept.bench ≡ true) ⊎ (turns_made station.new.kept.bench.list ≡ turns_made station.old.kept.bench.list + 1)) }
 {
-    let taken = next_held(rt, shared, actor, held, passes)?;
+    let taken = next_held(rt, shared, memory, actor, held, passes)?;
     let mut turned = station.turn(shared.scenario, shared.stamps, taken)?;
     post_all(rt, shared, actor, &turned, passes)?;
     Ok(turned.held.take())
@@ -61,12 +63,13 @@ pub fn lacking<N: Naming, R: Wait>(
     if station.is_given_up() {
         return Err(Want);
     }
+    let mut memory = RingMemory::new(shared.alloc, shared.ring);
     let mut held = None;
     for _made in station.count()..shared.turns {
         if station.halted() {
             return Ok(());
         }
-        held = make_turn(rt, shared, station, actor, held, passes)?;
+        held = make_turn(rt, shared, &mut memory, station, actor, held, passes)?;
     }
     Ok(())
 }

@@ -11,6 +11,7 @@ use crate::posted::Posted;
 use crate::posting::post_all;
 use crate::shared::Shared;
 use crate::taking::next_held;
+use checked_frames::RingMemory;
 use inboxes::InboxPass;
 use plain_lists::Want;
 use station_turns::{Held, Naming, Station, Turned};
@@ -58,10 +59,11 @@ pub fn hand<N: Naming, R: Threads + Wait, G: Gate>(
     requires passes { ArePassesOf shared.now.inboxes.now passes.old.items }
     ensures passes { ArePassesOf shared.now.inboxes.now passes.new.items }
 {
+    let mut memory = RingMemory::new(shared.alloc, shared.ring);
     let mut held = None;
     for turn in 0..shared.turns {
         gate.pass(rt, actor, turn);
-        let taken = next_held(rt, shared, actor, held, passes)?;
+        let taken = next_held(rt, shared, &mut memory, actor, held, passes)?;
         let Some(mut turned) = turn_under_lock(rt, shared, station, gate, actor, taken)? else {
             return Ok(());
         };

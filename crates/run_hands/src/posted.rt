@@ -5,7 +5,7 @@ ghost use Rattle.world_rules.specs.Scenarios.{setup_of};
 ghost use Rattle.bench_rules.specs.Lists.{ring_in};
 ghost use Rattle.station_turns.specs.Checking.{held_where_standing};
 
-use checked_frames::KeyRing;
+use checked_frames::{KeyRing, RingMemory};
 use inboxes::Postable;
 use message_types::Frame;
 use plain_lists::{Copied, Want};
@@ -49,7 +49,12 @@ impl Copied for Posted {
 
 impl Posted {
     /// As a turn can take it: none where the frame doesn't stand.
-    pub(crate) fn into_held(self, alloc: Global, ring: &KeyRing) -> Result<Option<Held>, Want>
+    pub(crate) fn into_held(
+        self,
+        alloc: Global,
+        ring: &KeyRing,
+        memory: &mut RingMemory,
+    ) -> Result<Option<Held>, Want>
         requires { IsTrue (has_spelling self.frame) }
         ensures { IfOk result (λ held. (c : Contents) → ring.now ≡ ring_in c → held ≡ held_where_standing (setup_of c) self.stamp self.place self.frame) }
     {
@@ -58,6 +63,6 @@ impl Posted {
             place,
             frame,
         } = self;
-        held_if_standing(alloc, ring, stamp, place, frame)
+        held_if_standing(alloc, ring, memory, stamp, place, frame)
     }
 }

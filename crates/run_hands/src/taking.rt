@@ -9,6 +9,7 @@ ghost use Rattle.run_hands.specs.Hands.{ArePassesOf, Takes};
 
 use crate::posted::Posted;
 use crate::shared::Shared;
+use checked_frames::RingMemory;
 use inboxes::{Inbox, InboxPass};
 use plain_lists::Want;
 use station_turns::Held;
@@ -18,6 +19,7 @@ use std::sync::Wait;
 fn take_held<R: Wait>(
     rt: &R,
     shared: &Shared<'_>,
+    memory: &mut RingMemory,
     inbox: &Inbox<Posted>,
     pass: &mut InboxPass<Posted>,
 ) -> Result<Option<Held>, Want>
@@ -26,7 +28,7 @@ fn take_held<R: Wait>(
     ensures takes { IfOk result (λ held. (c : Contents) → shared.now.ring.now ≡ ring_in c → Takes c pass.old held pass.new) }
 {
     match inbox.take(rt, pass) {
-        Some(posted) => posted.into_held(shared.alloc, shared.ring),
+        Some(posted) => posted.into_held(shared.alloc, shared.ring, memory),
         None => Ok(None),
     }
 }
@@ -35,6 +37,7 @@ fn take_held<R: Wait>(
 pub(crate) fn next_held<R: Wait>(
     rt: &R,
     shared: &Shared<'_>,
+    memory: &mut RingMemory,
     actor: u32,
     held: Option<Held>,
     passes: &mut Vec<InboxPass<Posted>>,
@@ -49,5 +52,11 @@ pub(crate) fn next_held<R: Wait>(
         return Ok(held);
     }
     let place = actor as usize;
-    take_held(rt, shared, &shared.inboxes[place], &mut passes[place])
+    take_held(
+        rt,
+        shared,
+        memory,
+        &shared.inboxes[place],
+        &mut passes[place],
+    )
 }

@@ -1,5 +1,6 @@
 -- Stamps that were drawn each once.
-use Rattle.std.proofs.Common.{◌≡◌, ℕ, suc, ◌+◌, ◌<◌, Bool, true, false, cond, List, [], ◌∷◌, ◌++◌, length, map, filter, nat_eq, nat_lt, refl, sym, ◌∙◌, ap, arith}
+use Rattle.std.proofs.Common.{◌≡◌, ℕ, suc, ◌+◌, ◌<◌, Bool, true, false, cond, List, [], ◌∷◌, ◌++◌, length, map}
+use Rattle.std.proofs.Common.{filter, nat_eq, nat_lt, refl, sym, ◌∙◌, ap, arith}
 use Rattle.std.specs.List.{flat_map}
 use Rattle.std.proofs.lemmas.Bool.{lt-ltb}
 use Rattle.std.proofs.lemmas.Bool.Decides.{nat_tests}
@@ -21,7 +22,8 @@ kept_one : (b : Bool) (e : Entry) (rest : List Entry) → length (cond b (e ∷ 
 kept_one true e rest = omega arith
 kept_one false e rest = omega arith
 
-times_in : (x : ℕ) (list : List Entry) → times x (stamps_in list) ≡ length (filter (λ (e : Entry). nat_eq e.stamp x) list)
+times_in : (x : ℕ) (list : List Entry) →
+    times x (stamps_in list) ≡ length (filter (λ (e : Entry). nat_eq e.stamp x) list)
 times_in x [] = times_none x
 times_in x (e ∷ rest) =
     times-append x (e.stamp ∷ []) (stamps_in rest)

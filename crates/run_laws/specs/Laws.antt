@@ -21,4 +21,5 @@ DrawnOnceIsStampedOnce = (n : ℕ) (lists : List (List Entry)) → IsEachOnce n 
 
 -- own histories of all actors with such stamps merge to a legal history
 abbrev pub RunIsLegal : Type 0
-RunIsLegal = (w : Setup) (n : ℕ) (lists : List (List Entry)) → AreOwnHistories w lists → IsEachOnce n (stamps_of lists) → IsLegal w (merged lists)
+RunIsLegal = (w : Setup) (n : ℕ) (lists : List (List Entry)) → AreOwnHistories w lists →
+    IsEachOnce n (stamps_of lists) → IsLegal w (merged lists)

@@ -1,5 +1,7 @@
 -- Texts made line by line, each line with its number.
-use Rattle.std.proofs.Common.{◌≡◌, ℕ, suc, ◌+◌, ◌-◌, ◌≤◌, ◌<◌, nat_lt, List, [], ◌∷◌, ◌++◌, drop, length, get_or, refl, sym, ◌∙◌, ap, arith, append_assoc, append-nil, drop-cons, cond, true, false, codes, decimal}
+use Rattle.std.proofs.Common.{◌≡◌, ℕ, suc, ◌+◌, ◌-◌, ◌≤◌, ◌<◌, nat_lt, List, [], ◌∷◌, ◌++◌, drop, length, get_or}
+use Rattle.std.proofs.Common.{refl, sym, ◌∙◌, ap, arith, append_assoc, append-nil, drop-cons, cond, true, false}
+use Rattle.std.proofs.Common.{codes, decimal}
 use Rattle.std.specs.Prelude.{◌==◌}
 use Rattle.std.specs.List.{flat_map}
 use Rattle.std.proofs.lemmas.Bool.Decides.{nat_tests}
@@ -11,13 +13,15 @@ use Rattle.scenario_file.specs.declared.actors.Cast.{Cast}
 use Rattle.scenario_file.specs.Actors.{actor_name}
 use Rattle.run_lines.specs.Texts.{hex_text, kind_text, said_text, numbered_lines}
 
-next-drop : {X : Type 0} (xs : List X) (i : ℕ) (x : X) → i < length xs → x ≡ get_or xs i x → x ∷ drop (i + 1) xs ≡ drop i xs
+next-drop : {X : Type 0} (xs : List X) (i : ℕ) (x : X) → i < length xs → x ≡ get_or xs i x →
+    x ∷ drop (i + 1) xs ≡ drop i xs
 next-drop xs i x inside is =
     let later : i + 1 ≡ suc i = omega arith in
     ap (λ k. x ∷ drop k xs) later ∙ ap (λ y. y ∷ drop (suc i) xs) is ∙ sym (drop-cons xs i x inside)
 
 -- one line more, where all is what was made with what the rest makes
-pub lines-more : {X : Type 0} (text : ℕ → X → List ℕ) (i : ℕ) (xs : List X) (x : X) (old new all : List ℕ) → i < length xs → x ≡ get_or xs i x
+pub lines-more : {X : Type 0} (text : ℕ → X → List ℕ) (i : ℕ) (xs : List X) (x : X) (old new all : List ℕ) →
+    i < length xs → x ≡ get_or xs i x
     → old ++ numbered_lines text (i + 1) (drop i xs) ≡ all → new ≡ old ++ text (i + 1) x
     → new ++ numbered_lines text (i + 1 + 1) (drop (i + 1) xs) ≡ all
 lines-more text i xs x old new all inside is made next =
@@ -27,21 +31,26 @@ lines-more text i xs x old new all inside is made next =
     ∙ made
 
 -- the same where the thing is told as the element at its place
-pub lines-more-at : {X : Type 0} (text : ℕ → X → List ℕ) (i : ℕ) (xs : List X) (d : X) (old new all : List ℕ) → i < length xs
+pub lines-more-at : {X : Type 0} (text : ℕ → X → List ℕ) (i : ℕ) (xs : List X) (d : X) (old new all : List ℕ) →
+    i < length xs
     → old ++ numbered_lines text (i + 1) (drop i xs) ≡ all → new ≡ old ++ text (i + 1) (get_or xs i d)
     → new ++ numbered_lines text (i + 1 + 1) (drop (i + 1) xs) ≡ all
 lines-more-at text i xs d old new all inside made next =
-    lines-more text i xs (get_or xs i d) old new all inside (sym (get_or_from_slice_get xs i (get_or xs i d) (get_or xs i d) (slice_get-get_or xs i d inside))) made next
+    lines-more text i xs (get_or xs i d) old new all inside
+    (sym (get_or_from_slice_get xs i (get_or xs i d) (get_or xs i d) (slice_get-get_or xs i d inside))) made next
 
 -- no line is left
-pub lines-end : {X : Type 0} (text : ℕ → X → List ℕ) (n i : ℕ) (xs : List X) (old all : List ℕ) → length xs ≤ i → old ++ numbered_lines text n (drop i xs) ≡ all → old ≡ all
-lines-end text n i xs old all end made = sym (append-nil old) ∙ ap (λ ys. old ++ numbered_lines text n ys) (sym (drop_all i xs end)) ∙ made
+pub lines-end : {X : Type 0} (text : ℕ → X → List ℕ) (n i : ℕ) (xs : List X) (old all : List ℕ) → length xs ≤ i →
+    old ++ numbered_lines text n (drop i xs) ≡ all → old ≡ all
+lines-end text n i xs old all end made = sym (append-nil old) ∙ ap (λ ys. old ++ numbered_lines text n ys)
+    (sym (drop_all i xs end)) ∙ made
 
 pub said_text-none : (said : List Body) → true ≡ (length said == 0) → said_text said ≡ []
 said_text-none [] none = refl
 said_text-none (b ∷ bodies) none = absurd (grind (arith, nat_tests))
 
-pub said_text-more : (said : List Body) → false ≡ (length said == 0) → said_text said ≡ codes " says" ++ flat_map kind_text said
+pub said_text-more : (said : List Body) → false ≡ (length said == 0) → said_text said ≡ codes " says"
+    ++ flat_map kind_text said
 said_text-more [] some = absurd (grind (arith, nat_tests))
 said_text-more (b ∷ bodies) some = refl
 
@@ -58,7 +67,8 @@ pub master_named : (cast : Cast) (actor : ℕ) → actor < cast.masters → acto
 unfolding actor_name
 master_named cast actor low = let is : nat_lt actor cast.masters ≡ true = grind arith in rw is refl
 
-pub proxy_named : (cast : Cast) (client : ℕ) → client < cast.proxies → actor_name cast (cast.masters + client) ≡ codes "p" ++ decimal client
+pub proxy_named : (cast : Cast) (client : ℕ) → client < cast.proxies →
+    actor_name cast (cast.masters + client) ≡ codes "p" ++ decimal client
 unfolding actor_name
 proxy_named cast client low =
     let no_master : nat_lt (cast.masters + client) cast.masters ≡ false = grind arith in
@@ -66,7 +76,8 @@ proxy_named cast client low =
     let place : (cast.masters + client) - cast.masters ≡ client = omega arith in
     rw (no_master, is, place) refl
 
-pub screen_named : (cast : Cast) (client : ℕ) → cast.proxies ≤ client → actor_name cast (cast.masters + client) ≡ codes "s" ++ decimal (client - cast.proxies)
+pub screen_named : (cast : Cast) (client : ℕ) → cast.proxies ≤ client →
+    actor_name cast (cast.masters + client) ≡ codes "s" ++ decimal (client - cast.proxies)
 unfolding actor_name
 screen_named cast client high =
     let no_master : nat_lt (cast.masters + client) cast.masters ≡ false = grind arith in

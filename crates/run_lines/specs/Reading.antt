@@ -1,38 +1,24 @@
 -- What the line of an entry in a printed run says. (This project's own.)
-use Rattle.std.specs.Prelude.{ℕ, suc, ◌==◌, codes, Bool, if◌then◌else◌, List, [], ◌∷◌, ℤ, Option, Some, None, Result, Ok, Err, take, drop, position}
+use Rattle.std.specs.Prelude.{ℕ, suc, ◌==◌, codes, Bool, if◌then◌else◌, List, [], ◌∷◌, ℤ, Option, Some, None, Result}
+use Rattle.std.specs.Prelude.{Ok, Err, take, drop, position}
 use Rattle.std.specs.List.{slice_split}
 use Rattle.std.specs.Str.{bytes_eq, is_utf8}
-use Rattle.hex.specs.declared.error.FromHexError.{FromHexError}
-use Rattle.hex.specs.Hex.{decode_of}
 use Rattle.message_types.specs.declared.updates.Op.{Op}
 use Rattle.message_types.specs.declared.updates.Op.TheVariants as op
 use Rattle.point_table.specs.declared.point.Area.{Area}
 use Rattle.scenario_file.specs.declared.actors.Cast.{Cast}
-use Rattle.script_grammar.specs.declared.fault.Fault.{Fault}
-use Rattle.script_grammar.specs.declared.fault.Fault.TheVariants as fault
+use Rattle.script_grammar.specs.declared.fault.LineRefusal.{LineRefusal}
+use Rattle.script_grammar.specs.declared.fault.LineRefusal.TheVariants as fault
 use Rattle.script_grammar.specs.declared.kinds.Kind.{Kind}
-use Rattle.script_grammar.specs.Faults.{Answer, bad, said, both, each}
+use Rattle.script_grammar.specs.Faults.{Answer, bad, or_bad, said, both, each}
 use Rattle.script_grammar.specs.Kinds.{kind_named}
 use Rattle.script_grammar.specs.Lines.{words_of}
 use Rattle.script_grammar.specs.Names.{actor_in}
-use Rattle.script_grammar.specs.Numbers.{wide_in, narrow_in, short_in, signed_in}
+use Rattle.script_grammar.specs.Numbers.{wide_in, narrow_in, short_in, signed_in, bytes_in}
 use Rattle.run_lines.specs.declared.event_line.EventLine.{EventLine}
 use Rattle.run_lines.specs.declared.event_line.EventLine.TheVariants as line
 use Rattle.run_lines.specs.declared.entry_line.EntryLine.{EntryLine}
 use Rattle.run_lines.specs.Names.{area_named}
-
-abbrev pub or_bad : {A : Type 0} → Option A → Answer A
-or_bad (Some x) = Ok x
-or_bad None = bad
-
-abbrev pub hex_bytes : Result (List ℕ) FromHexError → Answer (List ℕ)
-hex_bytes (Ok bytes) = Ok bytes
-hex_bytes (Err e) = bad
-
--- bytes as two hex digits each, in either case; no bytes are `-`
-unfoldable pub bytes_in : List ℕ → Answer (List ℕ)
-bytes_in [] = bad
-bytes_in (c ∷ cs) = if bytes_eq (c ∷ cs) (codes "-") then Ok [] else hex_bytes (decode_of (c ∷ cs))
 
 -- a stamp and a place with a dot between them
 abbrev pub place_in : List (List ℕ) → Answer EventLine
@@ -64,7 +50,8 @@ op_in (what ∷ fields) =
 
 abbrev pub change_in : List (List ℕ) → Answer EventLine
 change_in (name ∷ place ∷ value ∷ []) =
-    said (λ (p : Area × (ℕ × ℕ)). line.Field p.0 p.1.0 p.1.1) (both (or_bad (area_named name)) (both (short_in place) (short_in value)))
+    said (λ (p : Area × (ℕ × ℕ)). line.Field p.0 p.1.0 p.1.1)
+    (both (or_bad (area_named name)) (both (short_in place) (short_in value)))
 change_in _ = bad
 
 abbrev pub cry_in : List (List ℕ) → Answer EventLine
@@ -110,7 +97,7 @@ unfoldable pub event_and_kinds_in : List (List ℕ) → Answer (EventLine × Lis
 event_and_kinds_in words = parted (position (λ word. bytes_eq word (codes "says")) words) words
 
 -- the actor of a name, if it is there
-abbrev pub if_there : Result ℕ Fault → Answer (Option ℕ)
+abbrev pub if_there : Result ℕ LineRefusal → Answer (Option ℕ)
 if_there (Ok actor) = Ok (Some actor)
 if_there (Err fault.NoActor) = Ok None
 if_there (Err other) = Err other
@@ -119,7 +106,8 @@ abbrev pub made : ℕ × (Option ℕ × (EventLine × List Kind)) → EntryLine
 made p = record { stamp = p.0; actor = p.1.0; event = p.1.1.0; kinds = p.1.1.1 }
 
 unfoldable pub entry_in : Cast → List (List ℕ) → Answer EntryLine
-entry_in cast (stamp ∷ name ∷ words) = said made (both (wide_in stamp) (both (if_there (actor_in cast name)) (event_and_kinds_in words)))
+entry_in cast (stamp ∷ name ∷ words) =
+    said made (both (wide_in stamp) (both (if_there (actor_in cast name)) (event_and_kinds_in words)))
 entry_in cast _ = bad
 
 -- a line is text

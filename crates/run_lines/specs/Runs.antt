@@ -1,10 +1,11 @@
 -- What the text of a run says of its history. (This project's own.)
-use Rattle.std.specs.Prelude.{◌≡◌, ℕ, zero, suc, ◌+◌, ◌==◌, codes, Bool, true, false, ◌||◌, if◌then◌else◌, List, [], ◌∷◌, Option, Some, None, Result, Ok, Err, drop}
+use Rattle.std.specs.Prelude.{◌≡◌, ℕ, zero, suc, ◌+◌, ◌==◌, codes, Bool, true, false, ◌||◌, if◌then◌else◌, List, []}
+use Rattle.std.specs.Prelude.{◌∷◌, Option, Some, None, Result, Ok, Err, drop}
 use Rattle.std.specs.List.{slice_split, starts_with}
 use Rattle.std.specs.Str.{bytes_eq, is_utf8}
 use Rattle.scenario_file.specs.declared.actors.Cast.{Cast}
-use Rattle.script_grammar.specs.declared.fault.Fault.{Fault}
-use Rattle.script_grammar.specs.declared.fault.Fault.TheVariants as fault
+use Rattle.script_grammar.specs.declared.fault.LineRefusal.{LineRefusal}
+use Rattle.script_grammar.specs.declared.fault.LineRefusal.TheVariants as fault
 use Rattle.script_grammar.specs.Faults.{Answer, bad}
 use Rattle.script_grammar.specs.Numbers.{narrow_in}
 use Rattle.run_lines.specs.declared.entry_line.EntryLine.{EntryLine}
@@ -60,19 +61,21 @@ abbrev pub after_heads : Cast → ℕ → List (List ℕ) → Reading (List Entr
 after_heads cast number [] = bad_line number
 after_heads cast number (last ∷ []) = if is_empty last || counts last then bad_line number else bad_line (number + 1)
 after_heads cast number (line ∷ next ∷ more) =
-    if counts line then counted cast number (count_in (drop 8 line)) (next ∷ more) else after_heads cast (number + 1) (next ∷ more)
+    if counts line then counted cast number (count_in (drop 8 line)) (next ∷ more) else after_heads cast
+    (number + 1) (next ∷ more)
 
 abbrev pub after_title : Cast → List (List ℕ) → Reading (List EntryLine)
 after_title cast [] = bad_line 1
 after_title cast (last ∷ []) = bad_line 1
-after_title cast (line ∷ next ∷ more) = if bytes_eq line (codes "spire 1") then after_heads cast 2 (next ∷ more) else bad_line 1
+after_title cast (line ∷ next ∷ more) = if bytes_eq line (codes "spire 1") then after_heads cast 2
+    (next ∷ more) else bad_line 1
 
 -- the lines of the entries of a whole text, or its first line that isn't of its form
 unfoldable pub run_in : Cast → List ℕ → Reading (List EntryLine)
 run_in cast bytes = after_title cast (pieces bytes)
 
 -- the refusal of a text whose line of that number has a fault
-abbrev pub fault_at : ℕ → Fault → HistoryRefusal
+abbrev pub fault_at : ℕ → LineRefusal → HistoryRefusal
 fault_at number fault.Want = refusal.Want
 fault_at number other = refusal.BadLine number
 

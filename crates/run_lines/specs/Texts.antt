@@ -1,5 +1,6 @@
 -- The lines of a printed run. Each ends with a line feed, and one space stands between its words. (This project's own.)
-use Rattle.std.specs.Prelude.{ℕ, ◌+◌, Bool, true, false, List, [], ◌∷◌, ◌++◌, Option, Some, None, length, codes, decimal}
+use Rattle.std.specs.Prelude.{ℕ, ◌+◌, Bool, true, false, List, [], ◌∷◌, ◌++◌, Option, Some, None, length, codes}
+use Rattle.std.specs.Prelude.{decimal}
 use Rattle.std.specs.List.{flat_map}
 use Rattle.std.specs.Fmt.{signed_decimal}
 use Rattle.hex.specs.Hex.{encode_lower}
@@ -43,18 +44,21 @@ numbered_lines text number (x ∷ rest) = text number x ++ numbered_lines text (
 -- an update that a master executed; clients come after the masters
 unfoldable pub execution_text : Cast → ℕ → Update → List ℕ
 execution_text cast number u =
-    decimal number ++ codes " " ++ actor_name cast (cast.masters + u.client) ++ codes " " ++ decimal u.t ++ codes " " ++ op_text u.op ++ codes "\n"
+    decimal number ++ codes " " ++ actor_name cast (cast.masters + u.client) ++ codes " " ++ decimal u.t ++ codes " "
+    ++ op_text u.op ++ codes "\n"
 
 unfoldable pub intruded_text : Cast → ℕ → List ℕ
 intruded_text cast master = codes "master " ++ actor_name cast master ++ codes " intruded\n"
 
 unfoldable pub executions_text : Cast → List Update → Bool → List ℕ
 executions_text cast executions is_halted =
-    codes " executed " ++ decimal (length executions) ++ halted_text is_halted ++ codes "\n" ++ numbered_lines (execution_text cast) 1 executions
+    codes " executed " ++ decimal (length executions) ++ halted_text is_halted ++ codes "\n"
+    ++ numbered_lines (execution_text cast) 1 executions
 
 unfoldable pub master_text : Cast → ℕ → ℕ → List Update → Bool → List ℕ
 master_text cast master view executions is_halted =
-    codes "master " ++ actor_name cast master ++ codes " view " ++ decimal view ++ executions_text cast executions is_halted
+    codes "master " ++ actor_name cast master ++ codes " view " ++ decimal view
+    ++ executions_text cast executions is_halted
 
 -- how the device answered a write
 abbrev pub exception_text : Option ℕ → List ℕ
@@ -62,7 +66,8 @@ exception_text None = codes " ok\n"
 exception_text (Some code) = codes " exception " ++ decimal code ++ codes "\n"
 
 unfoldable pub write_text : Write → List ℕ
-write_text x = decimal x.number ++ codes " " ++ decimal x.point ++ codes " " ++ decimal x.raw ++ exception_text x.exception
+write_text x = decimal x.number ++ codes " " ++ decimal x.point ++ codes " " ++ decimal x.raw
+    ++ exception_text x.exception
 
 unfoldable pub proxy_text : Cast → ℕ → List Write → Bool → List ℕ
 proxy_text cast proxy writes is_halted =
@@ -116,7 +121,8 @@ unfoldable pub event_text : Bool → Event → List ℕ
 event_text is_said (Took stamp place frame) = took_text is_said stamp place frame
 event_text is_said Tick = codes "tick"
 event_text is_said (Command o) = codes "command " ++ op_text o
-event_text is_said (Field a place value) = codes "field " ++ area_name a ++ codes " " ++ decimal place ++ codes " " ++ decimal value
+event_text is_said (Field a place value) = codes "field " ++ area_name a ++ codes " " ++ decimal place
+    ++ codes " " ++ decimal value
 event_text is_said Poll = codes "poll"
 event_text is_said (Cry bytes) = codes "cry " ++ hex_text bytes
 event_text is_said Skip = codes "skip"
@@ -133,4 +139,5 @@ said_text (b ∷ bodies) = codes " says" ++ flat_map kind_text (b ∷ bodies)
 -- An entry, of whose frame it is known whether it was said where the event tells.
 unfoldable pub entry_text : Cast → Bool → Entry → List ℕ
 entry_text cast is_said e =
-    decimal e.stamp ++ codes " " ++ actor_name cast e.actor ++ codes " " ++ event_text is_said e.event ++ said_text e.said ++ codes "\n"
+    decimal e.stamp ++ codes " " ++ actor_name cast e.actor ++ codes " " ++ event_text is_said e.event
+    ++ said_text e.said ++ codes "\n"

@@ -10,7 +10,7 @@ ghost use Rattle.run_lines.specs.Reading.{kind_in, kinds_in, event_and_kinds_in,
 
 use crate::event_line::{EventLine, read_event};
 use plain_lists::Items;
-use script_grammar::{Company, Fault, Kind, Part, both, each, parts, wide};
+use script_grammar::{Company, Kind, LineRefusal, Part, both, each, parts, wide};
 use std::alloc::Global;
 
 /// What the line of an entry says. The actor is None where the scenario hasn't the one of that name.
@@ -32,19 +32,19 @@ impl Part<Kind> for KindNames {
 
     ghost reads = { λ _ name. kind_in name };
 
-    fn read(&self, name: &str) -> Result<Kind, Fault> {
+    fn read(&self, name: &str) -> Result<Kind, LineRefusal> {
         match Kind::named(name) {
             Some(kind) => Ok(kind),
-            None => Err(Fault::BadLine),
+            None => Err(LineRefusal::BadLine),
         }
     }
 }
 
-fn kinds(alloc: Global, names: &[&str]) -> Result<Items<Kind>, Fault>
+fn kinds(alloc: Global, names: &[&str]) -> Result<Items<Kind>, LineRefusal>
     ensures { Answers result (kinds_in (texts names.now)) }
 {
     if names.is_empty() {
-        return Err(Fault::BadLine);
+        return Err(LineRefusal::BadLine);
     }
     each(alloc, &KindNames, names)
 }
@@ -60,9 +60,9 @@ fn says_place(words: &[&str]) -> Option<usize>
 /// An event at which nothing was said.
 fn without_kinds(
     alloc: Global,
-    read: Result<EventLine, Fault>,
-) -> Result<(EventLine, Items<Kind>), Fault>
-    ensures { (right : Result EventLineWord Fault) → Answers read right → Answers result (said (λ event. (event, [])) right) }
+    read: Result<EventLine, LineRefusal>,
+) -> Result<(EventLine, Items<Kind>), LineRefusal>
+    ensures { (right : Result EventLineWord LineRefusal) → Answers read right → Answers result (said (λ event. (event, [])) right) }
 {
     match read {
         Ok(event) => Ok((event, Items::new(alloc))),
@@ -72,7 +72,7 @@ fn without_kinds(
 
 /// An event, and the kinds of what was said at it.
 #[tactic(auto, unfolding(crate::specs::Reading::event_and_kinds_in))]
-fn event_and_kinds(alloc: Global, words: &[&str]) -> Result<(EventLine, Items<Kind>), Fault>
+fn event_and_kinds(alloc: Global, words: &[&str]) -> Result<(EventLine, Items<Kind>), LineRefusal>
     ensures { Answers result (event_and_kinds_in (texts words.now)) }
 {
     match says_place(words) {
@@ -85,18 +85,18 @@ fn event_and_kinds(alloc: Global, words: &[&str]) -> Result<(EventLine, Items<Ki
 }
 
 /// The actor of a name, if it is there.
-fn if_there(company: &Company<'_>, name: &str) -> Result<Option<u32>, Fault>
+fn if_there(company: &Company<'_>, name: &str) -> Result<Option<u32>, LineRefusal>
     ensures { Answers result (if_there (actor_in company.now.cast name.now)) }
 {
     match company.actor(name) {
         Ok(actor) => Ok(Some(actor)),
-        Err(Fault::NoActor) => Ok(None),
+        Err(LineRefusal::NoActor) => Ok(None),
         Err(fault) => Err(fault),
     }
 }
 
 #[tactic(auto, unfolding(crate::specs::Reading::entry_in))]
-fn read_entry(company: &Company<'_>, words: &[&str]) -> Result<EntryLine, Fault>
+fn read_entry(company: &Company<'_>, words: &[&str]) -> Result<EntryLine, LineRefusal>
     ensures { Answers result (entry_in company.now.cast (texts words.now)) }
 {
     match words {
@@ -111,13 +111,13 @@ fn read_entry(company: &Company<'_>, words: &[&str]) -> Result<EntryLine, Fault>
                 kinds,
             })
         }
-        _ => Err(Fault::BadLine),
+        _ => Err(LineRefusal::BadLine),
     }
 }
 
 /// What the line of an entry says. Its fault is `BadLine` or want of memory.
 #[tactic(auto, unfolding(crate::specs::Reading::entry_line_in))]
-pub fn read_entry_line(company: &Company<'_>, line: &[u8]) -> Result<EntryLine, Fault>
+pub fn read_entry_line(company: &Company<'_>, line: &[u8]) -> Result<EntryLine, LineRefusal>
     ensures { Answers result (entry_line_in company.now.cast line.now) }
 {
     match std::str::from_utf8(line) {
@@ -125,6 +125,6 @@ pub fn read_entry_line(company: &Company<'_>, line: &[u8]) -> Result<EntryLine, 
             let words = parts(company.alloc(), text, ' ')?;
             read_entry(company, words.as_slice())
         }
-        Err(_) => Err(Fault::BadLine),
+        Err(_) => Err(LineRefusal::BadLine),
     }
 }

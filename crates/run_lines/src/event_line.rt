@@ -1,17 +1,17 @@
 //! What an event's words in a printed run say.
-ghost use Rattle.std.specs.Prelude.{◌≡◌, ℕ, ℤ};
+ghost use Rattle.std.specs.Prelude.{ℕ, ℤ};
 ghost use Rattle.message_types.specs.declared.updates.Op.TheVariants as op;
-ghost use Rattle.script_grammar.specs.Faults.{Answers, said};
+ghost use Rattle.script_grammar.specs.Faults.{Answers, or_bad, said};
 ghost use Rattle.script_grammar.specs.Lines.{texts};
 ghost use Rattle.run_lines.specs.declared.event_line.EventLine.TheVariants as line;
 ghost use Rattle.run_lines.specs.Names.{area_named};
-ghost use Rattle.run_lines.specs.Reading.{or_bad, hex_bytes, bytes_in, place_in, frame_in, took_in, value_in, alarm_in, op_in, change_in, cry_in, alone, event_of, event_in};
+ghost use Rattle.run_lines.specs.Reading.{place_in, frame_in, took_in, value_in, alarm_in, op_in, change_in, cry_in, alone, event_of, event_in};
 
 use crate::names::area_named;
 use message_types::Op;
 use plain_lists::Bytes;
 use point_table::Area;
-use script_grammar::{Fault, both, narrow, parts, short, signed, wide};
+use script_grammar::{LineRefusal, both, bytes, narrow, parts, short, signed, wide};
 use std::alloc::Global;
 
 /// What the line of an entry says of its event.
@@ -30,25 +30,7 @@ pub enum EventLine {
     Restart,
 }
 
-/// Bytes as two hex digits each; no bytes are `-`.
-#[tactic(auto, unfolding(crate::specs::Reading::bytes_in))]
-fn bytes(alloc: Global, text: &str) -> Result<Bytes, Fault>
-    ensures { Answers result (bytes_in text.now) }
-{
-    if text.is_empty() {
-        return Err(Fault::BadLine);
-    }
-    if text == "-" {
-        return Ok(Bytes::from_vec(alloc, Vec::new(alloc))?);
-    }
-    match hex::decode(alloc, text) {
-        Ok(bytes) => Ok(Bytes::from_vec(alloc, bytes)?),
-        Err(hex::FromHexError::OutOfMemory) => Err(Fault::Want),
-        Err(_) => Err(Fault::BadLine),
-    }
-}
-
-fn place(parts: &[&str]) -> Result<EventLine, Fault>
+fn place(parts: &[&str]) -> Result<EventLine, LineRefusal>
     ensures { Answers result (place_in (texts parts.now)) }
 {
     match parts {
@@ -56,22 +38,22 @@ fn place(parts: &[&str]) -> Result<EventLine, Fault>
             let (stamp, place) = both(wide(stamp), narrow(place))?;
             Ok(EventLine::Said { stamp, place })
         }
-        _ => Err(Fault::BadLine),
+        _ => Err(LineRefusal::BadLine),
     }
 }
 
-fn frame(alloc: Global, what: &str, text: &str) -> Result<EventLine, Fault>
+fn frame(alloc: Global, what: &str, text: &str) -> Result<EventLine, LineRefusal>
     ensures { Answers result (frame_in what.now text.now) }
 {
     if what != "frame" {
-        return Err(Fault::BadLine);
+        return Err(LineRefusal::BadLine);
     }
     Ok(EventLine::Frame {
         bytes: bytes(alloc, text)?,
     })
 }
 
-fn took(alloc: Global, fields: &[&str]) -> Result<EventLine, Fault>
+fn took(alloc: Global, fields: &[&str]) -> Result<EventLine, LineRefusal>
     ensures { Answers result (took_in (texts fields.now)) }
 {
     match fields {
@@ -80,50 +62,50 @@ fn took(alloc: Global, fields: &[&str]) -> Result<EventLine, Fault>
             place(numbers.as_slice())
         }
         [what, text] => frame(alloc, what, text),
-        _ => Err(Fault::BadLine),
+        _ => Err(LineRefusal::BadLine),
     }
 }
 
 /// A point and its value.
-fn value(fields: &[&str]) -> Result<(u32, i64), Fault>
+fn value(fields: &[&str]) -> Result<(u32, i64), LineRefusal>
     ensures { Answers result (value_in (texts fields.now)) }
 {
     match fields {
         [point, value] => both(narrow(point), signed(value)),
-        _ => Err(Fault::BadLine),
+        _ => Err(LineRefusal::BadLine),
     }
 }
 
-fn reading(fields: &[&str]) -> Result<Op, Fault>
+fn reading(fields: &[&str]) -> Result<Op, LineRefusal>
     ensures { Answers result (said (λ (p : ℕ × ℤ). op.Reading p.0 p.1) (value_in (texts fields.now))) }
 {
     let (point, value) = value(fields)?;
     Ok(Op::Reading { point, value })
 }
 
-fn set(fields: &[&str]) -> Result<Op, Fault>
+fn set(fields: &[&str]) -> Result<Op, LineRefusal>
     ensures { Answers result (said (λ (p : ℕ × ℤ). op.Set p.0 p.1) (value_in (texts fields.now))) }
 {
     let (point, value) = value(fields)?;
     Ok(Op::Set { point, value })
 }
 
-fn ack(fields: &[&str]) -> Result<Op, Fault>
+fn ack(fields: &[&str]) -> Result<Op, LineRefusal>
     ensures { Answers result (said op.Ack (alarm_in (texts fields.now))) }
 {
     match fields {
         [alarm] => Ok(Op::Ack {
             alarm: narrow(alarm)?,
         }),
-        _ => Err(Fault::BadLine),
+        _ => Err(LineRefusal::BadLine),
     }
 }
 
-fn op(fields: &[&str]) -> Result<Op, Fault>
+fn op(fields: &[&str]) -> Result<Op, LineRefusal>
     ensures { Answers result (op_in (texts fields.now)) }
 {
     match fields {
-        [] => Err(Fault::BadLine),
+        [] => Err(LineRefusal::BadLine),
         [what, rest @ ..] => {
             if *what == "reading" {
                 reading(rest)
@@ -132,29 +114,29 @@ fn op(fields: &[&str]) -> Result<Op, Fault>
             } else if *what == "ack" {
                 ack(rest)
             } else {
-                Err(Fault::BadLine)
+                Err(LineRefusal::BadLine)
             }
         }
     }
 }
 
-fn command(fields: &[&str]) -> Result<EventLine, Fault>
+fn command(fields: &[&str]) -> Result<EventLine, LineRefusal>
     ensures { Answers result (said line.Command (op_in (texts fields.now))) }
 {
     Ok(EventLine::Command { op: op(fields)? })
 }
 
-fn area(name: &str) -> Result<Area, Fault>
+fn area(name: &str) -> Result<Area, LineRefusal>
     ensures { Answers result (or_bad (area_named name.now)) }
 {
     match area_named(name) {
         Some(area) => Ok(area),
-        None => Err(Fault::BadLine),
+        None => Err(LineRefusal::BadLine),
     }
 }
 
 /// A place of an area, and what it holds.
-fn change(fields: &[&str]) -> Result<EventLine, Fault>
+fn change(fields: &[&str]) -> Result<EventLine, LineRefusal>
     ensures { Answers result (change_in (texts fields.now)) }
 {
     match fields {
@@ -163,32 +145,32 @@ fn change(fields: &[&str]) -> Result<EventLine, Fault>
             let (area, (place, value)) = both(area(name), numbers)?;
             Ok(EventLine::Field { area, place, value })
         }
-        _ => Err(Fault::BadLine),
+        _ => Err(LineRefusal::BadLine),
     }
 }
 
-fn cry(alloc: Global, fields: &[&str]) -> Result<EventLine, Fault>
+fn cry(alloc: Global, fields: &[&str]) -> Result<EventLine, LineRefusal>
     ensures { Answers result (cry_in (texts fields.now)) }
 {
     match fields {
         [text] => Ok(EventLine::Cry {
             bytes: bytes(alloc, text)?,
         }),
-        _ => Err(Fault::BadLine),
+        _ => Err(LineRefusal::BadLine),
     }
 }
 
 /// A word that nothing follows.
-fn alone(event: EventLine, fields: &[&str]) -> Result<EventLine, Fault>
+fn alone(event: EventLine, fields: &[&str]) -> Result<EventLine, LineRefusal>
     ensures { Answers result (alone event (texts fields.now)) }
 {
     match fields {
         [] => Ok(event),
-        _ => Err(Fault::BadLine),
+        _ => Err(LineRefusal::BadLine),
     }
 }
 
-fn named(alloc: Global, what: &str, fields: &[&str]) -> Result<EventLine, Fault>
+fn named(alloc: Global, what: &str, fields: &[&str]) -> Result<EventLine, LineRefusal>
     ensures { Answers result (event_of what.now (texts fields.now)) }
 {
     match what {
@@ -200,17 +182,17 @@ fn named(alloc: Global, what: &str, fields: &[&str]) -> Result<EventLine, Fault>
         "cry" => cry(alloc, fields),
         "skip" => alone(EventLine::Skip, fields),
         "restart" => alone(EventLine::Restart, fields),
-        _ => Err(Fault::BadLine),
+        _ => Err(LineRefusal::BadLine),
     }
 }
 
 /// What an event's words say.
 #[tactic(auto, unfolding(crate::specs::Reading::event_in))]
-pub(crate) fn read_event(alloc: Global, words: &[&str]) -> Result<EventLine, Fault>
+pub(crate) fn read_event(alloc: Global, words: &[&str]) -> Result<EventLine, LineRefusal>
     ensures { Answers result (event_in (texts words.now)) }
 {
     match words {
-        [] => Err(Fault::BadLine),
+        [] => Err(LineRefusal::BadLine),
         [what, fields @ ..] => named(alloc, what, fields),
     }
 }

@@ -18,4 +18,4 @@ pub use event_line::EventLine;
 pub use heads::{put_agree, put_audit, put_count, put_intruded, put_master, put_proxy, put_screen};
 pub use names::{area_name, area_named, kind_of, notice_name};
 pub use refusal::HistoryRefusal;
-pub use runs::read_run;
+pub use runs::{first_line, read_run};

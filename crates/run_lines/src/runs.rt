@@ -9,7 +9,7 @@ ghost use Rattle.run_lines.specs.Runs.{pieces, bad_line, counts, count_in, count
 use crate::entry_line::{EntryLine, read_entry_line};
 use crate::refusal::HistoryRefusal;
 use plain_lists::Items;
-use script_grammar::{Company, Fault, narrow};
+use script_grammar::{Company, LineRefusal, narrow};
 
 fn line_feed(text: &[u8]) -> Option<usize>
     ensures place { result ≡ position (λ b. b == 10) text.now }
@@ -19,7 +19,7 @@ fn line_feed(text: &[u8]) -> Option<usize>
 }
 
 /// The first line of a text and what stands behind its line feed. None where no line feed is left.
-fn first_line(text: &[u8]) -> Option<(&[u8], &[u8])>
+pub fn first_line(text: &[u8]) -> Option<(&[u8], &[u8])>
     ensures pieces { MatchOption result (pieces text.now ≡ text.now ∷ []) (λ cut. pieces text.now ≡ cut.0.now ∷ pieces cut.1.now) }
     ensures shorter { IfSome result (λ cut. length cut.1.now < length text.now) }
 {
@@ -44,22 +44,22 @@ fn counts(line: &[u8]) -> bool
 }
 
 /// How many entries follow, below 2^32.
-fn count(digits: &[u8]) -> Result<u32, Fault>
+fn count(digits: &[u8]) -> Result<u32, LineRefusal>
     ensures { Answers result (count_in digits.now) }
 {
     match std::str::from_utf8(digits) {
         Ok(text) => narrow(text),
-        Err(_) => Err(Fault::BadLine),
+        Err(_) => Err(LineRefusal::BadLine),
     }
 }
 
 /// A fault of the line of this number.
-fn at(fault: Fault, line: u64) -> HistoryRefusal
+fn at(fault: LineRefusal, line: u64) -> HistoryRefusal
     ensures { result ≡ fault_at line fault }
 {
     match fault {
-        Fault::Want => HistoryRefusal::Want,
-        Fault::BadLine | Fault::NoActor => HistoryRefusal::BadLine { line },
+        LineRefusal::Want => HistoryRefusal::Want,
+        LineRefusal::BadLine | LineRefusal::NoActor => HistoryRefusal::BadLine { line },
     }
 }
 

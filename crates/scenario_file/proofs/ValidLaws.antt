@@ -1,11 +1,12 @@
 -- What holds of each scenario that a document gives.
-use Rattle.std.proofs.Common.{◌≡◌, ℕ, zero, suc, ◌≤◌, ◌<◌, nat_eq, ◌==◌, Bool, true, false, cond, ◌||◌, List, [], ◌∷◌, ◌++◌, length, refl, ◌∙◌, subst, arith, inl, inr, Result, Ok, Err, Option, Some, None, ℤ, pos, ◌⊎◌}
+use Rattle.std.proofs.Common.{◌≡◌, ℕ, zero, suc, ◌≤◌, ◌<◌, nat_eq, ◌==◌, Bool, true, false, cond, List, [], ◌∷◌, ◌++◌}
+use Rattle.std.proofs.Common.{length, refl, ◌∙◌, subst, arith, inl, inr, Result, Ok, Err, Option, Some, None, ℤ, pos}
 use Rattle.std.specs.Prelude.{codes, IfOk}
 use Rattle.std.specs.List.{AllByRecursion}
 use Rattle.std.specs.List.Sorted.{IsStrictlyIncreasing}
 use Rattle.std.specs.Option.{ForSome}
-use Rattle.std.proofs.lemmas.Bool.Decides.{nat_tests}
 use Rattle.std.proofs.lemmas.List.{length-map}
+use Rattle.std.proofs.lemmas.Bool.{or_cases, eqb-true}
 use Rattle.quorum_sets.specs.Quorum.{IsGroup, group_size}
 use Rattle.quorum_sets.specs.Masters.{has_master, voters, numbers_below}
 use Rattle.quorum_sets.proofs.MastersLemmas.{voters-suc, voters-zero}
@@ -24,33 +25,40 @@ use Rattle.toml.specs.Parse.{parse_document}
 use Rattle.scenario_file.specs.declared.actors.Cast.{Cast}
 use Rattle.scenario_file.specs.declared.scenario.Scenario.{Scenario}
 use Rattle.scenario_file.specs.Answers.{Shows}
-use Rattle.scenario_file.specs.Values.{count_at, count_or, integer_at, integer_in, text_at, bytes_at, least, most, or_default}
+use Rattle.scenario_file.specs.Values.{count_at, count_or, integer_at, integer_in, text_at, bytes_at, least, most}
+use Rattle.scenario_file.specs.Values.{or_default}
 use Rattle.scenario_file.specs.Lists.{list_in, number_after, numbers_in}
-use Rattle.scenario_file.specs.Settings.{Settings, is_height, is_new_master, usual_levels, levels_of, set_of, intruded_of, settings_of}
-use Rattle.scenario_file.specs.PlantRows.{device_in, name_in, point_named_in, kind_in, alarm_in, interlock_named, value_of, rule_in, names_of, interlock_in, devices_of, points_of, alarms_of, interlocks_of, plant_of}
+use Rattle.scenario_file.specs.Settings.{Settings, is_height, is_new_master, usual_levels, levels_of, set_of}
+use Rattle.scenario_file.specs.Settings.{intruded_of, settings_of}
+use Rattle.scenario_file.specs.PlantRows.{device_in, name_in, point_named_in, kind_in, alarm_in, interlock_named}
+use Rattle.scenario_file.specs.PlantRows.{value_of, rule_in, names_of, interlock_in, devices_of, points_of, alarms_of}
+use Rattle.scenario_file.specs.PlantRows.{interlocks_of, plant_of}
 use Rattle.scenario_file.specs.Actors.{actors_of}
 use Rattle.scenario_file.specs.Keepers.{keepers_of, calls_of, failing_of}
 use Rattle.scenario_file.specs.Unknown.{first_unknown}
-use Rattle.scenario_file.specs.Reading.{Contents, cast_of, unless_unknown, scenario_of, or_no_toml, scenario_in, contents}
+use Rattle.scenario_file.specs.Reading.{Contents, cast_of, unless_unknown, scenario_of, or_no_toml, scenario_in}
+use Rattle.scenario_file.specs.Reading.{contents}
 use Rattle.scenario_file.specs.Valid.{IsHeight, IsI64, IsDevice, IsPoint, IsAlarm, IsInterlock, IsFailing, IsScenario}
-use Rattle.scenario_file.proofs.Steps.{step, ok-same, or_bad-ok, integer_in-ok, integer_at-ok, count_at-ok, count_or-ok, int_le-at-most}
-use Rattle.scenario_file.proofs.RowLaws.{all-at, gathered-length, gathered-all, list_in-ok, at-most, rows_of-all, rows_of-keeps}
-use Rattle.scenario_file.proofs.NameLaws.{name_in-fresh, Differ, none-differ, differ-push, point_named-there, rule_in-there}
-use Rattle.scenario_file.proofs.KeeperLaws.{set_of-rises, keepers_of-ok, calls_of-failing, calls_of-intruded, all-map, map-empty, bytes_at-size}
-use Rattle.scenario_file.proofs.PlantLaws.{devices_of-few, points_of-few, points_of-usable, points_of-owned, points_of-differ, points_of-ranges, alarms_of-few, interlocks_of-few}
-use Rattle.scenario_file.proofs.SettingsLaws.{number_after-ok, masters-there, length-numbers_below}
+use Rattle.scenario_file.proofs.Steps.{step, ok-same, or_bad-ok, integer_in-ok, integer_at-ok, count_at-ok}
+use Rattle.scenario_file.proofs.Steps.{count_or-ok, int_le-at-most}
+use Rattle.scenario_file.proofs.RowLaws.{all-at, gathered-length, gathered-all, list_in-ok, at-most, rows_of-all}
+use Rattle.scenario_file.proofs.RowLaws.{rows_of-keeps}
+use Rattle.scenario_file.proofs.NameLaws.{name_in-fresh, Differ, none-differ, differ-push, point_named-there}
+use Rattle.scenario_file.proofs.NameLaws.{rule_in-there}
+use Rattle.scenario_file.proofs.KeeperLaws.{set_of-rises, keepers_of-ok, calls_of-failing, calls_of-intruded, all-map}
+use Rattle.scenario_file.proofs.KeeperLaws.{map-empty, bytes_at-size}
+use Rattle.scenario_file.proofs.PlantLaws.{devices_of-few, points_of-few, points_of-usable, points_of-owned}
+use Rattle.scenario_file.proofs.PlantLaws.{points_of-differ, points_of-ranges, alarms_of-few, interlocks_of-few}
+use Rattle.scenario_file.proofs.SettingsLaws.{number_after-ok, masters-there}
+use Rattle.quorum_sets.proofs.Numbered.{length-numbers_below}
 
 -- Heights
 
-either-true : (a b : Bool) → (a || b) ≡ true → (a ≡ true) ⊎ (b ≡ true)
-either-true true b h = inl refl
-either-true false b h = inr h
-
-equal-true : (a b : ℕ) → (a == b) ≡ true → a ≡ b
-equal-true a b h = grind (arith, nat_tests)
-
 height-of : (h : ℕ) → is_height [] h ≡ true → IsHeight h
-height-of h passed = elim (either-true (h == 5) (h == 10) passed) [ inl five ↦ inl (equal-true h 5 five) | inr ten ↦ inr (equal-true h 10 ten) ]
+height-of h passed = elim (or_cases (h == 5) (h == 10) passed) [
+  | inl five ↦ inl (eqb-true h 5 five)
+  | inr ten ↦ inr (eqb-true h 10 ten)
+]
 
 record HasLevels (heights : List ℕ) : Type 0 where
   some : 1 ≤ length heights
@@ -67,12 +75,14 @@ levels_of-ok doc hs h =
     record {
       some = omega arith;
       few = omega arith;
-      all = gathered-all IsHeight (number_after (codes "levels") is_height) (λ before d n one. height-of n (number_after-ok (codes "levels") is_height before d n one)) [] ds hs tt read;
+      all = gathered-all IsHeight (number_after (codes "levels") is_height)
+          (λ before d n one. height-of n (number_after-ok (codes "levels") is_height before d n one)) [] ds hs tt read;
     })
 
 -- Intruded masters
 
-all-append : {A : Type 0} (P : A → Type 0) (xs ys : List A) → AllByRecursion P xs → AllByRecursion P ys → AllByRecursion P (xs ++ ys)
+all-append : {A : Type 0} (P : A → Type 0) (xs ys : List A) → AllByRecursion P xs → AllByRecursion P ys →
+    AllByRecursion P (xs ++ ys)
 all-append P [] ys first second = second
 all-append P (x ∷ xs) ys first second = (first.0, all-append P xs ys first.1 second)
 
@@ -82,27 +92,37 @@ one-if P false n go = tt
 
 all-voters : (P : ℕ → Type 0) (t : ℕ → Bool) → ((x : ℕ) → t x ≡ true → P x) → (n : ℕ) → AllByRecursion P (voters t n)
 all-voters P t good zero = rw (voters-zero t) tt
-all-voters P t good (suc n) = rw (voters-suc t n) (all-append P (voters t n) (cond (t n) (n ∷ []) []) (all-voters P t good n) (one-if P (t n) n (good n)))
+all-voters P t good (suc n) =
+    rw (voters-suc t n) (all-append P (voters t n) (cond (t n) (n ∷ []) []) (all-voters P t good n)
+    (one-if P (t n) n (good n)))
 
 named-below : (n : ℕ) (xs : List ℕ) (x : ℕ) → AllByRecursion (λ m. m < n) xs → has_master xs x ≡ true → x < n
 named-below n [] x all h = absurd (cc)
 named-below n (y ∷ ys) x all h =
-    elim (either-true (nat_eq y x) (has_master ys x) h) [ inl here ↦ subst (λ m. m < n) (equal-true y x here) all.0 | inr later ↦ named-below n ys x all.1 later ]
+    elim (or_cases (nat_eq y x) (has_master ys x) h) [
+      | inl here ↦ subst (λ m. m < n) (eqb-true y x here) all.0
+      | inr later ↦ named-below n ys x all.1 later
+    ]
 
-intruded_of-rises : (n : ℕ) (doc : Members) (masters : List ℕ) → intruded_of n doc ≡ Ok masters → IsStrictlyIncreasing masters
+intruded_of-rises : (n : ℕ) (doc : Members) (masters : List ℕ) → intruded_of n doc ≡ Ok masters →
+    IsStrictlyIncreasing masters
 unfolding intruded_of
 intruded_of-rises n doc masters h =
-    step (list_in (codes "intruded") 0 None (or_default (codes "intruded") (array no_items) doc)) _ masters h (λ ds listed h1.
+    step (list_in (codes "intruded") 0 None (or_default (codes "intruded") (array no_items) doc))
+    _ masters h (λ ds listed h1.
     step (numbers_in (codes "intruded") (is_new_master n) ds) _ masters h1 (λ ms read h2.
     subst IsStrictlyIncreasing (ok-same (set_of ms) masters h2) (set_of-rises ms)))
 
-intruded_of-ok : (n : ℕ) (doc : Members) (masters : List ℕ) → intruded_of n doc ≡ Ok masters → AllByRecursion (λ m. m < n) masters
+intruded_of-ok : (n : ℕ) (doc : Members) (masters : List ℕ) → intruded_of n doc ≡ Ok masters →
+    AllByRecursion (λ m. m < n) masters
 unfolding intruded_of
 intruded_of-ok n doc masters h =
-    step (list_in (codes "intruded") 0 None (or_default (codes "intruded") (array no_items) doc)) _ masters h (λ ds listed h1.
+    step (list_in (codes "intruded") 0 None (or_default (codes "intruded") (array no_items) doc))
+    _ masters h (λ ds listed h1.
     step (numbers_in (codes "intruded") (is_new_master n) ds) _ masters h1 (λ ms read h2.
     let there = masters-there (codes "intruded") n ds ms read in
-    subst (AllByRecursion (λ m. m < n)) (ok-same (set_of ms) masters h2) (all-voters (λ m. m < n) (has_master ms) (λ x named. named-below n ms x there named) 14)))
+    subst (AllByRecursion (λ m. m < n)) (ok-same (set_of ms) masters h2)
+    (all-voters (λ m. m < n) (has_master ms) (λ x named. named-below n ms x there named) 14)))
 
 -- The keys that aren't tables
 
@@ -127,7 +147,16 @@ settings_of-ok doc s h =
     step (count_or [] (codes "frames") 1 1 2 doc) _ s h4 (λ frames framed h5.
     step (intruded_of (group_size f k) doc) _ s h5 (λ intruded named h6.
     step (count_at [] (codes "screens") 1 4 doc) _ s h6 (λ screens shown h7.
-    let made : Settings = record { f = f; k = k; seed = seed; heights = heights; frames = frames; intruded = intruded; screens = screens } in
+    let made : Settings = record {
+      f = f;
+      k = k;
+      seed = seed;
+      heights = heights;
+      frames = frames;
+      intruded =
+          intruded;
+      screens = screens;
+    } in
     let (f_some, f_few) = count_at-ok [] (codes "f") 1 3 doc f fed in
     let (k_some, k_few) = count_or-ok [] (codes "k") 0 0 2 doc k kept in
     let (frames_some, frames_few) = count_or-ok [] (codes "frames") 1 1 2 doc frames framed in
@@ -147,7 +176,8 @@ settings_of-ok doc s h =
 
 -- The plant
 
-device_in-ok : (before : List DeviceSizes) (at : List ℕ) (t : Members) (d : DeviceSizes) → device_in before at t ≡ Ok d → IsDevice d
+device_in-ok : (before : List DeviceSizes) (at : List ℕ) (t : Members) (d : DeviceSizes) →
+    device_in before at t ≡ Ok d → IsDevice d
 unfolding device_in
 device_in-ok before at t d h =
     step (count_at at (codes "coils") 0 1024 t) _ d h (λ coils a h1.
@@ -163,10 +193,12 @@ device_in-ok before at t d h =
     } in
     subst IsDevice (ok-same made d h4) few))))
 
-point_named_in-there : (points : List Point) (at : List ℕ) (t : Members) (n : ℕ) → point_named_in points at t ≡ Ok n → n < length points
+point_named_in-there : (points : List Point) (at : List ℕ) (t : Members) (n : ℕ) → point_named_in points at t ≡ Ok n →
+    n < length points
 unfolding point_named_in
 point_named_in-there points at t n h =
-    step (text_at at (codes "point") t) _ n h (λ s named h1. point_named-there points s n (or_bad-ok (at ++ codes "point") (point_named points s) n h1))
+    step (text_at at (codes "point") t) _ n h
+    (λ s named h1. point_named-there points s n (or_bad-ok (at ++ codes "point") (point_named points s) n h1))
 
 -- an alarm that is read, and an interlock: what holds of it, and that nothing has its name yet
 
@@ -174,7 +206,8 @@ record ReadsAlarm (points : ℕ) (before : List AlarmRule) (a : AlarmRule) : Typ
   is : IsAlarm points a
   fresh : alarm_named before a.name ≡ None
 
-alarm_in-ok : (points : List Point) (before : List AlarmRule) (at : List ℕ) (t : Members) (a : AlarmRule) → alarm_in points before at t ≡ Ok a → ReadsAlarm (length points) before a
+alarm_in-ok : (points : List Point) (before : List AlarmRule) (at : List ℕ) (t : Members) (a : AlarmRule) →
+    alarm_in points before at t ≡ Ok a → ReadsAlarm (length points) before a
 unfolding alarm_in
 alarm_in-ok points before at t a h =
     step (name_in (alarm_named before) at t) _ a h (λ name named h1.
@@ -212,7 +245,8 @@ record ReadsInterlock (points alarms : ℕ) (before : List Interlock) (l : Inter
   is : IsInterlock points alarms l
   fresh : interlock_named before l.name ≡ None
 
-interlock_in-ok : (names : Names) (before : List Interlock) (at : List ℕ) (t : Members) (l : Interlock) → interlock_in names before at t ≡ Ok l
+interlock_in-ok : (names : Names) (before : List Interlock) (at : List ℕ) (t : Members) (l : Interlock) →
+    interlock_in names before at t ≡ Ok l
     → ReadsInterlock (length names.points.points) (length names.alarms.rules) before l
 unfolding interlock_in
 interlock_in-ok names before at t l h =
@@ -233,17 +267,23 @@ interlock_in-ok names before at t l h =
     } in
     subst (ReadsInterlock (length names.points.points) (length names.alarms.rules) before) (ok-same made l h4) holds))))
 
-alarms-differ : (points : List Point) (doc : Members) (as' : List AlarmRule) → alarms_of points doc ≡ Ok as' → Differ (λ (a : AlarmRule). a.name) as'
+alarms-differ : (points : List Point) (doc : Members) (as' : List AlarmRule) → alarms_of points doc ≡ Ok as' →
+    Differ (λ (a : AlarmRule). a.name) as'
 unfolding alarms_of
 alarms-differ points doc as' h =
-    rows_of-keeps (Differ (λ (a : AlarmRule). a.name)) (alarm_in points) (codes "alarm") (Some 256) doc as' (none-differ (λ (a : AlarmRule). a.name))
-    (λ before at t a so_far one. differ-push (λ (a : AlarmRule). a.name) before a so_far (alarm_in-ok points before at t a one).fresh) h
+    rows_of-keeps (Differ (λ (a : AlarmRule). a.name)) (alarm_in points) (codes "alarm") (Some 256) doc as'
+    (none-differ (λ (a : AlarmRule). a.name))
+    (λ before at t a so_far one. differ-push (λ (a : AlarmRule). a.name) before a so_far
+    (alarm_in-ok points before at t a one).fresh) h
 
-interlocks-differ : (names : Names) (doc : Members) (ls : List Interlock) → interlocks_of names doc ≡ Ok ls → Differ (λ (l : Interlock). l.name) ls
+interlocks-differ : (names : Names) (doc : Members) (ls : List Interlock) → interlocks_of names doc ≡ Ok ls →
+    Differ (λ (l : Interlock). l.name) ls
 unfolding interlocks_of
 interlocks-differ names doc ls h =
-    rows_of-keeps (Differ (λ (l : Interlock). l.name)) (interlock_in names) (codes "interlock") (Some 64) doc ls (none-differ (λ (l : Interlock). l.name))
-    (λ before at t l so_far one. differ-push (λ (l : Interlock). l.name) before l so_far (interlock_in-ok names before at t l one).fresh) h
+    rows_of-keeps (Differ (λ (l : Interlock). l.name)) (interlock_in names) (codes "interlock") (Some 64) doc ls
+    (none-differ (λ (l : Interlock). l.name))
+    (λ before at t l so_far one. differ-push (λ (l : Interlock). l.name) before l so_far
+    (interlock_in-ok names before at t l one).fresh) h
 
 record HasPlant (p : Plant) : Type 0 where
   limits : (screens : ℕ) → screens ≤ 4 → IsPlant p screens
@@ -275,8 +315,10 @@ plant_of-ok doc p h =
       };
       devices = rows_of-all IsDevice device_in (codes "proxy") (Some 8) doc devices device_in-ok a;
       points = points_of-ranges (length devices) doc points b;
-      alarms = rows_of-all (IsAlarm (length points)) (alarm_in points) (codes "alarm") (Some 256) doc alarms (λ before at t x one. (alarm_in-ok points before at t x one).is) c;
-      interlocks = rows_of-all (IsInterlock (length points) (length alarms)) (interlock_in (names_of points alarms)) (codes "interlock") (Some 64) doc interlocks
+      alarms = rows_of-all (IsAlarm (length points)) (alarm_in points) (codes "alarm") (Some 256) doc alarms
+          (λ before at t x one. (alarm_in-ok points before at t x one).is) c;
+      interlocks = rows_of-all (IsInterlock (length points) (length alarms)) (interlock_in (names_of points alarms))
+          (codes "interlock") (Some 64) doc interlocks
           (λ before at t x one. (interlock_in-ok (names_of points alarms) before at t x one).is) e;
       points_differ = points_of-differ (length devices) doc points b;
       alarms_differ = alarms-differ points doc alarms c;
@@ -301,7 +343,9 @@ scenario_of-valid doc c h =
     let here = settings_of-ok doc s settled in
     let there = plant_of-ok doc plant planted in
     let right = keepers_of-ok (cast_of s plant) s.intruded doc keepers kept in
-    let lists : length (failing_of (cast_of s plant) keepers) ≡ actors_of (cast_of s plant) = length-map (numbers_below (actors_of (cast_of s plant))) (calls_of keepers) ∙ length-numbers_below (actors_of (cast_of s plant)) in
+    let lists : length (failing_of (cast_of s plant) keepers) ≡ actors_of (cast_of s plant) =
+    length-map (numbers_below (actors_of (cast_of s plant))) (calls_of keepers)
+    ∙ length-numbers_below (actors_of (cast_of s plant)) in
     let holds : IsScenario made = record {
       group = here.group;
       seed = here.seed;
@@ -323,25 +367,32 @@ scenario_of-valid doc c h =
       alarms_differ = there.alarms_differ;
       interlocks_differ = there.interlocks_differ;
       failing = lists;
-      failing_calls = all-at IsFailing (failing_of (cast_of s plant) keepers) (all-map IsFailing (calls_of keepers) (numbers_below (actors_of (cast_of s plant))) (λ a. calls_of-failing s.intruded keepers a right));
-      intruded_keep_all = λ m is. map-empty (calls_of keepers) (actors_of (cast_of s plant)) m (calls_of-intruded s.intruded keepers m right is);
+      failing_calls = all-at IsFailing (failing_of (cast_of s plant) keepers)
+          (all-map IsFailing (calls_of keepers) (numbers_below (actors_of (cast_of s plant)))
+          (λ a. calls_of-failing s.intruded keepers a right));
+      intruded_keep_all = λ m is. map-empty (calls_of keepers) (actors_of (cast_of s plant)) m
+          (calls_of-intruded s.intruded keepers m right is);
     } in
     subst IsScenario (unless_unknown-ok made c unknown h4) holds))))
 
-or_no_toml-valid : (doc : Option Members) (c : Contents) → or_no_toml doc ≡ Ok c → IsScenario c
+pub or_no_toml-valid : (doc : Option Members) (c : Contents) → or_no_toml doc ≡ Ok c → IsScenario c
 or_no_toml-valid None c h = absurd (cc)
 or_no_toml-valid (Some doc) c h = scenario_of-valid doc c h
 
 -- what is read is valid
-pub read-valid : (r : Result Scenario ScenarioRefusal) (text : List ℕ) → Shows contents r (scenario_in text) → IfOk r (λ s. IsScenario (contents s))
+pub read-valid : (r : Result Scenario ScenarioRefusal) (text : List ℕ) → Shows contents r (scenario_in text) →
+    IfOk r (λ s. IsScenario (contents s))
 unfolding scenario_in
 read-valid (Ok s) text h = or_no_toml-valid (parse_document text) (contents s) h
 read-valid (Err e) text h = tt
 
 -- a scenario by its parts
-pub whole-of : (s t : Settings) (p q : Plant) (f g : List (List ℕ)) → s ≡ t → p ≡ q → f ≡ g → let a : Contents = record { settings = s; plant = p; failing = f } in let b : Contents = record { settings = t; plant = q; failing = g } in a ≡ b
+pub whole-of : (s t : Settings) (p q : Plant) (f g : List (List ℕ)) → s ≡ t → p ≡ q → f ≡ g → let a : Contents =
+    record { settings = s; plant = p; failing = f } in let b : Contents =
+    record { settings = t; plant = q; failing = g } in a ≡ b
 whole-of s t p q f g one two three = rw (one, two, three) refl
 
-pub no-failing : let cast : Cast = record { masters = 4; proxies = 0; screens = 1 } in failing_of cast [] ≡ [] ∷ [] ∷ [] ∷ [] ∷ [] ∷ []
+pub no-failing : let cast : Cast = record { masters = 4; proxies = 0; screens = 1 } in
+    failing_of cast [] ≡ [] ∷ [] ∷ [] ∷ [] ∷ [] ∷ []
 unfolding numbers_below
 no-failing = refl

@@ -1,5 +1,6 @@
 -- Which calls of which actor's keeper fail. Appends and readings are counted together, from 1.
-use Rattle.std.specs.Prelude.{ℕ, ◌==◌, nat_le, nat_lt, Bool, not, ◌&&◌, if◌then◌else◌, ◌++◌, List, [], ◌∷◌, map, codes, Some, None, Ok}
+use Rattle.std.specs.Prelude.{ℕ, ◌==◌, nat_le, nat_lt, Bool, not, ◌&&◌, if◌then◌else◌, ◌++◌, List, [], ◌∷◌, map}
+use Rattle.std.specs.Prelude.{codes, Some, None, Ok}
 use Rattle.std.specs.List.{list_all, list_any}
 use Rattle.toml.specs.Data.{Members}
 use Rattle.quorum_sets.specs.Masters.{has_master, numbers_below}

@@ -1,6 +1,7 @@
 -- The tables of the plant: proxies with their devices, points, alarms and interlocks. A name is one as rules have
 -- them, and no two of one list have the same.
-use Rattle.std.specs.Prelude.{ℕ, nat_lt, Bool, true, false, not, ◌&&◌, if◌then◌else◌, ◌++◌, List, codes, length, Option, Some, None, Result, Ok, Err, ℤ, pos, is_some, position}
+use Rattle.std.specs.Prelude.{ℕ, nat_lt, Bool, true, false, not, ◌&&◌, if◌then◌else◌, ◌++◌, List, codes, length}
+use Rattle.std.specs.Prelude.{Option, Some, None, Result, Ok, Err, ℤ, pos, is_some, position}
 use Rattle.std.specs.Str.{bytes_eq}
 use Rattle.toml.specs.Data.{Data, Members, get_member}
 use Rattle.point_table.specs.declared.point.Area.{Area}
@@ -21,7 +22,8 @@ use Rattle.interlocks.specs.Reading.{Names, read_rule}
 use Rattle.interlocks.specs.Tokens.{token_of}
 use Rattle.master_points.specs.declared.plant.Plant.{Plant}
 use Rattle.scenario_file.specs.Answers.{Answer, ◌>>=◌, kept, or_bad}
-use Rattle.scenario_file.specs.Values.{integer_at, integer_or, integer_in, count_at, text_at, least, most, greatest_count}
+use Rattle.scenario_file.specs.Values.{integer_at, integer_or, integer_in, count_at, text_at, least, most}
+use Rattle.scenario_file.specs.Values.{greatest_count}
 use Rattle.scenario_file.specs.Lists.{rows_of}
 
 -- how many places of each area the device behind a proxy has
@@ -43,7 +45,8 @@ is_name s = is_name_token (token_of s)
 
 -- a name that nothing has yet
 unfoldable pub name_in : (List ℕ → Option ℕ) → List ℕ → Members → Answer (List ℕ)
-name_in place_of at t = text_at at (codes "name") t >>= (λ s. kept (at ++ codes "name") (is_name s && not (is_some (place_of s))) s)
+name_in place_of at t = text_at at (codes "name") t
+    >>= (λ s. kept (at ++ codes "name") (is_name s && not (is_some (place_of s))) s)
 
 abbrev pub area_of : List ℕ → Option Area
 area_of s =
@@ -58,7 +61,8 @@ area_in at t = text_at at (codes "area") t >>= (λ s. or_bad (at ++ codes "area"
 
 -- the number of a proxy that is there
 unfoldable pub proxy_in : ℕ → List ℕ → Members → Answer ℕ
-proxy_in devices at t = count_at at (codes "proxy") 0 greatest_count t >>= (λ p. kept (at ++ codes "proxy") (nat_lt p devices) p)
+proxy_in devices at t = count_at at (codes "proxy") 0 greatest_count t
+    >>= (λ p. kept (at ++ codes "proxy") (nat_lt p devices) p)
 
 -- a place that the device doesn't have is allowed
 unfoldable pub point_in : ℕ → List Point → List ℕ → Members → Answer Point
@@ -72,7 +76,17 @@ point_in devices before at t = do
   low ← integer_at at (codes "low") least most t
   high ← integer_at at (codes "high") low most t
   start ← integer_or at (codes "start") (pos 0) low high t
-  Ok (record { name = name; proxy = proxy; area = area; place = place; scale = scale; offset = offset; low = low; high = high; start = start })
+  Ok (record {
+    name = name;
+    proxy = proxy;
+    area = area;
+    place = place;
+    scale = scale;
+    offset = offset;
+    low = low;
+    high = high;
+    start = start;
+  })
 
 -- the number of the point that a row names
 unfoldable pub point_named_in : List Point → List ℕ → Members → Answer ℕ

@@ -35,7 +35,12 @@ scenario_of doc = do
   plant ← plant_of doc
   keepers ← keepers_of (cast_of settings plant) settings.intruded doc
   unknown ← first_unknown doc
-  unless_unknown (record { settings = settings; plant = plant; failing = failing_of (cast_of settings plant) keepers }) unknown
+  unless_unknown (record {
+    settings = settings;
+    plant = plant;
+    failing =
+        failing_of (cast_of settings plant) keepers;
+  }) unknown
 
 abbrev pub or_no_toml : Option Members → Answer Contents
 or_no_toml None = Err refusal.BadToml
@@ -48,7 +53,16 @@ scenario_in text = or_no_toml (parse_document text)
 -- what a scenario that is read says
 abbrev pub contents : Scenario → Contents
 contents s = record {
-  settings = record { f = s.sizes.f; k = s.sizes.k; seed = s.seed; heights = s.heights; frames = s.frames; intruded = s.intruded; screens = s.screens };
+  settings = record {
+    f = s.sizes.f;
+    k = s.sizes.k;
+    seed = s.seed;
+    heights = s.heights;
+    frames = s.frames;
+    intruded =
+        s.intruded;
+    screens = s.screens;
+  };
   plant = s.plant;
   failing = s.failing;
 }
@@ -56,7 +70,15 @@ contents s = record {
 -- four masters and one screen, no plant, and a seed of zeros
 abbrev pub smallest : Contents
 smallest = record {
-  settings = record { f = 1; k = 0; seed = replicate 32 0; heights = 5 ∷ 5 ∷ 5 ∷ []; frames = 1; intruded = []; screens = 1 };
+  settings = record {
+    f = 1;
+    k = 0;
+    seed = replicate 32 0;
+    heights = 5 ∷ 5 ∷ 5 ∷ [];
+    frames = 1;
+    intruded = [];
+    screens = 1;
+  };
   plant = record { devices = []; points = []; alarms = []; interlocks = [] };
   failing = [] ∷ [] ∷ [] ∷ [] ∷ [] ∷ [];
 }

@@ -3,6 +3,7 @@ use Rattle.std.specs.Prelude.{ℕ, ◌==◌, nat_lt, Bool, not, ◌&&◌, ◌||�
 use Rattle.toml.specs.Data.{Data, integer, array, no_items, item, Members}
 use Rattle.quorum_sets.specs.Quorum.{group_size}
 use Rattle.quorum_sets.specs.Masters.{has_master, voters}
+use Rattle.quorum_sets.specs.declared.limits.TheConstants.{MOST_MASTERS}
 use Rattle.scenario_file.specs.Answers.{Answer, ◌>>=◌}
 use Rattle.scenario_file.specs.Values.{count_at, count_or, bytes_at, or_default}
 use Rattle.scenario_file.specs.Lists.{list_in, numbers_in}
@@ -17,7 +18,8 @@ usual_levels = array (item (integer (pos 5)) (item (integer (pos 5)) (item (inte
 
 -- one to three levels of trees, the highest tree first
 unfoldable pub levels_of : Members → Answer (List ℕ)
-levels_of doc = list_in (codes "levels") 1 (Some 3) (or_default (codes "levels") usual_levels doc) >>= numbers_in (codes "levels") is_height
+levels_of doc = list_in (codes "levels") 1 (Some 3) (or_default (codes "levels") usual_levels doc)
+    >>= numbers_in (codes "levels") is_height
 
 -- a master that is there, and not named before
 abbrev pub is_new_master : ℕ → List ℕ → ℕ → Bool
@@ -25,7 +27,7 @@ is_new_master n before m = nat_lt m n && not (has_master before m)
 
 -- the masters named, as a set
 abbrev pub set_of : List ℕ → List ℕ
-set_of masters = voters (has_master masters) 14
+set_of masters = voters (has_master masters) MOST_MASTERS
 
 unfoldable pub intruded_of : ℕ → Members → Answer (List ℕ)
 intruded_of n doc = do

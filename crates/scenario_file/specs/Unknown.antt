@@ -12,9 +12,11 @@ use Rattle.scenario_file.specs.Lists.{rows_at, row_name}
 
 -- the keys that each kind of table may have
 abbrev pub keys_of : Kind → List (List ℕ)
-keys_of kind.Document = codes "f" ∷ codes "k" ∷ codes "seed" ∷ codes "levels" ∷ codes "frames" ∷ codes "intruded" ∷ codes "screens" ∷ codes "proxy" ∷ codes "point" ∷ codes "alarm" ∷ codes "interlock" ∷ codes "keeper" ∷ []
+keys_of kind.Document = codes "f" ∷ codes "k" ∷ codes "seed" ∷ codes "levels" ∷ codes "frames" ∷ codes "intruded"
+    ∷ codes "screens" ∷ codes "proxy" ∷ codes "point" ∷ codes "alarm" ∷ codes "interlock" ∷ codes "keeper" ∷ []
 keys_of kind.Proxy = codes "coils" ∷ codes "discrete" ∷ codes "holding" ∷ codes "input" ∷ []
-keys_of kind.Point = codes "name" ∷ codes "proxy" ∷ codes "area" ∷ codes "place" ∷ codes "scale" ∷ codes "offset" ∷ codes "low" ∷ codes "high" ∷ codes "start" ∷ []
+keys_of kind.Point = codes "name" ∷ codes "proxy" ∷ codes "area" ∷ codes "place" ∷ codes "scale" ∷ codes "offset"
+    ∷ codes "low" ∷ codes "high" ∷ codes "start" ∷ []
 keys_of kind.Alarm = codes "name" ∷ codes "point" ∷ codes "kind" ∷ codes "limit" ∷ codes "band" ∷ []
 keys_of kind.Interlock = codes "name" ∷ codes "point" ∷ codes "value" ∷ codes "deny" ∷ []
 keys_of kind.Keeper = codes "actor" ∷ codes "failing" ∷ []
@@ -22,7 +24,8 @@ keys_of kind.Keeper = codes "actor" ∷ codes "failing" ∷ []
 -- the names of a table's keys that its kind doesn't have
 abbrev pub unknown_in : Kind → List ℕ → Members → List (List ℕ)
 unknown_in what at no_members = []
-unknown_in what at (member k d ms) = if list_any (bytes_eq k) (keys_of what) then unknown_in what at ms else (at ++ k) ∷ unknown_in what at ms
+unknown_in what at (member k d ms) = if list_any (bytes_eq k) (keys_of what) then unknown_in what at ms else (at ++ k)
+    ∷ unknown_in what at ms
 
 -- the same of rows, the first having this place
 abbrev pub unknown_rows : Kind → List ℕ → ℕ → List Members → List (List ℕ)

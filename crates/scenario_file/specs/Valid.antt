@@ -1,6 +1,7 @@
--- What holds of each scenario that a file gives: its numbers are within their ranges, its names are names, each once in its
--- list, and whatever it names is there. (The ranges are this project's own; `docs/FORMATS.md` lists them by key.)
-use Rattle.std.specs.Prelude.{◌≡◌, ◌≢◌, ℕ, ◌<◌, ◌≤◌, ◌⊎◌, true, List, [], length, All, AllPairs, IsTrue, Option, ℤ, pos, ◌≤ℤ◌}
+-- What holds of each scenario that a file gives: its numbers are within their ranges, its names are names, each once in
+-- its list, and whatever it names is there. (The ranges are this project's own; `docs/FORMATS.md` lists them by key.)
+use Rattle.std.specs.Prelude.{◌≡◌, ◌≢◌, ℕ, ◌<◌, ◌≤◌, ◌⊎◌, true, List, [], length, All, AllPairs, IsTrue, Option, ℤ}
+use Rattle.std.specs.Prelude.{pos, ◌≤ℤ◌}
 use Rattle.std.specs.List.{slice_index_or}
 use Rattle.std.specs.List.Sorted.{IsStrictlyIncreasing}
 use Rattle.std.specs.Option.{ForSome}
@@ -32,8 +33,8 @@ pub record IsDevice (d : DeviceSizes) : Type 0 where
   pub holding : d.holding ≤ 1024
   pub input : d.input ≤ 1024
 
--- a point has a name, a place of 16 bits, and numbers of 64 bits. That its proxy is there, and what holds of its scale, its
--- bounds and its start, is in `IsPlant`.
+-- a point has a name, a place of 16 bits, and numbers of 64 bits. That its proxy is there, and what holds of its scale,
+-- its bounds and its start, is in `IsPlant`.
 pub record IsPoint (p : Point) : Type 0 where
   pub name : IsTrue (is_name p.name)
   pub place : p.place ≤ 65535

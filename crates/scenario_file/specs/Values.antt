@@ -1,7 +1,8 @@
 -- The value of one key: its type, its range, its default. A key of the document has its own name, one of a row
 -- the row's before it, as `point[2].area`; `at` is what stands before. (The keys are this project's own, the
 -- syntax is TOML's.)
-use Rattle.std.specs.Prelude.{ℕ, ◌++◌, ◌&&◌, List, Option, Some, None, Result, Ok, Err, ℤ, pos, negsuc, int_le, unwrap_or}
+use Rattle.std.specs.Prelude.{ℕ, ◌++◌, ◌&&◌, List, Option, Some, None, Result, Ok, Err, ℤ, pos, negsuc, int_le}
+use Rattle.std.specs.Prelude.{unwrap_or}
 use Rattle.toml.specs.Data.{Data, integer, as_integer, as_str, Members, get_member}
 use Rattle.hex.specs.Hex.{decode_sized}
 use Rattle.hex.specs.declared.error.FromHexError.{FromHexError}

@@ -2,10 +2,11 @@ ghost use Rattle.std.specs.Prelude.{◌≡◌, ◌≤◌, ◌<◌, IfOk};
 ghost use Rattle.scenario_file.specs.Actors.{actors_of, actor_name, actor_named};
 
 use plain_lists::{Text, Want};
+use quorum_sets::{MOST_CLIENTS, MOST_MASTERS};
 use std::alloc::Global;
 
-/// No scenario has more actors than this: 14 masters, 8 proxies and 4 screens.
-pub const MOST_ACTORS: u32 = 26;
+/// No scenario has more actors than this: masters, proxies and screens.
+pub const MOST_ACTORS: u32 = MOST_MASTERS + MOST_CLIENTS;
 
 /// How many actors of each kind there are. They are numbered in this order.
 #[derive(Clone, Copy, Debug)]

@@ -3,12 +3,13 @@ ghost use Rattle.std.specs.List.{list_any};
 ghost use Rattle.toml.specs.View.{table_view};
 ghost use Rattle.scenario_file.specs.Answers.{Answers};
 ghost use Rattle.scenario_file.specs.Actors.{actors_of};
+ghost use Rattle.scenario_file.specs.declared.actors.TheConstants.{MOST_ACTORS};
 ghost use Rattle.scenario_file.specs.Keepers.{is_new_actor, actor_in, calls_in, keeper_in, keepers_of, calls_of, failing_of};
 
 use crate::actors::{Cast, MOST_ACTORS};
 use crate::lists::{Series, list, numbers};
 use crate::refusal::ScenarioRefusal;
-use crate::rows::{Rows, read_rows};
+use crate::rows::{RowReader, read_rows};
 use crate::values::Keys;
 use plain_lists::{Items, Vector, Want};
 use quorum_sets::VoterSet;
@@ -26,7 +27,7 @@ pub struct Failing {
 struct KeeperRows<'a> {
     cast: Cast,
     intruded: &'a VoterSet,
-    ghost few: { cast.masters + cast.proxies + cast.screens ≤ 26 },
+    ghost few: { cast.masters + cast.proxies + cast.screens ≤ MOST_ACTORS },
 }
 
 /// Whether an actor is a correct one that no row before names.
@@ -66,7 +67,7 @@ fn calls(keys: &Keys<'_>) -> Result<Items<u32>, ScenarioRefusal>
     numbers(keys.alloc, values, keys.at, "failing", Series::Calls)
 }
 
-impl Rows<Failing> for KeeperRows<'_> {
+impl RowReader<Failing> for KeeperRows<'_> {
     ghost use Rattle.scenario_file.specs.Keepers.{keeper_in};
 
     ghost reads = { λ rows before at t. keeper_in rows.cast rows.intruded.now before at t };

@@ -7,7 +7,7 @@ ghost use Rattle.scenario_file.specs.Answers.{Answers, kept};
 ghost use Rattle.scenario_file.specs.PlantRows.{device_in, is_name, name_in, area_of, area_in, proxy_in, point_in, point_named_in, kind_of, kind_in, alarm_in, interlock_named, value_of, names_of, rule_of, rule_in, interlock_in, devices_of, points_of, alarms_of, interlocks_of, plant_of};
 
 use crate::refusal::ScenarioRefusal;
-use crate::rows::{Rows, read_rows};
+use crate::rows::{RowReader, read_rows};
 use crate::values::{Keys, integer};
 use alarm_rules::{AlarmKind, AlarmRule, Alarms};
 use interlocks::token::{Token, token_of};
@@ -126,7 +126,7 @@ impl Keys<'_> {
 #[derive(Drop)]
 struct DeviceRows;
 
-impl Rows<DeviceSizes> for DeviceRows {
+impl RowReader<DeviceSizes> for DeviceRows {
     ghost use Rattle.scenario_file.specs.PlantRows.{device_in};
 
     ghost reads = { λ _ before at t. device_in before at t };
@@ -152,7 +152,7 @@ struct PointRows {
     devices: u32,
 }
 
-impl Rows<Point> for PointRows {
+impl RowReader<Point> for PointRows {
     ghost use Rattle.scenario_file.specs.PlantRows.{point_in};
 
     ghost reads = { λ rows before at t. point_in rows.devices before at t };
@@ -199,7 +199,7 @@ struct AlarmRows<'a> {
     points: &'a Points,
 }
 
-impl Rows<AlarmRule> for AlarmRows<'_> {
+impl RowReader<AlarmRule> for AlarmRows<'_> {
     ghost use Rattle.scenario_file.specs.PlantRows.{alarm_in};
 
     ghost reads = { λ rows before at t. alarm_in rows.points.now.points before at t };
@@ -239,7 +239,7 @@ struct InterlockRows<'a> {
     alarms: &'a Alarms,
 }
 
-impl Rows<Interlock> for InterlockRows<'_> {
+impl RowReader<Interlock> for InterlockRows<'_> {
     ghost use Rattle.scenario_file.specs.PlantRows.{interlock_in};
 
     ghost reads = { λ rows before at t. interlock_in (record { points = rows.points.now; alarms = rows.alarms.now }) before at t };

@@ -11,7 +11,7 @@ use std::alloc::Global;
 use toml::Table;
 
 /// How the tables of one list are read.
-pub trait Rows<T: Drop> {
+pub trait RowReader<T: Drop> {
     ghost use Rattle.std.specs.Prelude.{ℕ, List};
     ghost use Rattle.toml.specs.Data.{Members};
     ghost use Rattle.scenario_file.specs.Answers.{Answer};
@@ -34,7 +34,7 @@ pub fn row_name(alloc: Global, key: &str, place: usize) -> Result<Text, Want>
 
 /// The rows at a key of the document, each behind those before it.
 #[tactic(auto, unfolding(crate::specs::Lists::rows_of))]
-pub fn read_rows<T: Drop, R: Rows<T>>(
+pub fn read_rows<T: Drop, R: RowReader<T>>(
     document: &Keys<'_>,
     reader: &R,
     key: &str,
@@ -51,7 +51,7 @@ pub fn read_rows<T: Drop, R: Rows<T>>(
     Ok(items)
 }
 
-fn read_row<T: Drop, R: Rows<T>>(
+fn read_row<T: Drop, R: RowReader<T>>(
     alloc: Global,
     reader: &R,
     key: &str,

@@ -46,7 +46,7 @@ fn levels(document: &Keys<'_>) -> Result<Items<u32>, ScenarioRefusal>
 
 /// The set of the masters named.
 fn set_of(masters: &[u32]) -> VoterSet
-    requires { All (λ m. m < 14) masters.now }
+    requires { All (λ m. m < MOST_MASTERS) masters.now }
     ensures { result ≡ set_of masters.now }
 {
     let mut set = VoterSet::empty();

@@ -1,6 +1,9 @@
--- A frame as scripts name it: `ACTOR.KIND.NUMBER`, its signer, its kind and which it is of those, from 1. (This project's own.)
-use Rattle.std.specs.Prelude.{ℕ, nat_le, ◌==◌, Bool, true, false, ◌&&◌, if◌then◌else◌, List, [], ◌∷◌, map, length, Option, Some, None, Result, Ok, Err}
+-- A frame as scripts name it: `ACTOR.KIND.NUMBER`, its signer, its kind and which it is of those, from 1. (This
+-- project's own.)
+use Rattle.std.specs.Prelude.{ℕ, nat_le, ◌==◌, Bool, true, false, ◌&&◌, if◌then◌else◌, List, [], ◌∷◌, map, length}
+use Rattle.std.specs.Prelude.{Option, Some, None, Result, Ok, Err}
 use Rattle.std.specs.List.{slice_split, before_first}
+use Rattle.message_types.specs.declared.limits.TheConstants.{MOST_LISTED}
 use Rattle.play_words.specs.declared.words.Ref.{Ref}
 use Rattle.scenario_file.specs.declared.actors.Cast.{Cast}
 use Rattle.script_grammar.specs.declared.frames.Allowed.{Allowed}
@@ -61,6 +64,7 @@ frame_in cast among text = frame_of cast among (slice_split (λ b. b == 46) text
 abbrev pub signer_in : List ℕ → List ℕ
 signer_in text = before_first (λ b. b == 46) text
 
--- at most 14 frames, whose signers rise
+-- a list of frames within its limit, whose signers rise
 unfoldable pub frames_in : Cast → Allowed → List (List ℕ) → Answer (List Ref)
-frames_in cast among texts = if nat_le (length texts) 14 && names_rise (map signer_in texts) then each (frame_in cast among) texts else bad
+frames_in cast among texts = if nat_le (length texts) MOST_LISTED && names_rise (map signer_in texts) then each
+    (frame_in cast among) texts else bad

@@ -1,4 +1,5 @@
--- The kinds of messages, their names and numbers. (The messages are those of Prime, the names and numbers this project's own.)
+-- The kinds of messages, their names and numbers. (The messages are those of Prime, the names and numbers this
+-- project's own.)
 use Rattle.std.specs.Prelude.{ℕ, codes, List, [], ◌∷◌, Option}
 use Rattle.std.specs.List.{find}
 use Rattle.std.specs.Str.{bytes_eq}

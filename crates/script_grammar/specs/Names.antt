@@ -1,13 +1,14 @@
 -- Actors by their names, and who of them may do what a line says. (Names are this project's own: `m0`, `p0`, `s0`.)
-use Rattle.std.specs.Prelude.{ℕ, ◌+◌, ◌-◌, nat_le, nat_lt, ◌==◌, Bool, true, false, not, ◌&&◌, ◌||◌, if◌then◌else◌, List, [], ◌∷◌, length, Option, Some, None, Result, Ok, Err, slice_get}
+use Rattle.std.specs.Prelude.{ℕ, ◌+◌, ◌-◌, nat_le, nat_lt, ◌==◌, Bool, true, false, not, ◌&&◌, ◌||◌, if◌then◌else◌}
+use Rattle.std.specs.Prelude.{List, [], ◌∷◌, length, Option, Some, None, Result, Ok, Err, slice_get}
 use Rattle.std.specs.Str.Parse.{digits_value}
 use Rattle.quorum_sets.specs.Masters.{has_master}
 use Rattle.point_table.specs.declared.point.DeviceSizes.{DeviceSizes}
 use Rattle.scenario_file.specs.declared.actors.Cast.{Cast}
 use Rattle.scenario_file.specs.Actors.{actor_named}
 use Rattle.scenario_file.specs.Reading.{Contents, cast_of}
-use Rattle.script_grammar.specs.declared.fault.Fault.{Fault}
-use Rattle.script_grammar.specs.declared.fault.Fault.TheVariants as fault
+use Rattle.script_grammar.specs.declared.fault.LineRefusal.{LineRefusal}
+use Rattle.script_grammar.specs.declared.fault.LineRefusal.TheVariants as fault
 use Rattle.script_grammar.specs.Faults.{Answer, bad}
 use Rattle.script_grammar.specs.Numbers.{is_numeral}
 
@@ -29,7 +30,8 @@ is_name (letter ∷ number) = ((letter == 109) || (letter == 112) || (letter == 
 abbrev pub comes_before : List ℕ → List ℕ → Bool
 comes_before [] b = false
 comes_before (letter ∷ number) [] = false
-comes_before (letter ∷ number) (other ∷ its) = nat_lt letter other || ((letter == other) && nat_lt (digits_value 10 number) (digits_value 10 its))
+comes_before (letter ∷ number) (other ∷ its) = nat_lt letter other
+    || ((letter == other) && nat_lt (digits_value 10 number) (digits_value 10 its))
 
 abbrev pub rise : List ℕ → List ℕ → Bool
 rise a b = is_name a && is_name b && comes_before a b
@@ -49,7 +51,7 @@ unfoldable pub actor_in : Cast → List ℕ → Answer ℕ
 actor_in cast name = if is_name name then there (actor_named cast name) else bad
 
 -- an actor of a role
-abbrev pub of_role : (ℕ → Bool) → Result ℕ Fault → Result ℕ Fault
+abbrev pub of_role : (ℕ → Bool) → Result ℕ LineRefusal → Result ℕ LineRefusal
 of_role is_one (Ok a) = if is_one a then Ok a else Err fault.NoActor
 of_role is_one (Err e) = Err e
 

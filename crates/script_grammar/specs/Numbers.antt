@@ -1,8 +1,12 @@
--- Numbers as the files of plays have them. (This project's own.)
-use Rattle.std.specs.Prelude.{ℕ, nat_le, ◌==◌, Bool, true, false, not, ◌&&◌, if◌then◌else◌, List, [], ◌∷◌, ℤ, pos, neg_ℤ, Ok}
+-- Numbers and bytes as the files of plays have them. (This project's own.)
+use Rattle.std.specs.Prelude.{ℕ, nat_le, ◌==◌, codes, Bool, true, false, not, ◌&&◌, if◌then◌else◌, List, [], ◌∷◌, ℤ}
+use Rattle.std.specs.Prelude.{pos, neg_ℤ, Result, Ok, Err}
 use Rattle.std.specs.List.{list_all}
 use Rattle.std.specs.Char.{is_ascii_digit}
+use Rattle.std.specs.Str.{bytes_eq}
 use Rattle.std.specs.Str.Parse.{digits_value}
+use Rattle.hex.specs.declared.error.FromHexError.{FromHexError}
+use Rattle.hex.specs.Hex.{decode_of}
 use Rattle.script_grammar.specs.Faults.{Answer, bad, said}
 
 -- whether a text isn't empty, and no 0 stands before others
@@ -42,3 +46,13 @@ not_below_zero_in digits = said pos (number_in 0 9223372036854775807 digits)
 unfoldable pub signed_in : List ℕ → Answer ℤ
 signed_in [] = bad
 signed_in (c ∷ cs) = if c == 45 then below_zero_in cs else not_below_zero_in (c ∷ cs)
+
+-- what hex digits were read as
+abbrev pub hex_bytes : Result (List ℕ) FromHexError → Answer (List ℕ)
+hex_bytes (Ok bytes) = Ok bytes
+hex_bytes (Err e) = bad
+
+-- bytes as two hex digits each, in either case; no bytes are `-`
+unfoldable pub bytes_in : List ℕ → Answer (List ℕ)
+bytes_in [] = bad
+bytes_in (c ∷ cs) = if bytes_eq (c ∷ cs) (codes "-") then Ok [] else hex_bytes (decode_of (c ∷ cs))

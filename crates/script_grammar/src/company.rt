@@ -5,7 +5,7 @@ ghost use Rattle.scenario_file.specs.Valid.{IsScenario};
 ghost use Rattle.script_grammar.specs.Faults.{Answers};
 ghost use Rattle.script_grammar.specs.Names.{who_of, device_of, is_intruded, is_proxy, is_screen, actor_in, intruded_in, correct_in, proxy_in, screen_in};
 
-use crate::fault::Fault;
+use crate::fault::LineRefusal;
 use crate::names::is_name;
 use plain_lists::Want;
 use point_table::DeviceSizes;
@@ -92,39 +92,39 @@ impl<'a> Company<'a> {
 
     /// The actor of a name.
     #[tactic(auto, unfolding(crate::specs::Names::actor_in))]
-    pub fn actor(&self, name: &str) -> Result<u32, Fault>
+    pub fn actor(&self, name: &str) -> Result<u32, LineRefusal>
         ensures { Answers result (actor_in self.now.cast name.now) }
     {
         if !is_name(name.as_bytes()) {
-            return Err(Fault::BadLine);
+            return Err(LineRefusal::BadLine);
         }
         match self.cast.named(self.alloc, name)? {
             Some(actor) => Ok(actor),
-            None => Err(Fault::NoActor),
+            None => Err(LineRefusal::NoActor),
         }
     }
 
     /// The intruded master of a name.
     #[tactic(auto, unfolding(crate::specs::Names::intruded_in))]
-    pub fn intruded(&self, name: &str) -> Result<u32, Fault>
+    pub fn intruded(&self, name: &str) -> Result<u32, LineRefusal>
         ensures { Answers result (intruded_in self.now name.now) }
     {
         let actor = self.actor(name)?;
         if self.is_intruded(actor) {
             Ok(actor)
         } else {
-            Err(Fault::NoActor)
+            Err(LineRefusal::NoActor)
         }
     }
 
     /// The correct actor of a name.
     #[tactic(auto, unfolding(crate::specs::Names::correct_in))]
-    pub fn correct(&self, name: &str) -> Result<u32, Fault>
+    pub fn correct(&self, name: &str) -> Result<u32, LineRefusal>
         ensures { Answers result (correct_in self.now name.now) }
     {
         let actor = self.actor(name)?;
         if self.is_intruded(actor) {
-            Err(Fault::NoActor)
+            Err(LineRefusal::NoActor)
         } else {
             Ok(actor)
         }
@@ -132,27 +132,27 @@ impl<'a> Company<'a> {
 
     /// The proxy of a name.
     #[tactic(auto, unfolding(crate::specs::Names::proxy_in))]
-    pub fn proxy(&self, name: &str) -> Result<u32, Fault>
+    pub fn proxy(&self, name: &str) -> Result<u32, LineRefusal>
         ensures { Answers result (proxy_in self.now name.now) }
     {
         let actor = self.actor(name)?;
         if self.is_proxy(actor) {
             Ok(actor)
         } else {
-            Err(Fault::NoActor)
+            Err(LineRefusal::NoActor)
         }
     }
 
     /// The screen of a name.
     #[tactic(auto, unfolding(crate::specs::Names::screen_in))]
-    pub fn screen(&self, name: &str) -> Result<u32, Fault>
+    pub fn screen(&self, name: &str) -> Result<u32, LineRefusal>
         ensures { Answers result (screen_in self.now name.now) }
     {
         let actor = self.actor(name)?;
         if self.is_screen(actor) {
             Ok(actor)
         } else {
-            Err(Fault::NoActor)
+            Err(LineRefusal::NoActor)
         }
     }
 }

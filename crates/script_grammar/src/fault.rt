@@ -20,20 +20,20 @@ pub enum ScriptRefusal {
 
 /// What is wrong with a line.
 #[derive(Clone, Copy, Debug, PartialEq, Eq)]
-pub enum Fault {
+pub enum LineRefusal {
     BadLine,
     NoActor,
     Want,
 }
 
-impl From<Want> for Fault {
+impl From<Want> for LineRefusal {
     ghost use Rattle.std.specs.Prelude.{◌≡◌};
-    ghost use Rattle.script_grammar.specs.declared.fault.Fault.TheVariants.{Want as WantFault};
+    ghost use Rattle.script_grammar.specs.declared.fault.LineRefusal.TheVariants.{Want as WantFault};
 
     ghost from_gives = { λ _ fault. fault ≡ WantFault };
 
-    fn from(_refused: Want) -> Fault {
-        Fault::Want
+    fn from(_refused: Want) -> LineRefusal {
+        LineRefusal::Want
     }
 }
 
@@ -48,29 +48,29 @@ impl From<Want> for ScriptRefusal {
     }
 }
 
-impl Fault {
+impl LineRefusal {
     /// The refusal of a file whose line of that number has the fault.
     pub fn at(self, line: u64) -> ScriptRefusal
         ensures { result ≡ refusal_at line self }
     {
         match self {
-            Fault::BadLine => ScriptRefusal::BadLine { line },
-            Fault::NoActor => ScriptRefusal::NoActor { line },
-            Fault::Want => ScriptRefusal::Want,
+            LineRefusal::BadLine => ScriptRefusal::BadLine { line },
+            LineRefusal::NoActor => ScriptRefusal::NoActor { line },
+            LineRefusal::Want => ScriptRefusal::Want,
         }
     }
 }
 
 /// Two parts of a line. A fault in the form of either comes before an actor who isn't there.
 pub fn both<A: Drop, B: Drop>(
-    first: Result<A, Fault>,
-    second: Result<B, Fault>,
-) -> Result<(A, B), Fault>
-    ensures { (a : Result A Fault) (b : Result B Fault) → Answers first a → Answers second b → Answers result (both a b) }
+    first: Result<A, LineRefusal>,
+    second: Result<B, LineRefusal>,
+) -> Result<(A, B), LineRefusal>
+    ensures { (a : Result A LineRefusal) (b : Result B LineRefusal) → Answers first a → Answers second b → Answers result (both a b) }
 {
     match (first, second) {
         (Ok(a), Ok(b)) => Ok((a, b)),
-        (Err(Fault::NoActor), Err(fault)) => Err(fault),
+        (Err(LineRefusal::NoActor), Err(fault)) => Err(fault),
         (Err(fault), _) => Err(fault),
         (Ok(_), Err(fault)) => Err(fault),
     }

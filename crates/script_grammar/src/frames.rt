@@ -4,19 +4,20 @@ ghost use Rattle.script_grammar.specs.Frames.{allows, kind_in, frame_of, frame_i
 ghost use Rattle.script_grammar.specs.Lines.{texts};
 
 use crate::company::Company;
-use crate::fault::{Fault, both};
+use crate::fault::{LineRefusal, both};
 use crate::kinds::Kind;
 use crate::names::names_rise;
 use crate::numbers::number;
 use crate::pieces::{Part, each, parts};
+use message_types::MOST_LISTED;
 use plain_lists::Items;
 use play_words::Ref;
 
 /// The most frames that a list may have.
-const MOST_FRAMES: usize = 14;
+const MOST_FRAMES: usize = MOST_LISTED as usize;
 
 /// Which kinds of frames may stand at a place.
-#[derive(Clone, Copy, Debug, PartialEq, Eq)]
+#[derive(Clone, Copy, PartialEq, Eq)]
 pub enum Allowed {
     Any,
     Updates,
@@ -41,16 +42,16 @@ impl Allowed {
 
     /// The number of a kind that may stand here.
     #[tactic(auto, unfolding(crate::specs::Frames::kind_in))]
-    fn kind(self, name: &str) -> Result<u16, Fault>
+    fn kind(self, name: &str) -> Result<u16, LineRefusal>
         ensures { Answers result (kind_in self name.now) }
     {
         match Kind::named(name) {
-            None => Err(Fault::BadLine),
+            None => Err(LineRefusal::BadLine),
             Some(kind) => {
                 if self.allows(kind) {
                     Ok(kind.number())
                 } else {
-                    Err(Fault::BadLine)
+                    Err(LineRefusal::BadLine)
                 }
             }
         }
@@ -58,7 +59,7 @@ impl Allowed {
 }
 
 impl<'a> Company<'a> {
-    fn frame_of(&self, allowed: Allowed, parts: &[&str]) -> Result<Ref, Fault>
+    fn frame_of(&self, allowed: Allowed, parts: &[&str]) -> Result<Ref, LineRefusal>
         ensures { Answers result (frame_of self.now.cast allowed (texts parts.now)) }
     {
         match parts {
@@ -71,26 +72,26 @@ impl<'a> Company<'a> {
                     number,
                 })
             }
-            _ => Err(Fault::BadLine),
+            _ => Err(LineRefusal::BadLine),
         }
     }
 
     /// A frame of a kind that may stand here.
     #[tactic(auto, unfolding(crate::specs::Frames::frame_in))]
-    pub fn frame(&self, allowed: Allowed, text: &str) -> Result<Ref, Fault>
+    pub fn frame(&self, allowed: Allowed, text: &str) -> Result<Ref, LineRefusal>
         ensures { Answers result (frame_in self.now.cast allowed text.now) }
     {
         let parts = parts(self.alloc(), text, '.')?;
         self.frame_of(allowed, parts.as_slice())
     }
 
-    /// At most 14 frames, whose signers rise.
+    /// Frames whose signers rise, at most as many as a list may have.
     #[tactic(auto, unfolding(crate::specs::Frames::frames_in))]
-    pub fn frames(&self, allowed: Allowed, frames: &[&str]) -> Result<Items<Ref>, Fault>
+    pub fn frames(&self, allowed: Allowed, frames: &[&str]) -> Result<Items<Ref>, LineRefusal>
         ensures { Answers result (frames_in self.now.cast allowed (texts frames.now)) }
     {
         if frames.len() > MOST_FRAMES || !names_rise(frames) {
-            return Err(Fault::BadLine);
+            return Err(LineRefusal::BadLine);
         }
         each(
             self.alloc(),
@@ -115,7 +116,7 @@ impl Part<Ref> for FrameParts<'_> {
 
     ghost reads = { λ part text. frame_in part.company.now.cast part.allowed text };
 
-    fn read(&self, text: &str) -> Result<Ref, Fault> {
+    fn read(&self, text: &str) -> Result<Ref, LineRefusal> {
         self.company.frame(self.allowed, text)
     }
 }

@@ -29,7 +29,7 @@ const KINDS: [Kind; 21] = [
 ];
 
 /// What a message is.
-#[derive(Clone, Copy, Debug, PartialEq, Eq)]
+#[derive(Clone, Copy, PartialEq, Eq)]
 pub enum Kind {
     Update,
     PoRequest,

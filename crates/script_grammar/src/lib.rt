@@ -11,10 +11,10 @@ mod numbers;
 mod pieces;
 
 pub use company::Company;
-pub use fault::{Fault, ScriptRefusal, both};
+pub use fault::{LineRefusal, ScriptRefusal, both};
 pub use frames::Allowed;
 pub use kinds::Kind;
 pub use lines::{Grammar, read_lines};
 pub use names::names_rise;
-pub use numbers::{narrow, number, short, signed, wide};
+pub use numbers::{bytes, narrow, number, short, signed, wide};
 pub use pieces::{Part, each, parts};

@@ -5,7 +5,7 @@ ghost use Rattle.std.specs.Str.Lines.{lines, strip_carriage_return};
 ghost use Rattle.script_grammar.specs.Faults.{Answers, said};
 ghost use Rattle.script_grammar.specs.Lines.{is_silent, line_in, file_in, Reads, texts, words_of};
 
-use crate::fault::{Fault, ScriptRefusal};
+use crate::fault::{LineRefusal, ScriptRefusal};
 use crate::pieces::parts;
 use plain_lists::{Items, Want};
 use std::alloc::Global;
@@ -18,7 +18,7 @@ pub trait Grammar<T: Drop> {
     /// What the words of the line of a number say.
     ghost says: { Self → ℕ → List (List ℕ) → Answer T };
 
-    fn read(&self, number: u64, words: &[&str]) -> Result<T, Fault>
+    fn read(&self, number: u64, words: &[&str]) -> Result<T, LineRefusal>
         ensures { Answers result (says self.now number (texts words.now)) };
 }
 
@@ -66,15 +66,15 @@ fn read_text<T: Drop, G: Grammar<T>>(
     grammar: &G,
     number: u64,
     line: &str,
-) -> Result<T, Fault>
+) -> Result<T, LineRefusal>
     ensures { Answers result (G.says grammar.now number (words_of line.now)) }
 {
     let words = parts(alloc, line, ' ')?;
     grammar.read(number, words.as_slice())
 }
 
-fn if_any<T: Drop>(read: Result<T, Fault>) -> Result<Option<T>, Fault>
-    ensures { (right : Result T Fault) → Answers read right → Answers result (said Some right) }
+fn if_any<T: Drop>(read: Result<T, LineRefusal>) -> Result<Option<T>, LineRefusal>
+    ensures { (right : Result T LineRefusal) → Answers read right → Answers result (said Some right) }
 {
     match read {
         Ok(value) => Ok(Some(value)),
@@ -89,7 +89,7 @@ fn read_line<T: Drop, G: Grammar<T>>(
     grammar: &G,
     number: u64,
     line: &[u8],
-) -> Result<Option<T>, Fault>
+) -> Result<Option<T>, LineRefusal>
     ensures { Answers result (line_in (G.says grammar.now) (record { number = number; line = line.now })) }
 {
     if is_silent(line) {
@@ -97,7 +97,7 @@ fn read_line<T: Drop, G: Grammar<T>>(
     }
     match std::str::from_utf8(line) {
         Ok(text) => if_any(read_text(alloc, grammar, number, text)),
-        Err(_) => Err(Fault::BadLine),
+        Err(_) => Err(LineRefusal::BadLine),
     }
 }
 

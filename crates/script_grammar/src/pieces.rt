@@ -3,7 +3,7 @@ ghost use Rattle.std.specs.List.{slice_split};
 ghost use Rattle.script_grammar.specs.Faults.{Answers, each};
 ghost use Rattle.script_grammar.specs.Lines.{texts};
 
-use crate::fault::Fault;
+use crate::fault::LineRefusal;
 use plain_lists::{Items, Want};
 use std::alloc::{AllocError, Global};
 
@@ -30,12 +30,16 @@ pub trait Part<T: Drop> {
     /// What a text says.
     ghost reads: { Self → List ℕ → Answer T };
 
-    fn read(&self, text: &str) -> Result<T, Fault>
+    fn read(&self, text: &str) -> Result<T, LineRefusal>
         ensures { Answers result (reads self.now text.now) };
 }
 
 /// What each of several texts says.
-pub fn each<T: Drop, P: Part<T>>(alloc: Global, part: &P, parts: &[&str]) -> Result<Items<T>, Fault>
+pub fn each<T: Drop, P: Part<T>>(
+    alloc: Global,
+    part: &P,
+    parts: &[&str],
+) -> Result<Items<T>, LineRefusal>
     ensures { Answers result (each (P.reads part.now) (texts parts.now)) }
 {
     let mut found = Items::new(alloc);
@@ -43,12 +47,12 @@ pub fn each<T: Drop, P: Part<T>>(alloc: Global, part: &P, parts: &[&str]) -> Res
     for text in parts {
         match part.read(text) {
             Ok(value) => found.push(value)?,
-            Err(Fault::NoActor) => is_absent = true,
+            Err(LineRefusal::NoActor) => is_absent = true,
             Err(fault) => return Err(fault),
         }
     }
     if is_absent {
-        return Err(Fault::NoActor);
+        return Err(LineRefusal::NoActor);
     }
     Ok(found)
 }

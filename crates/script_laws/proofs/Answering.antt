@@ -1,6 +1,6 @@
 -- What an answer that was given says of its parts.
 use Rattle.std.proofs.Common.{◌≡◌, Bool, true, false, if◌then◌else◌, refl, ap, Ok, Err, Option, Some, None}
-use Rattle.script_grammar.specs.Faults.{Answer, said, both}
+use Rattle.script_grammar.specs.Faults.{Answer, said}
 
 abbrev pub ok : {A : Type 0} → A → Answer A
 ok x = Ok x
@@ -23,14 +23,8 @@ pub said_from : {A B : Type 0} (f : A → B) (r : Answer A) (y : B) → said f r
 said_from f (Ok x) y h = (x, refl, ok_same (f x) y h)
 said_from f (Err e) y h = absurd (cc)
 
-pub both_from : {A B : Type 0} (r : Answer A) (q : Answer B) (p : A × B) → both r q ≡ Ok p → (r ≡ Ok p.0) × (q ≡ Ok p.1)
-both_from {A} {B} (Ok a) (Ok b) p h =
-    let same = ok_same (a, b) p h in (ap (λ (x : A × B). ok x.0) same, ap (λ (x : A × B). ok x.1) same)
-both_from (Ok a) (Err e) p h = absurd (cc)
-both_from (Err d) (Ok b) p h = absurd (cc)
-both_from (Err d) (Err e) p h = absurd (cc)
-
 -- a choice comes to one of its two cases
-pub chosen : {A P : Type 0} (b : Bool) (x y z : A) → (if b then x else y) ≡ z → (b ≡ true → x ≡ z → P) → (b ≡ false → y ≡ z → P) → P
+pub chosen : {A P : Type 0} (b : Bool) (x y z : A) → (if b then x else y) ≡ z → (b ≡ true → x ≡ z → P) →
+    (b ≡ false → y ≡ z → P) → P
 chosen true x y z h here there = here refl h
 chosen false x y z h here there = there refl h

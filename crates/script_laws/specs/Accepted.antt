@@ -1,5 +1,5 @@
--- Which lines and words a play of a scenario can have: all whom they name are there, and each event is one of its actor's
--- role. What is read for a scenario has no others. (This project's own.)
+-- Which lines and words a play of a scenario can have: all whom they name are there, and each event is one of its
+-- actor's role. What is read for a scenario has no others. (This project's own.)
 use Rattle.std.specs.Prelude.{ℕ, ◌+◌, Bool, true, ◌&&◌, List, nat_lt}
 use Rattle.std.specs.List.{list_all}
 use Rattle.play_words.specs.declared.words.Ref.{Ref}

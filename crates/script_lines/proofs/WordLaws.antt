@@ -1,5 +1,6 @@
 -- Fields of words at their edges: fewer than two certificates rise, and a text without `@` is no digest.
-use Rattle.std.proofs.Common.{◌≡◌, ◌≢◌, ◌<◌, ◌==◌, ℕ, Bool, true, false, if◌then◌else◌, List, [], ◌∷◌, length, map, refl, sym, ap, arith}
+use Rattle.std.proofs.Common.{◌≡◌, ◌≢◌, ◌<◌, ◌==◌, ℕ, Bool, true, false, if◌then◌else◌, List, [], ◌∷◌, length, map}
+use Rattle.std.proofs.Common.{refl, sym, ap, arith}
 use Rattle.message_types.specs.Spelling.{is_rising}
 use Rattle.play_words.specs.declared.words.Item.{Item}
 use Rattle.scenario_file.specs.declared.actors.Cast.{Cast}

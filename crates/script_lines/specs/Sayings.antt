@@ -1,5 +1,6 @@
 -- What intruded masters are made to say, and to whom. (This project's own.)
-use Rattle.std.specs.Prelude.{ℕ, nat_eq, codes, if◌then◌else◌, List, [], ◌∷◌, Option, Some, None, Result, Ok, Err, filter, ◌==◌}
+use Rattle.std.specs.Prelude.{ℕ, nat_eq, codes, if◌then◌else◌, List, [], ◌∷◌, Option, Some, None, Result, Ok, Err}
+use Rattle.std.specs.Prelude.{filter, ◌==◌}
 use Rattle.std.specs.List.{slice_split, list_any}
 use Rattle.std.specs.Str.{bytes_eq}
 use Rattle.play_words.specs.declared.words.Ref.{Ref}
@@ -16,7 +17,9 @@ use Rattle.script_grammar.specs.Kinds.{kind_named}
 use Rattle.script_grammar.specs.Lines.{file_in}
 use Rattle.script_grammar.specs.Names.{Who, actor_in, intruded_in}
 use Rattle.script_lines.specs.declared.saying.Saying.{Saying}
-use Rattle.script_lines.specs.WordFields.{raw_in, number_in, numbers_in, one_and_number_in, request_in, poack_in, summary_in, preprepare_in, vote_in, rtt_in, report_in, newview_in, voucher_in}
+use Rattle.script_lines.specs.WordFields.{raw_in, number_in, numbers_in, one_and_number_in, request_in, poack_in}
+use Rattle.script_lines.specs.WordFields.{summary_in, preprepare_in, vote_in, rtt_in, report_in, newview_in}
+use Rattle.script_lines.specs.WordFields.{voucher_in}
 
 -- the word of a kind that has these fields; an update can't be spoken
 unfoldable pub fields_in : Cast → Kind → List (List ℕ) → Answer Word
@@ -49,7 +52,8 @@ kind_fields_in cast (Some k) fields = fields_in cast k fields
 -- raw bytes, or a kind's name with its fields
 unfoldable pub word_in : Cast → List (List ℕ) → Answer Word
 word_in cast [] = bad
-word_in cast (name ∷ fields) = if bytes_eq name (codes "raw") then raw_in fields else kind_fields_in cast (kind_named name) fields
+word_in cast (name ∷ fields) = if bytes_eq name (codes "raw") then raw_in fields else kind_fields_in cast
+    (kind_named name) fields
 
 -- the actors named, each once and in number order
 abbrev pub among : Cast → List ℕ → List ℕ

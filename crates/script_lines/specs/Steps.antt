@@ -1,5 +1,6 @@
 -- The lines of a script. (This project's own.)
-use Rattle.std.specs.Prelude.{ℕ, nat_lt, codes, Bool, true, false, if◌then◌else◌, List, [], ◌∷◌, Option, Some, None, ℤ, Result, Ok, Err}
+use Rattle.std.specs.Prelude.{ℕ, nat_lt, codes, Bool, true, false, if◌then◌else◌, List, [], ◌∷◌, Option, Some, None}
+use Rattle.std.specs.Prelude.{ℤ, Result, Ok, Err}
 use Rattle.std.specs.Str.{bytes_eq}
 use Rattle.message_types.specs.declared.updates.Op.{Op}
 use Rattle.message_types.specs.declared.updates.Op.TheVariants as op
@@ -8,9 +9,9 @@ use Rattle.point_table.specs.declared.point.Area.{Area}
 use Rattle.point_table.specs.declared.point.Area.TheVariants as area
 use Rattle.point_table.specs.declared.point.DeviceSizes.{DeviceSizes}
 use Rattle.scenario_file.specs.PlantRows.{area_of}
-use Rattle.script_grammar.specs.declared.fault.Fault.{Fault}
+use Rattle.script_grammar.specs.declared.fault.LineRefusal.{LineRefusal}
 use Rattle.script_grammar.specs.declared.frames.Allowed.TheVariants as allowed
-use Rattle.script_grammar.specs.Faults.{Answer, bad, said, both}
+use Rattle.script_grammar.specs.Faults.{Answer, bad, or_bad, said, both}
 use Rattle.script_grammar.specs.Frames.{frame_in}
 use Rattle.script_grammar.specs.Names.{Who, device_of, actor_in, intruded_in, correct_in, proxy_in, screen_in}
 use Rattle.script_grammar.specs.Numbers.{number_in, narrow_in, short_in, signed_in}
@@ -48,7 +49,8 @@ drop_in [] = Ok step.Drop
 drop_in (word ∷ more) = bad
 
 abbrev pub take_in : Who → List (List ℕ) → Answer Step
-take_in who (name ∷ frame ∷ []) = said (λ (p : ℕ × Ref). step.Take p.0 p.1) (both (actor_in who.cast name) (frame_in who.cast allowed.Any frame))
+take_in who (name ∷ frame ∷ []) =
+    said (λ (p : ℕ × Ref). step.Take p.0 p.1) (both (actor_in who.cast name) (frame_in who.cast allowed.Any frame))
 take_in who _ = bad
 
 -- a point is set to a value, or an alarm acknowledged
@@ -62,22 +64,20 @@ ack_in _ = bad
 
 abbrev pub op_in : List (List ℕ) → Answer Op
 op_in [] = bad
-op_in (what ∷ fields) = if bytes_eq what (codes "set") then set_in fields else (if bytes_eq what (codes "ack") then ack_in fields else bad)
+op_in (what ∷ fields) = if bytes_eq what (codes "set") then set_in fields else
+    (if bytes_eq what (codes "ack") then ack_in fields else bad)
 
 abbrev pub command_in : Who → List (List ℕ) → Answer Step
 command_in who [] = bad
 command_in who (name ∷ fields) = said (λ (p : ℕ × Op). step.Command p.0 p.1) (both (screen_in who name) (op_in fields))
-
-abbrev pub or_bad : {A : Type 0} → Option A → Answer A
-or_bad (Some x) = Ok x
-or_bad None = bad
 
 -- a place of an area that holds a value from now on
 abbrev pub change_of : Area × (ℕ × ℕ) → Change
 change_of p = record { area = p.0; place = p.1.0; value = p.1.1 }
 
 abbrev pub change_in : List (List ℕ) → Answer Change
-change_in (name ∷ place ∷ value ∷ []) = said change_of (both (or_bad (area_of name)) (both (short_in place) (short_in value)))
+change_in (name ∷ place ∷ value ∷ []) =
+    said change_of (both (or_bad (area_of name)) (both (short_in place) (short_in value)))
 change_in _ = bad
 
 -- how many places of an area a device has
@@ -92,7 +92,7 @@ has_place None area place = false
 has_place (Some device) area place = nat_lt place (places_of device area)
 
 -- the device behind the proxy has the place
-abbrev pub in_place : Who → Result (ℕ × Change) Fault → Answer Step
+abbrev pub in_place : Who → Result (ℕ × Change) LineRefusal → Answer Step
 in_place who (Ok p) =
     if has_place (device_of who p.0) p.1.area p.1.place
     then Ok (step.Field p.0 p.1.area p.1.place p.1.value) else bad

@@ -1,10 +1,10 @@
--- The fields of a word that an intruded master is made to say, kind by kind. (This project's own; what the kinds are for is
--- Prime's.)
-use Rattle.std.specs.Prelude.{ℕ, nat_le, ◌==◌, codes, if◌then◌else◌, List, [], ◌∷◌, length, Option, Some, None, Result, Ok, Err}
+-- The fields of a word that an intruded master is made to say, kind by kind. (This project's own; what the kinds are
+-- for is Prime's.)
+use Rattle.std.specs.Prelude.{ℕ, nat_le, ◌==◌, codes, if◌then◌else◌, List, [], ◌∷◌, length, Option, Some, None}
+use Rattle.std.specs.Prelude.{Result, Ok, Err}
 use Rattle.std.specs.List.{slice_split}
 use Rattle.std.specs.Str.{bytes_eq}
-use Rattle.hex.specs.declared.error.FromHexError.{FromHexError}
-use Rattle.hex.specs.Hex.{decode_of}
+use Rattle.message_types.specs.declared.limits.TheConstants.{MOST_LISTED}
 use Rattle.message_types.specs.declared.vouchers.NoticeKind.{NoticeKind}
 use Rattle.message_types.specs.declared.vouchers.NoticeKind.TheVariants as notice
 use Rattle.message_types.specs.declared.vouchers.Order.{Order}
@@ -15,20 +15,11 @@ use Rattle.play_words.specs.declared.words.Word.{Word}
 use Rattle.play_words.specs.declared.words.Word.TheVariants as word
 use Rattle.play_words.specs.Accepted.{are_items}
 use Rattle.scenario_file.specs.declared.actors.Cast.{Cast}
-use Rattle.script_grammar.specs.declared.fault.Fault.{Fault}
+use Rattle.script_grammar.specs.declared.fault.LineRefusal.{LineRefusal}
 use Rattle.script_grammar.specs.declared.frames.Allowed.TheVariants as allowed
 use Rattle.script_grammar.specs.Faults.{Answer, bad, said, both, each}
 use Rattle.script_grammar.specs.Frames.{frame_in, frames_in}
-use Rattle.script_grammar.specs.Numbers.{wide_in, narrow_in, short_in}
-
-abbrev pub hex_bytes : Result (List ℕ) FromHexError → Answer (List ℕ)
-hex_bytes (Ok bytes) = Ok bytes
-hex_bytes (Err e) = bad
-
--- bytes as two hex digits each; no bytes are `-`
-unfoldable pub bytes_in : List ℕ → Answer (List ℕ)
-bytes_in [] = bad
-bytes_in (c ∷ cs) = if bytes_eq (c ∷ cs) (codes "-") then Ok [] else hex_bytes (decode_of (c ∷ cs))
+use Rattle.script_grammar.specs.Numbers.{wide_in, narrow_in, short_in, bytes_in}
 
 abbrev pub raw_in : List (List ℕ) → Answer Word
 raw_in (hex ∷ []) = said word.Raw (bytes_in hex)
@@ -48,7 +39,8 @@ one_and_number_in (one ∷ n ∷ []) = both (narrow_in one) (wide_in n)
 one_and_number_in _ = bad
 
 abbrev pub request_in : Cast → List (List ℕ) → Answer Word
-request_in cast (k ∷ update ∷ []) = said (λ (p : ℕ × Ref). word.PoRequest p.0 p.1) (both (wide_in k) (frame_in cast allowed.Updates update))
+request_in cast (k ∷ update ∷ []) =
+    said (λ (p : ℕ × Ref). word.PoRequest p.0 p.1) (both (wide_in k) (frame_in cast allowed.Updates update))
 request_in cast _ = bad
 
 -- a digest is `@` and the frame that it is taken of
@@ -58,16 +50,18 @@ digest_in cast (c ∷ frame) = if c == 64 then frame_in cast allowed.Digested fr
 
 abbrev pub poack_in : Cast → List (List ℕ) → Answer Word
 poack_in cast (j ∷ k ∷ digest ∷ []) =
-    said (λ (p : ℕ × (ℕ × Ref)). word.PoAck p.0 p.1.0 p.1.1) (both (narrow_in j) (both (wide_in k) (digest_in cast digest)))
+    said (λ (p : ℕ × (ℕ × Ref)). word.PoAck p.0 p.1.0 p.1.1)
+    (both (narrow_in j) (both (wide_in k) (digest_in cast digest)))
 poack_in cast _ = bad
 
--- at most 14 numbers
+-- no more numbers than a row may have
 abbrev pub summary_in : List (List ℕ) → Answer Word
-summary_in fields = if nat_le (length fields) 14 then said word.PoSummary (each wide_in fields) else bad
+summary_in fields = if nat_le (length fields) MOST_LISTED then said word.PoSummary (each wide_in fields) else bad
 
 abbrev pub preprepare_in : Cast → List (List ℕ) → Answer Word
 preprepare_in cast (v ∷ s ∷ frames) =
-    said (λ (p : ℕ × (ℕ × List Ref)). word.PrePrepare p.0 p.1.0 p.1.1) (both (wide_in v) (both (wide_in s) (frames_in cast allowed.Summaries frames)))
+    said (λ (p : ℕ × (ℕ × List Ref)). word.PrePrepare p.0 p.1.0 p.1.1)
+    (both (wide_in v) (both (wide_in s) (frames_in cast allowed.Summaries frames)))
 preprepare_in cast _ = bad
 
 -- a view, a number and a digest
@@ -88,11 +82,11 @@ item_of _ = bad
 unfoldable pub item_in : List ℕ → Answer Item
 item_in text = item_of (slice_split (λ b. b == 58) text)
 
-abbrev pub kept_items : Result (List Item) Fault → Answer (List Item)
+abbrev pub kept_items : Result (List Item) LineRefusal → Answer (List Item)
 kept_items (Ok items) = if are_items items then Ok items else bad
 kept_items (Err e) = Err e
 
--- at most 16 certificates, whose numbers rise
+-- no more certificates than a report may have, whose numbers rise
 unfoldable pub items_in : List (List ℕ) → Answer (List Item)
 items_in texts = kept_items (each item_in texts)
 
@@ -114,7 +108,8 @@ report_in (v ∷ fields) =
 
 abbrev pub newview_in : Cast → List (List ℕ) → Answer Word
 newview_in cast [] = bad
-newview_in cast (v ∷ frames) = said (λ (p : ℕ × List Ref). word.NewView p.0 p.1) (both (wide_in v) (frames_in cast allowed.Reports frames))
+newview_in cast (v ∷ frames) = said (λ (p : ℕ × List Ref). word.NewView p.0 p.1)
+    (both (wide_in v) (frames_in cast allowed.Reports frames))
 
 abbrev pub write_in : List (List ℕ) → Answer Order
 write_in (point ∷ raw ∷ []) = said (λ (p : ℕ × ℕ). order.Write p.0 p.1) (both (narrow_in point) (short_in raw))
@@ -144,9 +139,11 @@ notice_in _ = bad
 abbrev pub order_in : List (List ℕ) → Answer Order
 order_in [] = bad
 order_in (what ∷ fields) =
-    if bytes_eq what (codes "write") then write_in fields else (if bytes_eq what (codes "notice") then notice_in fields else bad)
+    if bytes_eq what (codes "write") then write_in fields else
+    (if bytes_eq what (codes "notice") then notice_in fields else bad)
 
 abbrev pub voucher_in : List (List ℕ) → Answer Word
 voucher_in (client ∷ number ∷ fields) =
-    said (λ (p : ℕ × (ℕ × Order)). word.Voucher p.0 p.1.0 p.1.1) (both (narrow_in client) (both (wide_in number) (order_in fields)))
+    said (λ (p : ℕ × (ℕ × Order)). word.Voucher p.0 p.1.0 p.1.1)
+    (both (narrow_in client) (both (wide_in number) (order_in fields)))
 voucher_in _ = bad

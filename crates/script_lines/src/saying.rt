@@ -11,7 +11,9 @@ use crate::word::word;
 use plain_lists::{Copied, Items, Vector, Want};
 use play_words::Word;
 use scenario_file::Scenario;
-use script_grammar::{Company, Fault, Grammar, Part, ScriptRefusal, both, each, parts, read_lines};
+use script_grammar::{
+    Company, Grammar, LineRefusal, Part, ScriptRefusal, both, each, parts, read_lines,
+};
 use std::alloc::Global;
 use std::marker::Model;
 
@@ -68,7 +70,7 @@ impl Part<u32> for Actors<'_> {
 
     ghost reads = { λ part name. actor_in part.company.now.cast name };
 
-    fn read(&self, text: &str) -> Result<u32, Fault> {
+    fn read(&self, text: &str) -> Result<u32, LineRefusal> {
         self.company.actor(text)
     }
 }
@@ -101,7 +103,7 @@ fn among(company: &Company<'_>, named: &[u32]) -> Result<Vector, Want>
 
 /// Actors with commas between them.
 #[tactic(auto, unfolding(crate::specs::Sayings::addressees_in))]
-fn addressees(company: &Company<'_>, text: &str) -> Result<Vector, Fault>
+fn addressees(company: &Company<'_>, text: &str) -> Result<Vector, LineRefusal>
     ensures { Answers result (addressees_in company.now.cast text.now) }
 {
     let names = parts(company.alloc(), text, ',')?;
@@ -111,7 +113,7 @@ fn addressees(company: &Company<'_>, text: &str) -> Result<Vector, Fault>
 
 /// A master, whom it speaks to, and the word.
 #[tactic(auto, unfolding(crate::specs::Sayings::saying_in))]
-fn read_saying(company: &Company<'_>, words: &[&str]) -> Result<Saying, Fault>
+fn read_saying(company: &Company<'_>, words: &[&str]) -> Result<Saying, LineRefusal>
     ensures { Answers result (saying_in company.now (texts words.now)) }
 {
     match words {
@@ -120,7 +122,7 @@ fn read_saying(company: &Company<'_>, words: &[&str]) -> Result<Saying, Fault>
             let (speaker, (to, word)) = both(company.intruded(name), to_and_word)?;
             Ok(Saying { speaker, to, word })
         }
-        _ => Err(Fault::BadLine),
+        _ => Err(LineRefusal::BadLine),
     }
 }
 
@@ -135,7 +137,7 @@ impl Grammar<Saying> for WordLines<'_> {
 
     ghost says = { λ lines number words. saying_in lines.company words };
 
-    fn read(&self, _number: u64, words: &[&str]) -> Result<Saying, Fault> {
+    fn read(&self, _number: u64, words: &[&str]) -> Result<Saying, LineRefusal> {
         read_saying(&self.company, words)
     }
 }

@@ -8,7 +8,7 @@ ghost use Rattle.script_lines.specs.Scripts.{script_in, script_line_in};
 use crate::step::{Step, read_step};
 use plain_lists::{Copied, Items, Want};
 use scenario_file::Scenario;
-use script_grammar::{Company, Fault, Grammar, ScriptRefusal, read_lines};
+use script_grammar::{Company, Grammar, LineRefusal, ScriptRefusal, read_lines};
 use std::alloc::Global;
 use std::marker::Model;
 
@@ -20,12 +20,6 @@ const MOST_LINES: u64 = 10_000;
 pub struct Line {
     pub number: u64,
     pub step: Step,
-}
-
-impl Copied for Line {
-    fn copy(&self) -> Result<Self, Want> {
-        Ok(*self)
-    }
 }
 
 /// What is to happen in a play, line by line. Contracts see the list of the lines.
@@ -61,7 +55,7 @@ impl Grammar<Line> for ScriptLines<'_> {
     ghost says = { λ lines number words. script_line_in lines.company number words };
 
     #[tactic(auto, unfolding(crate::specs::Scripts::script_line_in))]
-    fn read(&self, number: u64, words: &[&str]) -> Result<Line, Fault> {
+    fn read(&self, number: u64, words: &[&str]) -> Result<Line, LineRefusal> {
         Ok(Line {
             number,
             step: read_step(&self.company, words)?,

@@ -1,16 +1,15 @@
 ghost use Rattle.std.specs.Prelude.{◌≡◌, Ok};
 ghost use Rattle.scenario_file.specs.PlantRows.{area_of};
-ghost use Rattle.script_grammar.specs.Faults.{Answers, said};
+ghost use Rattle.script_grammar.specs.Faults.{Answers, or_bad, said};
 ghost use Rattle.script_grammar.specs.Lines.{texts};
 ghost use Rattle.script_grammar.specs.Names.{device_of};
 ghost use Rattle.script_lines.specs.declared.step.Step.TheVariants.{Lose, Heal};
-ghost use Rattle.script_lines.specs.Steps.{times_in, ticking_in, tick_in, flow_in, one_actor_in, drop_in, take_in, set_in, ack_in, op_in, command_in, or_bad, change_in, has_place, places_of, in_place, field_in, poll_in, cry_in, restart_in, step_of, step_in};
+ghost use Rattle.script_lines.specs.Steps.{times_in, ticking_in, tick_in, flow_in, one_actor_in, drop_in, take_in, set_in, ack_in, op_in, command_in, change_in, has_place, places_of, in_place, field_in, poll_in, cry_in, restart_in, step_of, step_in};
 
 use message_types::Op;
-use plain_lists::{Copied, Want};
 use play_words::Ref;
 use point_table::{Area, DeviceSizes};
-use script_grammar::{Allowed, Company, Fault, both, narrow, number, short, signed};
+use script_grammar::{Allowed, Company, LineRefusal, both, narrow, number, short, signed};
 
 /// Who ticks: one actor, each master or each actor, in number order.
 #[derive(Clone, Copy, Debug, PartialEq, Eq)]
@@ -71,12 +70,6 @@ pub enum Step {
     },
 }
 
-impl Copied for Step {
-    fn copy(&self) -> Result<Self, Want> {
-        Ok(*self)
-    }
-}
-
 /// A place of an area that holds a value from now on.
 #[derive(Clone, Copy)]
 struct Change {
@@ -85,17 +78,17 @@ struct Change {
     value: u16,
 }
 
-fn times(fields: &[&str]) -> Result<u64, Fault>
+fn times(fields: &[&str]) -> Result<u64, LineRefusal>
     ensures { Answers result (times_in (texts fields.now)) }
 {
     match fields {
         [] => Ok(1),
         [times] => number(times, 1, 1000),
-        _ => Err(Fault::BadLine),
+        _ => Err(LineRefusal::BadLine),
     }
 }
 
-fn who_ticks(company: &Company<'_>, name: &str) -> Result<Ticking, Fault>
+fn who_ticks(company: &Company<'_>, name: &str) -> Result<Ticking, LineRefusal>
     ensures { Answers result (ticking_in company.now name.now) }
 {
     match name {
@@ -105,11 +98,11 @@ fn who_ticks(company: &Company<'_>, name: &str) -> Result<Ticking, Fault>
     }
 }
 
-fn tick(company: &Company<'_>, fields: &[&str]) -> Result<Step, Fault>
+fn tick(company: &Company<'_>, fields: &[&str]) -> Result<Step, LineRefusal>
     ensures { Answers result (tick_in company.now (texts fields.now)) }
 {
     match fields {
-        [] => Err(Fault::BadLine),
+        [] => Err(LineRefusal::BadLine),
         [name, repeats @ ..] => {
             let (who, times) = both(who_ticks(company, name), times(repeats))?;
             Ok(Step::Tick { who, times })
@@ -117,7 +110,7 @@ fn tick(company: &Company<'_>, fields: &[&str]) -> Result<Step, Fault>
     }
 }
 
-fn flow(fields: &[&str]) -> Result<Step, Fault>
+fn flow(fields: &[&str]) -> Result<Step, LineRefusal>
     ensures { Answers result (flow_in (texts fields.now)) }
 {
     Ok(Step::Flow {
@@ -125,25 +118,25 @@ fn flow(fields: &[&str]) -> Result<Step, Fault>
     })
 }
 
-fn one_actor(company: &Company<'_>, fields: &[&str]) -> Result<u32, Fault>
+fn one_actor(company: &Company<'_>, fields: &[&str]) -> Result<u32, LineRefusal>
     ensures { Answers result (one_actor_in company.now (texts fields.now)) }
 {
     match fields {
         [name] => company.actor(name),
-        _ => Err(Fault::BadLine),
+        _ => Err(LineRefusal::BadLine),
     }
 }
 
-fn drop_all(fields: &[&str]) -> Result<Step, Fault>
+fn drop_all(fields: &[&str]) -> Result<Step, LineRefusal>
     ensures { Answers result (drop_in (texts fields.now)) }
 {
     match fields {
         [] => Ok(Step::Drop),
-        _ => Err(Fault::BadLine),
+        _ => Err(LineRefusal::BadLine),
     }
 }
 
-fn take(company: &Company<'_>, fields: &[&str]) -> Result<Step, Fault>
+fn take(company: &Company<'_>, fields: &[&str]) -> Result<Step, LineRefusal>
     ensures { Answers result (take_in company.now (texts fields.now)) }
 {
     match fields {
@@ -151,11 +144,11 @@ fn take(company: &Company<'_>, fields: &[&str]) -> Result<Step, Fault>
             let (actor, frame) = both(company.actor(name), company.frame(Allowed::Any, frame))?;
             Ok(Step::Take { actor, frame })
         }
-        _ => Err(Fault::BadLine),
+        _ => Err(LineRefusal::BadLine),
     }
 }
 
-fn set(fields: &[&str]) -> Result<Op, Fault>
+fn set(fields: &[&str]) -> Result<Op, LineRefusal>
     ensures { Answers result (set_in (texts fields.now)) }
 {
     match fields {
@@ -163,43 +156,43 @@ fn set(fields: &[&str]) -> Result<Op, Fault>
             let (point, value) = both(narrow(point), signed(value))?;
             Ok(Op::Set { point, value })
         }
-        _ => Err(Fault::BadLine),
+        _ => Err(LineRefusal::BadLine),
     }
 }
 
-fn ack(fields: &[&str]) -> Result<Op, Fault>
+fn ack(fields: &[&str]) -> Result<Op, LineRefusal>
     ensures { Answers result (ack_in (texts fields.now)) }
 {
     match fields {
         [alarm] => Ok(Op::Ack {
             alarm: narrow(alarm)?,
         }),
-        _ => Err(Fault::BadLine),
+        _ => Err(LineRefusal::BadLine),
     }
 }
 
-fn op(fields: &[&str]) -> Result<Op, Fault>
+fn op(fields: &[&str]) -> Result<Op, LineRefusal>
     ensures { Answers result (op_in (texts fields.now)) }
 {
     match fields {
-        [] => Err(Fault::BadLine),
+        [] => Err(LineRefusal::BadLine),
         [what, rest @ ..] => {
             if *what == "set" {
                 set(rest)
             } else if *what == "ack" {
                 ack(rest)
             } else {
-                Err(Fault::BadLine)
+                Err(LineRefusal::BadLine)
             }
         }
     }
 }
 
-fn command(company: &Company<'_>, fields: &[&str]) -> Result<Step, Fault>
+fn command(company: &Company<'_>, fields: &[&str]) -> Result<Step, LineRefusal>
     ensures { Answers result (command_in company.now (texts fields.now)) }
 {
     match fields {
-        [] => Err(Fault::BadLine),
+        [] => Err(LineRefusal::BadLine),
         [name, rest @ ..] => {
             let (screen, op) = both(company.screen(name), op(rest))?;
             Ok(Step::Command { screen, op })
@@ -207,7 +200,7 @@ fn command(company: &Company<'_>, fields: &[&str]) -> Result<Step, Fault>
     }
 }
 
-fn area(name: &str) -> Result<Area, Fault>
+fn area(name: &str) -> Result<Area, LineRefusal>
     ensures { Answers result (or_bad (area_of name.now)) }
 {
     match name {
@@ -215,11 +208,11 @@ fn area(name: &str) -> Result<Area, Fault>
         "discrete" => Ok(Area::Discrete),
         "holding" => Ok(Area::Holding),
         "input" => Ok(Area::Input),
-        _ => Err(Fault::BadLine),
+        _ => Err(LineRefusal::BadLine),
     }
 }
 
-fn read_change(fields: &[&str]) -> Result<Change, Fault>
+fn read_change(fields: &[&str]) -> Result<Change, LineRefusal>
     ensures { Answers result (change_in (texts fields.now)) }
 {
     match fields {
@@ -228,7 +221,7 @@ fn read_change(fields: &[&str]) -> Result<Change, Fault>
             let (area, (place, value)) = both(area(name), place_and_value)?;
             Ok(Change { area, place, value })
         }
-        _ => Err(Fault::BadLine),
+        _ => Err(LineRefusal::BadLine),
     }
 }
 
@@ -253,11 +246,11 @@ fn has_place(company: &Company<'_>, proxy: u32, change: Change) -> bool
     }
 }
 
-fn field(company: &Company<'_>, fields: &[&str]) -> Result<Step, Fault>
+fn field(company: &Company<'_>, fields: &[&str]) -> Result<Step, LineRefusal>
     ensures { Answers result (field_in company.now (texts fields.now)) }
 {
     match fields {
-        [] => Err(Fault::BadLine),
+        [] => Err(LineRefusal::BadLine),
         [name, rest @ ..] => {
             let (proxy, change) = both(company.proxy(name), read_change(rest))?;
             in_place(company, proxy, change)
@@ -265,7 +258,7 @@ fn field(company: &Company<'_>, fields: &[&str]) -> Result<Step, Fault>
     }
 }
 
-fn in_place(company: &Company<'_>, proxy: u32, change: Change) -> Result<Step, Fault>
+fn in_place(company: &Company<'_>, proxy: u32, change: Change) -> Result<Step, LineRefusal>
     ensures { Answers result (in_place company.now (Ok (proxy, change))) }
 {
     if has_place(company, proxy, change) {
@@ -276,26 +269,26 @@ fn in_place(company: &Company<'_>, proxy: u32, change: Change) -> Result<Step, F
             value: change.value,
         })
     } else {
-        Err(Fault::BadLine)
+        Err(LineRefusal::BadLine)
     }
 }
 
-fn poll(company: &Company<'_>, fields: &[&str]) -> Result<Step, Fault>
+fn poll(company: &Company<'_>, fields: &[&str]) -> Result<Step, LineRefusal>
     ensures { Answers result (poll_in company.now (texts fields.now)) }
 {
     match fields {
         [name] => Ok(Step::Poll {
             proxy: company.proxy(name)?,
         }),
-        _ => Err(Fault::BadLine),
+        _ => Err(LineRefusal::BadLine),
     }
 }
 
-fn cry(company: &Company<'_>, fields: &[&str]) -> Result<Step, Fault>
+fn cry(company: &Company<'_>, fields: &[&str]) -> Result<Step, LineRefusal>
     ensures { Answers result (cry_in company.now (texts fields.now)) }
 {
     match fields {
-        [] => Err(Fault::BadLine),
+        [] => Err(LineRefusal::BadLine),
         [name, repeats @ ..] => {
             let (master, times) = both(company.intruded(name), times(repeats))?;
             Ok(Step::Cry { master, times })
@@ -303,18 +296,18 @@ fn cry(company: &Company<'_>, fields: &[&str]) -> Result<Step, Fault>
     }
 }
 
-fn restart(company: &Company<'_>, fields: &[&str]) -> Result<Step, Fault>
+fn restart(company: &Company<'_>, fields: &[&str]) -> Result<Step, LineRefusal>
     ensures { Answers result (restart_in company.now (texts fields.now)) }
 {
     match fields {
         [name] => Ok(Step::Restart {
             actor: company.correct(name)?,
         }),
-        _ => Err(Fault::BadLine),
+        _ => Err(LineRefusal::BadLine),
     }
 }
 
-fn lose(company: &Company<'_>, fields: &[&str]) -> Result<Step, Fault>
+fn lose(company: &Company<'_>, fields: &[&str]) -> Result<Step, LineRefusal>
     ensures { Answers result (said Lose (one_actor_in company.now (texts fields.now))) }
 {
     Ok(Step::Lose {
@@ -322,7 +315,7 @@ fn lose(company: &Company<'_>, fields: &[&str]) -> Result<Step, Fault>
     })
 }
 
-fn heal(company: &Company<'_>, fields: &[&str]) -> Result<Step, Fault>
+fn heal(company: &Company<'_>, fields: &[&str]) -> Result<Step, LineRefusal>
     ensures { Answers result (said Heal (one_actor_in company.now (texts fields.now))) }
 {
     Ok(Step::Heal {
@@ -331,7 +324,7 @@ fn heal(company: &Company<'_>, fields: &[&str]) -> Result<Step, Fault>
 }
 
 /// What a line says, by its first word.
-fn step_of(company: &Company<'_>, what: &str, fields: &[&str]) -> Result<Step, Fault>
+fn step_of(company: &Company<'_>, what: &str, fields: &[&str]) -> Result<Step, LineRefusal>
     ensures { Answers result (step_of company.now what.now (texts fields.now)) }
 {
     match what {
@@ -346,17 +339,17 @@ fn step_of(company: &Company<'_>, what: &str, fields: &[&str]) -> Result<Step, F
         "poll" => poll(company, fields),
         "cry" => cry(company, fields),
         "restart" => restart(company, fields),
-        _ => Err(Fault::BadLine),
+        _ => Err(LineRefusal::BadLine),
     }
 }
 
 /// What the words of a line of a script say.
 #[tactic(auto, unfolding(crate::specs::Steps::step_in))]
-pub fn read_step(company: &Company<'_>, words: &[&str]) -> Result<Step, Fault>
+pub fn read_step(company: &Company<'_>, words: &[&str]) -> Result<Step, LineRefusal>
     ensures { Answers result (step_in company.now (texts words.now)) }
 {
     match words {
-        [] => Err(Fault::BadLine),
+        [] => Err(LineRefusal::BadLine),
         [what, fields @ ..] => step_of(company, what, fields),
     }
 }

@@ -11,23 +11,23 @@ use crate::word_fields::{
     two_numbers, vote, voucher,
 };
 use play_words::Word;
-use script_grammar::{Company, Fault, Kind};
+use script_grammar::{Company, Kind, LineRefusal};
 
-fn prepare(company: &Company<'_>, fields: &[&str]) -> Result<Word, Fault>
+fn prepare(company: &Company<'_>, fields: &[&str]) -> Result<Word, LineRefusal>
     ensures { Answers result (said (λ (p : ℕ × (ℕ × Ref)). word.Prepare p.0 p.1.0 p.1.1) (vote_in company.now.cast (texts fields.now))) }
 {
     let (v, (s, digest)) = vote(company, fields)?;
     Ok(Word::Prepare { v, s, digest })
 }
 
-fn commit(company: &Company<'_>, fields: &[&str]) -> Result<Word, Fault>
+fn commit(company: &Company<'_>, fields: &[&str]) -> Result<Word, LineRefusal>
     ensures { Answers result (said (λ (p : ℕ × (ℕ × Ref)). word.Commit p.0 p.1.0 p.1.1) (vote_in company.now.cast (texts fields.now))) }
 {
     let (v, (s, digest)) = vote(company, fields)?;
     Ok(Word::Commit { v, s, digest })
 }
 
-fn ping(fields: &[&str]) -> Result<Word, Fault>
+fn ping(fields: &[&str]) -> Result<Word, LineRefusal>
     ensures { Answers result (said word.Ping (number_in (texts fields.now))) }
 {
     Ok(Word::Ping {
@@ -35,7 +35,7 @@ fn ping(fields: &[&str]) -> Result<Word, Fault>
     })
 }
 
-fn suspect(fields: &[&str]) -> Result<Word, Fault>
+fn suspect(fields: &[&str]) -> Result<Word, LineRefusal>
     ensures { Answers result (said word.Suspect (number_in (texts fields.now))) }
 {
     Ok(Word::Suspect {
@@ -43,7 +43,7 @@ fn suspect(fields: &[&str]) -> Result<Word, Fault>
     })
 }
 
-fn askorder(fields: &[&str]) -> Result<Word, Fault>
+fn askorder(fields: &[&str]) -> Result<Word, LineRefusal>
     ensures { Answers result (said word.AskOrder (number_in (texts fields.now))) }
 {
     Ok(Word::AskOrder {
@@ -51,7 +51,7 @@ fn askorder(fields: &[&str]) -> Result<Word, Fault>
     })
 }
 
-fn giveordered(fields: &[&str]) -> Result<Word, Fault>
+fn giveordered(fields: &[&str]) -> Result<Word, LineRefusal>
     ensures { Answers result (said word.GiveOrdered (number_in (texts fields.now))) }
 {
     Ok(Word::GiveOrdered {
@@ -59,7 +59,7 @@ fn giveordered(fields: &[&str]) -> Result<Word, Fault>
     })
 }
 
-fn mark(fields: &[&str]) -> Result<Word, Fault>
+fn mark(fields: &[&str]) -> Result<Word, LineRefusal>
     ensures { Answers result (said word.Mark (number_in (texts fields.now))) }
 {
     Ok(Word::Mark {
@@ -67,35 +67,35 @@ fn mark(fields: &[&str]) -> Result<Word, Fault>
     })
 }
 
-fn pong(fields: &[&str]) -> Result<Word, Fault>
+fn pong(fields: &[&str]) -> Result<Word, LineRefusal>
     ensures { Answers result (said (λ (p : ℕ × ℕ). word.Pong p.0 p.1) (one_and_number_in (texts fields.now))) }
 {
     let (to, number) = one_and_number(fields)?;
     Ok(Word::Pong { to, number })
 }
 
-fn askupdate(fields: &[&str]) -> Result<Word, Fault>
+fn askupdate(fields: &[&str]) -> Result<Word, LineRefusal>
     ensures { Answers result (said (λ (p : ℕ × ℕ). word.AskUpdate p.0 p.1) (one_and_number_in (texts fields.now))) }
 {
     let (j, k) = one_and_number(fields)?;
     Ok(Word::AskUpdate { j, k })
 }
 
-fn give(fields: &[&str]) -> Result<Word, Fault>
+fn give(fields: &[&str]) -> Result<Word, LineRefusal>
     ensures { Answers result (said (λ (p : ℕ × ℕ). word.Give p.0 p.1) (one_and_number_in (texts fields.now))) }
 {
     let (j, k) = one_and_number(fields)?;
     Ok(Word::Give { j, k })
 }
 
-fn tatreport(fields: &[&str]) -> Result<Word, Fault>
+fn tatreport(fields: &[&str]) -> Result<Word, LineRefusal>
     ensures { Answers result (said (λ (p : ℕ × ℕ). word.TatReport p.0 p.1) (numbers_in (texts fields.now))) }
 {
     let (v, ticks) = two_numbers(fields)?;
     Ok(Word::TatReport { v, ticks })
 }
 
-fn tatbound(fields: &[&str]) -> Result<Word, Fault>
+fn tatbound(fields: &[&str]) -> Result<Word, LineRefusal>
     ensures { Answers result (said (λ (p : ℕ × ℕ). word.TatBound p.0 p.1) (numbers_in (texts fields.now))) }
 {
     let (v, ticks) = two_numbers(fields)?;
@@ -104,11 +104,11 @@ fn tatbound(fields: &[&str]) -> Result<Word, Fault>
 
 /// The word of a kind that has these fields. An update can't be spoken.
 #[tactic(auto, unfolding(crate::specs::Sayings::fields_in))]
-fn word_of(company: &Company<'_>, kind: Kind, fields: &[&str]) -> Result<Word, Fault>
+fn word_of(company: &Company<'_>, kind: Kind, fields: &[&str]) -> Result<Word, LineRefusal>
     ensures { Answers result (fields_in company.now.cast kind (texts fields.now)) }
 {
     match kind {
-        Kind::Update => Err(Fault::BadLine),
+        Kind::Update => Err(LineRefusal::BadLine),
         Kind::PoRequest => request(company, fields),
         Kind::PoAck => poack(company, fields),
         Kind::PoSummary => summary(company.alloc(), fields),
@@ -134,18 +134,18 @@ fn word_of(company: &Company<'_>, kind: Kind, fields: &[&str]) -> Result<Word, F
 
 /// Raw bytes, or a kind's name with its fields.
 #[tactic(auto, unfolding(crate::specs::Sayings::word_in))]
-pub fn word(company: &Company<'_>, words: &[&str]) -> Result<Word, Fault>
+pub fn word(company: &Company<'_>, words: &[&str]) -> Result<Word, LineRefusal>
     ensures { Answers result (word_in company.now.cast (texts words.now)) }
 {
     match words {
-        [] => Err(Fault::BadLine),
+        [] => Err(LineRefusal::BadLine),
         [name, fields @ ..] => {
             if *name == "raw" {
                 return raw(company.alloc(), fields);
             }
             match Kind::named(name) {
                 Some(kind) => word_of(company, kind, fields),
-                None => Err(Fault::BadLine),
+                None => Err(LineRefusal::BadLine),
             }
         }
     }

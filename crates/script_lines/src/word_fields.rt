@@ -3,19 +3,21 @@ ghost use Rattle.message_types.specs.Spelling.{is_rising};
 ghost use Rattle.script_grammar.specs.Faults.{Answers, said};
 ghost use Rattle.script_grammar.specs.Lines.{texts};
 ghost use Rattle.script_grammar.specs.Numbers.{wide_in};
-ghost use Rattle.script_lines.specs.WordFields.{bytes_in, raw_in, number_in, numbers_in, one_and_number_in, request_in, digest_in, poack_in, summary_in, preprepare_in, vote_in, rtt_in, item_of, item_in, items_in, without_base, base_and_items_in, report_in, newview_in, write_in, notice_kind_in, notice_in, order_in, voucher_in};
+ghost use Rattle.script_lines.specs.WordFields.{raw_in, number_in, numbers_in, one_and_number_in, request_in, digest_in, poack_in, summary_in, preprepare_in, vote_in, rtt_in, item_of, item_in, items_in, without_base, base_and_items_in, report_in, newview_in, write_in, notice_kind_in, notice_in, order_in, voucher_in};
 
-use message_types::{Notice, NoticeKind, Order};
-use plain_lists::{Bytes, Items};
+use message_types::{MOST_CERTIFICATES, MOST_LISTED, Notice, NoticeKind, Order};
+use plain_lists::Items;
 use play_words::{Item, Ref, Word};
-use script_grammar::{Allowed, Company, Fault, Part, both, each, narrow, parts, short, wide};
+use script_grammar::{
+    Allowed, Company, LineRefusal, Part, both, bytes, each, narrow, parts, short, wide,
+};
 use std::alloc::Global;
 
 /// The most numbers that a summary may have.
-const MOST_NUMBERS: usize = 14;
+const MOST_NUMBERS: usize = MOST_LISTED as usize;
 
 /// The most certificates that a report may have.
-const MOST_ITEMS: usize = 16;
+const MOST_ITEMS: usize = MOST_CERTIFICATES as usize;
 
 /// Numbers of 64 bits.
 #[derive(Drop)]
@@ -26,30 +28,30 @@ impl Part<u64> for WideNumbers {
 
     ghost reads = { λ part text. wide_in text };
 
-    fn read(&self, text: &str) -> Result<u64, Fault> {
+    fn read(&self, text: &str) -> Result<u64, LineRefusal> {
         wide(text)
     }
 }
 
 /// Certificates of a report.
 #[derive(Drop)]
-struct Certificates {
+struct CertificateNames {
     alloc: Global,
 }
 
-impl Part<Item> for Certificates {
+impl Part<Item> for CertificateNames {
     ghost use Rattle.script_lines.specs.WordFields.{item_in};
 
     ghost reads = { λ part text. item_in text };
 
     #[tactic(auto, unfolding(crate::specs::WordFields::item_in))]
-    fn read(&self, text: &str) -> Result<Item, Fault> {
+    fn read(&self, text: &str) -> Result<Item, LineRefusal> {
         let numbers = parts(self.alloc, text, ':')?;
         item_of(numbers.as_slice())
     }
 }
 
-fn item_of(numbers: &[&str]) -> Result<Item, Fault>
+fn item_of(numbers: &[&str]) -> Result<Item, LineRefusal>
     ensures { Answers result (item_of (texts numbers.now)) }
 {
     match numbers {
@@ -57,70 +59,52 @@ fn item_of(numbers: &[&str]) -> Result<Item, Fault>
             let (s, v) = both(wide(s), wide(v))?;
             Ok(Item { s, v })
         }
-        _ => Err(Fault::BadLine),
+        _ => Err(LineRefusal::BadLine),
     }
 }
 
-/// Bytes as two hex digits each; no bytes are `-`.
-#[tactic(auto, unfolding(crate::specs::WordFields::bytes_in))]
-fn bytes(alloc: Global, text: &str) -> Result<Bytes, Fault>
-    ensures { Answers result (bytes_in text.now) }
-{
-    if text.is_empty() {
-        return Err(Fault::BadLine);
-    }
-    if text == "-" {
-        return Ok(Bytes::from_vec(alloc, Vec::new(alloc))?);
-    }
-    match hex::decode(alloc, text) {
-        Ok(bytes) => Ok(Bytes::from_vec(alloc, bytes)?),
-        Err(hex::FromHexError::OutOfMemory) => Err(Fault::Want),
-        Err(_) => Err(Fault::BadLine),
-    }
-}
-
-pub fn raw(alloc: Global, fields: &[&str]) -> Result<Word, Fault>
+pub fn raw(alloc: Global, fields: &[&str]) -> Result<Word, LineRefusal>
     ensures { Answers result (raw_in (texts fields.now)) }
 {
     match fields {
         [hex] => Ok(Word::Raw {
             bytes: bytes(alloc, hex)?,
         }),
-        _ => Err(Fault::BadLine),
+        _ => Err(LineRefusal::BadLine),
     }
 }
 
 /// One number.
-pub fn one_number(fields: &[&str]) -> Result<u64, Fault>
+pub fn one_number(fields: &[&str]) -> Result<u64, LineRefusal>
     ensures { Answers result (number_in (texts fields.now)) }
 {
     match fields {
         [number] => wide(number),
-        _ => Err(Fault::BadLine),
+        _ => Err(LineRefusal::BadLine),
     }
 }
 
 /// Two numbers.
-pub fn two_numbers(fields: &[&str]) -> Result<(u64, u64), Fault>
+pub fn two_numbers(fields: &[&str]) -> Result<(u64, u64), LineRefusal>
     ensures { Answers result (numbers_in (texts fields.now)) }
 {
     match fields {
         [first, second] => both(wide(first), wide(second)),
-        _ => Err(Fault::BadLine),
+        _ => Err(LineRefusal::BadLine),
     }
 }
 
 /// The number of an actor or a client, and another number.
-pub fn one_and_number(fields: &[&str]) -> Result<(u32, u64), Fault>
+pub fn one_and_number(fields: &[&str]) -> Result<(u32, u64), LineRefusal>
     ensures { Answers result (one_and_number_in (texts fields.now)) }
 {
     match fields {
         [one, number] => both(narrow(one), wide(number)),
-        _ => Err(Fault::BadLine),
+        _ => Err(LineRefusal::BadLine),
     }
 }
 
-pub fn request(company: &Company<'_>, fields: &[&str]) -> Result<Word, Fault>
+pub fn request(company: &Company<'_>, fields: &[&str]) -> Result<Word, LineRefusal>
     ensures { Answers result (request_in company.now.cast (texts fields.now)) }
 {
     match fields {
@@ -128,22 +112,22 @@ pub fn request(company: &Company<'_>, fields: &[&str]) -> Result<Word, Fault>
             let (k, update) = both(wide(k), company.frame(Allowed::Updates, update))?;
             Ok(Word::PoRequest { k, update })
         }
-        _ => Err(Fault::BadLine),
+        _ => Err(LineRefusal::BadLine),
     }
 }
 
 /// A digest is `@` and the frame that it is taken of.
 #[tactic(auto, unfolding(crate::specs::WordFields::digest_in))]
-fn digest(company: &Company<'_>, text: &str) -> Result<Ref, Fault>
+fn digest(company: &Company<'_>, text: &str) -> Result<Ref, LineRefusal>
     ensures { Answers result (digest_in company.now.cast text.now) }
 {
     match text.strip_prefix('@') {
         Some(frame) => company.frame(Allowed::Digested, frame),
-        None => Err(Fault::BadLine),
+        None => Err(LineRefusal::BadLine),
     }
 }
 
-pub fn poack(company: &Company<'_>, fields: &[&str]) -> Result<Word, Fault>
+pub fn poack(company: &Company<'_>, fields: &[&str]) -> Result<Word, LineRefusal>
     ensures { Answers result (poack_in company.now.cast (texts fields.now)) }
 {
     match fields {
@@ -152,22 +136,22 @@ pub fn poack(company: &Company<'_>, fields: &[&str]) -> Result<Word, Fault>
             let (j, (k, digest)) = both(narrow(j), k_and_digest)?;
             Ok(Word::PoAck { j, k, digest })
         }
-        _ => Err(Fault::BadLine),
+        _ => Err(LineRefusal::BadLine),
     }
 }
 
-pub fn summary(alloc: Global, fields: &[&str]) -> Result<Word, Fault>
+pub fn summary(alloc: Global, fields: &[&str]) -> Result<Word, LineRefusal>
     ensures { Answers result (summary_in (texts fields.now)) }
 {
     if fields.len() > MOST_NUMBERS {
-        return Err(Fault::BadLine);
+        return Err(LineRefusal::BadLine);
     }
     Ok(Word::PoSummary {
         numbers: each(alloc, &WideNumbers, fields)?,
     })
 }
 
-pub fn preprepare(company: &Company<'_>, fields: &[&str]) -> Result<Word, Fault>
+pub fn preprepare(company: &Company<'_>, fields: &[&str]) -> Result<Word, LineRefusal>
     ensures { Answers result (preprepare_in company.now.cast (texts fields.now)) }
 {
     match fields {
@@ -176,12 +160,12 @@ pub fn preprepare(company: &Company<'_>, fields: &[&str]) -> Result<Word, Fault>
             let (v, (s, frames)) = both(wide(v), s_and_frames)?;
             Ok(Word::PrePrepare { v, s, frames })
         }
-        _ => Err(Fault::BadLine),
+        _ => Err(LineRefusal::BadLine),
     }
 }
 
 /// A view, a number and a digest.
-pub fn vote(company: &Company<'_>, fields: &[&str]) -> Result<(u64, (u64, Ref)), Fault>
+pub fn vote(company: &Company<'_>, fields: &[&str]) -> Result<(u64, (u64, Ref)), LineRefusal>
     ensures { Answers result (vote_in company.now.cast (texts fields.now)) }
 {
     match fields {
@@ -189,11 +173,11 @@ pub fn vote(company: &Company<'_>, fields: &[&str]) -> Result<(u64, (u64, Ref)),
             let s_and_digest = both(wide(s), digest(company, digest_text));
             both(wide(v), s_and_digest)
         }
-        _ => Err(Fault::BadLine),
+        _ => Err(LineRefusal::BadLine),
     }
 }
 
-pub fn rtt(fields: &[&str]) -> Result<Word, Fault>
+pub fn rtt(fields: &[&str]) -> Result<Word, LineRefusal>
     ensures { Answers result (rtt_in (texts fields.now)) }
 {
     match fields {
@@ -202,7 +186,7 @@ pub fn rtt(fields: &[&str]) -> Result<Word, Fault>
             let (to, (number, ticks)) = both(narrow(to), number_and_ticks)?;
             Ok(Word::Rtt { to, number, ticks })
         }
-        _ => Err(Fault::BadLine),
+        _ => Err(LineRefusal::BadLine),
     }
 }
 
@@ -217,31 +201,31 @@ fn numbers_rise(items: &[Item]) -> bool
 
 /// At most 16 certificates, whose numbers rise.
 #[tactic(auto, unfolding(crate::specs::WordFields::items_in))]
-fn items(alloc: Global, fields: &[&str]) -> Result<Items<Item>, Fault>
+fn items(alloc: Global, fields: &[&str]) -> Result<Items<Item>, LineRefusal>
     ensures { Answers result (items_in (texts fields.now)) }
 {
-    let items = each(alloc, &Certificates { alloc }, fields)?;
+    let items = each(alloc, &CertificateNames { alloc }, fields)?;
     if items.len() <= MOST_ITEMS && numbers_rise(items.as_slice()) {
         Ok(items)
     } else {
-        Err(Fault::BadLine)
+        Err(LineRefusal::BadLine)
     }
 }
 
-fn items_alone(alloc: Global, fields: &[&str]) -> Result<(Option<u64>, Items<Item>), Fault>
+fn items_alone(alloc: Global, fields: &[&str]) -> Result<(Option<u64>, Items<Item>), LineRefusal>
     ensures { Answers result (said without_base (items_in (texts fields.now))) }
 {
     Ok((None, items(alloc, fields)?))
 }
 
-fn based(base: &str) -> Result<Option<u64>, Fault>
+fn based(base: &str) -> Result<Option<u64>, LineRefusal>
     ensures { Answers result (said Some (wide_in base.now)) }
 {
     Ok(Some(wide(base)?))
 }
 
 /// The certificates of a report, with the number from which it goes on before them or not.
-fn base_and_items(alloc: Global, fields: &[&str]) -> Result<(Option<u64>, Items<Item>), Fault>
+fn base_and_items(alloc: Global, fields: &[&str]) -> Result<(Option<u64>, Items<Item>), LineRefusal>
     ensures { Answers result (base_and_items_in (texts fields.now)) }
 {
     match fields {
@@ -250,11 +234,11 @@ fn base_and_items(alloc: Global, fields: &[&str]) -> Result<(Option<u64>, Items<
     }
 }
 
-pub fn report(alloc: Global, fields: &[&str]) -> Result<Word, Fault>
+pub fn report(alloc: Global, fields: &[&str]) -> Result<Word, LineRefusal>
     ensures { Answers result (report_in (texts fields.now)) }
 {
     match fields {
-        [] => Err(Fault::BadLine),
+        [] => Err(LineRefusal::BadLine),
         [v, rest @ ..] => {
             let (v, (base, items)) = both(wide(v), base_and_items(alloc, rest))?;
             Ok(Word::Report { v, base, items })
@@ -262,11 +246,11 @@ pub fn report(alloc: Global, fields: &[&str]) -> Result<Word, Fault>
     }
 }
 
-pub fn newview(company: &Company<'_>, fields: &[&str]) -> Result<Word, Fault>
+pub fn newview(company: &Company<'_>, fields: &[&str]) -> Result<Word, LineRefusal>
     ensures { Answers result (newview_in company.now.cast (texts fields.now)) }
 {
     match fields {
-        [] => Err(Fault::BadLine),
+        [] => Err(LineRefusal::BadLine),
         [v, frames @ ..] => {
             let (v, reports) = both(wide(v), company.frames(Allowed::Reports, frames))?;
             Ok(Word::NewView { v, reports })
@@ -274,7 +258,7 @@ pub fn newview(company: &Company<'_>, fields: &[&str]) -> Result<Word, Fault>
     }
 }
 
-fn write(fields: &[&str]) -> Result<Order, Fault>
+fn write(fields: &[&str]) -> Result<Order, LineRefusal>
     ensures { Answers result (write_in (texts fields.now)) }
 {
     match fields {
@@ -282,12 +266,12 @@ fn write(fields: &[&str]) -> Result<Order, Fault>
             let (point, raw) = both(narrow(point), short(raw))?;
             Ok(Order::Write { point, raw })
         }
-        _ => Err(Fault::BadLine),
+        _ => Err(LineRefusal::BadLine),
     }
 }
 
 /// What a notice tells, by its number.
-fn notice_kind(what: &str) -> Result<NoticeKind, Fault>
+fn notice_kind(what: &str) -> Result<NoticeKind, LineRefusal>
     ensures { result ≡ notice_kind_in what.now }
 {
     match what {
@@ -300,11 +284,11 @@ fn notice_kind(what: &str) -> Result<NoticeKind, Fault>
         "7" => Ok(NoticeKind::Raised),
         "8" => Ok(NoticeKind::Cleared),
         "9" => Ok(NoticeKind::WrongPart),
-        _ => Err(Fault::BadLine),
+        _ => Err(LineRefusal::BadLine),
     }
 }
 
-fn notice(fields: &[&str]) -> Result<Order, Fault>
+fn notice(fields: &[&str]) -> Result<Order, LineRefusal>
     ensures { Answers result (notice_in (texts fields.now)) }
 {
     match fields {
@@ -313,28 +297,28 @@ fn notice(fields: &[&str]) -> Result<Order, Fault>
             let (what, (t, number)) = both(notice_kind(what), t_and_number)?;
             Ok(Order::Notice(Notice { what, t, number }))
         }
-        _ => Err(Fault::BadLine),
+        _ => Err(LineRefusal::BadLine),
     }
 }
 
-fn order(fields: &[&str]) -> Result<Order, Fault>
+fn order(fields: &[&str]) -> Result<Order, LineRefusal>
     ensures { Answers result (order_in (texts fields.now)) }
 {
     match fields {
-        [] => Err(Fault::BadLine),
+        [] => Err(LineRefusal::BadLine),
         [what, rest @ ..] => {
             if *what == "write" {
                 write(rest)
             } else if *what == "notice" {
                 notice(rest)
             } else {
-                Err(Fault::BadLine)
+                Err(LineRefusal::BadLine)
             }
         }
     }
 }
 
-pub fn voucher(fields: &[&str]) -> Result<Word, Fault>
+pub fn voucher(fields: &[&str]) -> Result<Word, LineRefusal>
     ensures { Answers result (voucher_in (texts fields.now)) }
 {
     match fields {
@@ -347,6 +331,6 @@ pub fn voucher(fields: &[&str]) -> Result<Word, Fault>
                 order,
             })
         }
-        _ => Err(Fault::BadLine),
+        _ => Err(LineRefusal::BadLine),
     }
 }

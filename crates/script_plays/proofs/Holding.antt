@@ -1,5 +1,6 @@
 -- What an actor's frame is held as.
-use Rattle.std.proofs.Common.{◌≡◌, ℕ, ◌^◌, ◌<◌, Bool, true, false, cond, ◌&&◌, List, [], ◌∷◌, Option, Some, None, Result, Ok, Err, nat_lt, refl, sym, ◌∙◌, ap, subst, arith}
+use Rattle.std.proofs.Common.{◌≡◌, ℕ, ◌^◌, ◌<◌, Bool, true, false, cond, ◌&&◌, List, [], ◌∷◌, Option, Some, None}
+use Rattle.std.proofs.Common.{Result, Ok, Err, nat_lt, refl, sym, ◌∙◌, ap, subst, arith}
 use Rattle.std.specs.Prelude.{IsTrue}
 use Rattle.std.proofs.lemmas.Bool.{lt-ltb, le-ltb, false≢true, false_from_ne_true}
 use Rattle.message_types.specs.declared.signed.Signed.{Signed}
@@ -12,7 +13,7 @@ use Rattle.checked_frames.proofs.StandingLaws.{stands_faultless}
 use Rattle.scenario_file.specs.Reading.{Contents, contents}
 use Rattle.scenario_file.specs.declared.scenario.Scenario.{Scenario}
 use Rattle.protocol_rules.specs.Group.{group_of}
-use Rattle.intruder_words.specs.Naming.{kind_number}
+use Rattle.message_types.specs.Kinds.{kind_number}
 use Rattle.world_rules.proofs.Fields.{group_is}
 use Rattle.script_plays.specs.declared.mail.Post.{Post}
 use Rattle.history_rules.specs.Setup.{Setup, stands}
@@ -26,24 +27,30 @@ use Rattle.script_plays.specs.Posting.{is_want}
 made : Bool → Bool → ℕ → ℕ → Signed Body → Option Held
 made here well stamp place f = cond (here && well) (Some (record { stamp = stamp; place = place; frame = f })) None
 
-pub held_some : (w : Setup) (stamp place p : ℕ) (f x : Signed Body) → p ≡ place → place < 2 ^ 32 → x ≡ f → stands w f ≡ true
+pub held_some : (w : Setup) (stamp place p : ℕ) (f x : Signed Body) → p ≡ place → place < 2 ^ 32 →
+    x ≡ f → stands w f ≡ true
     → ◌≡◌ {A = Option Held} (Some (record { stamp = stamp; place = p; frame = x })) (held_at w stamp place f)
 unfolding held_at made
 held_some w stamp place p f x same below frame stand =
     ap (λ (n : ℕ). Some (record { stamp = stamp; place = n; frame = x })) same
     ∙ ap (λ (y : Signed Body). Some (record { stamp = stamp; place = place; frame = y })) frame
-    ∙ sym (ap (λ b. made b (stands w f) stamp place f) (lt-ltb place (2 ^ 32) below) ∙ ap (λ b. made true b stamp place f) stand)
+    ∙ sym (ap (λ b. made b (stands w f) stamp place f) (lt-ltb place (2 ^ 32) below)
+    ∙ ap (λ b. made true b stamp place f) stand)
 
-pub held_none : (w : Setup) (stamp place : ℕ) (f : Signed Body) → (place < 2 ^ 32 → ⊥) → ◌≡◌ {A = Option Held} None (held_at w stamp place f)
+pub held_none : (w : Setup) (stamp place : ℕ) (f : Signed Body) → (place < 2 ^ 32 → ⊥) →
+    ◌≡◌ {A = Option Held} None (held_at w stamp place f)
 unfolding held_at made
-held_none w stamp place f past = sym (ap (λ b. made b (stands w f) stamp place f) (le-ltb place (2 ^ 32) (omega (arith, past))))
+held_none w stamp place f past =
+    sym (ap (λ b. made b (stands w f) stamp place f) (le-ltb place (2 ^ 32) (omega (arith, past))))
 
-fallen : (w : Setup) (stamp place : ℕ) (f : Signed Body) (here : Bool) → stands w f ≡ false → made here (stands w f) stamp place f ≡ None
+fallen : (w : Setup) (stamp place : ℕ) (f : Signed Body) (here : Bool) → stands w f ≡ false →
+    made here (stands w f) stamp place f ≡ None
 unfolding made
 fallen w stamp place f true falls = ap (λ b. made true b stamp place f) falls
 fallen w stamp place f false falls = refl
 
-pub held_fallen : (w : Setup) (stamp place : ℕ) (f : Signed Body) → stands w f ≡ false → ◌≡◌ {A = Option Held} None (held_at w stamp place f)
+pub held_fallen : (w : Setup) (stamp place : ℕ) (f : Signed Body) → stands w f ≡ false →
+    ◌≡◌ {A = Option Held} None (held_at w stamp place f)
 unfolding held_at made
 held_fallen w stamp place f falls = sym (fallen w stamp place f (nat_lt place (2 ^ 32)) falls)
 
@@ -54,17 +61,20 @@ some_fault (check.Unsigned part) first other fault none = absurd cc
 some_fault (check.Misplaced part) first other fault none = absurd cc
 
 -- a frame that is refused doesn't stand
-pub refused_falls : (c : Contents) (rg : Ring) (f : Signed Body) (r : CheckRefusal) → rg ≡ ring_in c → is_want r ≡ false → IsFault r (first_fault rg f) → stands (setup_of c) f ≡ false
+pub refused_falls : (c : Contents) (rg : Ring) (f : Signed Body) (r : CheckRefusal) → rg ≡ ring_in c →
+    is_want r ≡ false → IsFault r (first_fault rg f) → stands (setup_of c) f ≡ false
 refused_falls c rg f r same other fault =
     false_from_ne_true (stands (setup_of c) f) (λ stand.
     some_fault r (first_fault rg f) other fault
     (stands_faultless rg f (ap (λ (x : Ring). ring.stands x f) same ∙ sym (stands_by_ring c f) ∙ stand)))
 
-pub passed_stands : (c : Contents) (rg : Ring) (f : Signed Body) → rg ≡ ring_in c → ring.stands rg f ≡ true → stands (setup_of c) f ≡ true
+pub passed_stands : (c : Contents) (rg : Ring) (f : Signed Body) → rg ≡ ring_in c → ring.stands rg f ≡ true →
+    stands (setup_of c) f ≡ true
 passed_stands c rg f same stand = stands_by_ring c f ∙ ap (λ (x : Ring). ring.stands x f) (sym same) ∙ stand
 
 pub same_refusal : (r : Result (Signed Body) CheckRefusal) (a b : CheckRefusal) → r ≡ Err a → r ≡ Err b → a ≡ b
-same_refusal r a b first second = ap (λ (x : Result (Signed Body) CheckRefusal). elim x [ Ok f ↦ a | Err e ↦ e ]) (sym first ∙ second)
+same_refusal r a b first second = ap (λ (x : Result (Signed Body) CheckRefusal). elim x [ Ok f ↦ a | Err e ↦ e ])
+    (sym first ∙ second)
 
 -- a frame that stands does so in the ring of the scenario's actors
 pub stands_somewhere : (c : Contents) (f : Signed Body) → stands (setup_of c) f ≡ true → ring.StandsSomewhere f
@@ -72,12 +82,28 @@ stands_somewhere c f stand = record { ring = ring_in c; is_standing = sym (stand
 
 pub group_same : (s : Scenario) → group_of s.sizes (group_in (contents s)).clients ≡ (setup_of (contents s)).group
 group_same s =
-    ap (λ (n : ℕ). record { n = n; f = s.sizes.f; k = s.sizes.k; q = s.sizes.q; clients = (group_in (contents s)).clients }) s.sizes.all
-    ∙ ap (λ (q : ℕ). record { n = (group_in (contents s)).n; f = s.sizes.f; k = s.sizes.k; q = q; clients = (group_in (contents s)).clients }) s.sizes.quorum
+    ap (λ (n : ℕ). record {
+      n = n;
+      f = s.sizes.f;
+      k = s.sizes.k;
+      q = s.sizes.q;
+      clients =
+          (group_in (contents s)).clients;
+    }) s.sizes.all
+    ∙ ap (λ (q : ℕ). record {
+      n = (group_in (contents s)).n;
+      f = s.sizes.f;
+      k = s.sizes.k;
+      q = q;
+      clients =
+          (group_in (contents s)).clients;
+    }) s.sizes.quorum
     ∙ sym (group_is (contents s))
 
-pub post_made : (tos : List ℕ) (w : Setup) (from stamp place kind : ℕ) (to : List ℕ) (held : Option Held) (f : Signed Body) → kind ≡ kind_number f.body → to ≡ tos
-    → held ≡ held_at w stamp place f → ◌≡◌ {A = Post} (record { from = from; kind = kind; to = to; held = held }) (post_to tos w from stamp place f)
+pub post_made : (tos : List ℕ) (w : Setup) (from stamp place kind : ℕ) (to : List ℕ) (held : Option Held)
+    (f : Signed Body) → kind ≡ kind_number f.body → to ≡ tos
+    → held ≡ held_at w stamp place f → ◌≡◌ {A = Post} (record { from = from; kind = kind; to = to; held = held })
+    (post_to tos w from stamp place f)
 post_made tos w from stamp place kind to held f one two three =
     ap (λ (n : ℕ). record { from = from; kind = n; to = to; held = held }) one
     ∙ ap (λ (t : List ℕ). record { from = from; kind = kind_number f.body; to = t; held = held }) two

@@ -5,14 +5,15 @@ use Rattle.script_lines.specs.declared.step.Step.{Step}
 use Rattle.script_lines.specs.Given.{own_words}
 use Rattle.kept_lists.specs.State.{KeptState}
 use Rattle.script_laws.specs.Accepted.{actors_in, is_step_of}
-use Rattle.script_plays.specs.declared.answer.Stop.{Stop}
+use Rattle.script_plays.specs.declared.answer.StepRefusal.{StepRefusal}
 use Rattle.script_plays.specs.declared.mail.Mail.{Mail}
 use Rattle.script_plays.specs.declared.playing.Playing.{Playing}
 use Rattle.script_plays.specs.Making.{Given, Making, Going, goes}
 use Rattle.script_plays.specs.Playing.{IsMaking, IsMail, Goes}
 
 -- the play with these lost
-pub lost_play : (g : Given) (m : Making) (p q : Playing) (lost : List ℕ) → IsMaking g m p → q.kept.items ≡ p.kept.items → q.entries ≡ p.entries → q.mail ≡ p.mail
+pub lost_play : (g : Given) (m : Making) (p q : Playing) (lost : List ℕ) → IsMaking g m p →
+    q.kept.items ≡ p.kept.items → q.entries ≡ p.entries → q.mail ≡ p.mail
     → q.lost.items ≡ lost → q.said.items ≡ p.said.items → IsMaking g (record m { lost = lost }) q
 lost_play g m p q lost is kept entries mail are said = record {
   sound = record { legal = is.sound.legal; short = is.sound.short; posts = is.sound.posts; waiting = is.sound.waiting };
@@ -22,11 +23,13 @@ lost_play g m p q lost is kept entries mail are said = record {
   mail = subst (λ (x : Mail). IsMail (actors_in g.scenario) m.posts m.waiting x) (sym mail) is.mail;
   lost = are;
   speakers = ap length said ∙ is.speakers;
-  said = λ actor below. ap (λ (ps : List ℕ). own_words actor (drop (get_or ps actor 0) g.sayings)) said ∙ is.said actor below;
+  said = λ actor below. ap (λ (ps : List ℕ). own_words actor (drop (get_or ps actor 0) g.sayings)) said
+      ∙ is.said actor below;
 }
 
 -- the line as it is matched
-pub goes_by : (g : Given) (s t : Step) (r : Result (Unit {0}) Stop) (m : Making) (q : Playing) → s ≡ t → Goes g r (goes g t m) q → Goes g r (goes g s m) q
+pub goes_by : (g : Given) (s t : Step) (r : Result (Unit {0}) StepRefusal) (m : Making) (q : Playing) → s ≡ t →
+    Goes g r (goes g t m) q → Goes g r (goes g s m) q
 goes_by g s t r m q same goes_so = subst (λ (x : Step). Goes g r (goes g x m) q) (sym same) goes_so
 
 pub accepted_as : (c : Contents) (s t : Step) → s ≡ t → is_step_of c s ≡ true → is_step_of c t ≡ true

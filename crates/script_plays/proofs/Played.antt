@@ -1,5 +1,6 @@
 -- A play line by line: what is played so far, with the lines that are left, is the whole.
-use Rattle.std.proofs.Common.{◌≡◌, ℕ, zero, suc, ◌+◌, ◌<◌, ◌≤◌, Bool, true, false, not, List, [], ◌∷◌, Result, Ok, Err, length, map, drop, get_or, refl, sym, ◌∙◌, ap, subst, arith}
+use Rattle.std.proofs.Common.{◌≡◌, ℕ, zero, suc, ◌+◌, ◌<◌, ◌≤◌, Bool, true, false, not, List, [], ◌∷◌, Result, Ok}
+use Rattle.std.proofs.Common.{Err, length, map, drop, get_or, refl, sym, ◌∙◌, ap, subst, arith}
 use Rattle.std.specs.List.{list_all}
 use Rattle.std.proofs.lemmas.Bool.{and_from}
 use Rattle.std.proofs.lemmas.List.{drop_all, length-map, get_or-map, same_lists}
@@ -13,16 +14,19 @@ use Rattle.script_lines.specs.declared.script.Line.{Line}
 use Rattle.script_laws.specs.Accepted.{actors_in, is_step_of, are_lines_of}
 use Rattle.script_plays.specs.declared.answer.PlayAnswer.{PlayAnswer}
 use Rattle.script_plays.specs.declared.answer.PlayAnswer.TheVariants as answer
-use Rattle.script_plays.specs.declared.answer.Stop.{Stop}
-use Rattle.script_plays.specs.declared.answer.Stop.TheVariants as stop
+use Rattle.script_plays.specs.declared.answer.StepRefusal.{StepRefusal}
+use Rattle.script_plays.specs.declared.answer.StepRefusal.TheVariants as stop
 use Rattle.script_plays.specs.declared.playing.Playing.{Playing}
-use Rattle.script_plays.specs.Making.{Given, Making, Going, bench_at, goes, then_plays, played_from, played, beginning}
-use Rattle.script_plays.specs.Playing.{IsMaking, IsPlaying, IsKeptAt, Goes, GoesAt, Plays, PlaysTo, ArePlayed, answer_at}
-use Rattle.script_plays.proofs.Lists.{left_more, all_at}
-use Rattle.script_plays.proofs.Begun.{length_numbers, number_at}
+use Rattle.script_plays.specs.Making.{Given, Making, Going, bench_at, goes, then_plays, played_from, played}
+use Rattle.script_plays.specs.Making.{beginning}
+use Rattle.script_plays.specs.Playing.{IsMaking, IsPlaying, IsKeptAt, Goes, GoesAt, Plays, PlaysTo, ArePlayed}
+use Rattle.script_plays.specs.Playing.{answer_at}
+use Rattle.script_plays.proofs.Begun.{number_at}
+use Rattle.quorum_sets.proofs.Numbered.{length-numbers_below}
+use Rattle.plain_lists.proofs.Lists.{left_more, all_at}
 
 abbrev pub Told : Type 0
-Told = Result (List Entry) (ℕ × Stop)
+Told = Result (List Entry) (ℕ × StepRefusal)
 
 -- a play has come to where the lines left lead to the whole
 pub record Come (g : Given) (rest : Making → Told) (whole : Told) (p : Playing) : Type 0 where
@@ -35,10 +39,12 @@ pub record OnTheWay (g : Given) (rest all : Making → Told) (began p : Playing)
   pub playing : IsPlaying g p
   pub come : (m : Making) → IsMaking g m began → Come g rest (all m) p
 
-pub sets_out : (g : Given) (lines : List Line) (p : Playing) → IsPlaying g p → OnTheWay g (played_from g lines) (played_from g lines) p p
+pub sets_out : (g : Given) (lines : List Line) (p : Playing) → IsPlaying g p →
+    OnTheWay g (played_from g lines) (played_from g lines) p p
 sets_out g lines p playing = record { playing = playing; come = λ m is. record { making = m; is = is; same = refl } }
 
-line_more : (g : Given) (line : Line) (rest : List Line) (m : Making) → played_from g (line ∷ rest) m ≡ then_plays line.number (goes g line.step m) (played_from g rest)
+line_more : (g : Given) (line : Line) (rest : List Line) (m : Making) →
+    played_from g (line ∷ rest) m ≡ then_plays line.number (goes g line.step m) (played_from g rest)
 unfolding played_from
 line_more g line rest m = refl
 
@@ -46,16 +52,22 @@ lines_end : (g : Given) (m : Making) → played_from g [] m ≡ Ok m.history
 unfolding played_from
 lines_end g m = refl
 
-line_next : (g : Given) (lines : List Line) (i : ℕ) (line : Line) (m : Making) → i < length lines → line ≡ get_or lines i line
+line_next : (g : Given) (lines : List Line) (i : ℕ) (line : Line) (m : Making) → i < length lines →
+    line ≡ get_or lines i line
     → played_from g (drop i lines) m ≡ then_plays line.number (goes g line.step m) (played_from g (drop (i + 1) lines))
-line_next g lines i line m below at = ap (λ (ls : List Line). played_from g ls m) (left_more lines i line below at) ∙ line_more g line (drop (i + 1) lines) m
+line_next g lines i line m below at = ap (λ (ls : List Line). played_from g ls m) (left_more lines i line below at)
+    ∙ line_more g line (drop (i + 1) lines) m
 
-pub line_accepted : (c : Contents) (lines : List Line) (i : ℕ) (line : Line) → are_lines_of c lines ≡ true → i < length lines → line ≡ get_or lines i line → is_step_of c line.step ≡ true
-line_accepted c lines i line accepted below at = all_at (λ (l : Line). is_step_of c l.step) lines i line accepted below at
+pub line_accepted : (c : Contents) (lines : List Line) (i : ℕ) (line : Line) → are_lines_of c lines ≡ true →
+    i < length lines → line ≡ get_or lines i line → is_step_of c line.step ≡ true
+line_accepted c lines i line accepted below at =
+    all_at (λ (l : Line). is_step_of c l.step) lines i line accepted below at
 
 -- a line more
-pub plays_line : {g : Given} {done : Unit {0}} {all : Making → Told} {began p q : Playing} (lines : List Line) (i : ℕ) (line : Line) → i < length lines → line ≡ get_or lines i line
-    → OnTheWay g (played_from g (drop i lines)) all began p → ((m : Making) → IsMaking g m p → Goes g (Ok done) (goes g line.step m) q)
+pub plays_line : {g : Given} {done : Unit {0}} {all : Making → Told} {began p q : Playing} (lines : List Line) (i : ℕ)
+    (line : Line) → i < length lines → line ≡ get_or lines i line
+    → OnTheWay g (played_from g (drop i lines)) all began p →
+    ((m : Making) → IsMaking g m p → Goes g (Ok done) (goes g line.step m) q)
     → OnTheWay g (played_from g (drop (i + 1) lines)) all began q
 plays_line {g} {done} {all} {began} {p} {q} lines i line below at way does = record {
   playing = let first = does way.playing.making way.playing.is in record { making = first.0; is = first.2 };
@@ -65,31 +77,42 @@ plays_line {g} {done} {all} {began} {p} {q} lines i line below at way does = rec
       record {
         making = next.0;
         is = next.2;
-        same = sym (line_next g lines i line before.making below at ∙ ap (λ (r : Going). then_plays line.number r (played_from g (drop (i + 1) lines))) next.1) ∙ before.same;
+        same = sym (line_next g lines i line before.making below at
+            ∙ ap (λ (r : Going). then_plays line.number r (played_from g (drop (i + 1) lines))) next.1) ∙ before.same;
       };
 }
 
-stopped_at : {B : Type 0} (Shows : B → List Entry → Type 0) (g : Given) (why : Stop) (number : ℕ) (going : Going) (rest : Making → Told) (whole : Told) (p : Playing)
-    → then_plays number going rest ≡ whole → Goes {A = Unit {0}} g (Err why) going p → Plays Shows (Err (answer_at number why)) whole
-stopped_at Shows g stop.NoFrame number going rest whole p same goes = sym same ∙ ap (λ (r : Going). then_plays number r rest) goes
-stopped_at Shows g stop.TooMany number going rest whole p same goes = sym same ∙ ap (λ (r : Going). then_plays number r rest) goes
+stopped_at : {B : Type 0} (Shows : B → List Entry → Type 0) (g : Given) (why : StepRefusal) (number : ℕ)
+    (going : Going) (rest : Making → Told) (whole : Told) (p : Playing)
+    → then_plays number going rest ≡ whole → Goes {A = Unit {0}} g (Err why) going p →
+    Plays Shows (Err (answer_at number why)) whole
+stopped_at Shows g stop.NoFrame number going rest whole p same goes =
+    sym same ∙ ap (λ (r : Going). then_plays number r rest) goes
+stopped_at Shows g stop.TooMany number going rest whole p same goes =
+    sym same ∙ ap (λ (r : Going). then_plays number r rest) goes
 stopped_at Shows g stop.Want number going rest whole p same goes = tt
 
 -- where a line stops, the play does
-pub stops_at_line : {B : Type 0} (Shows : B → List Entry → Type 0) {g : Given} {all : Making → Told} {began p : Playing} (q : Playing) (lines : List Line) (i : ℕ) (line : Line)
-    (r : Result B PlayAnswer) (answered y : PlayAnswer) → r ≡ Err y → y ≡ answered → i < length lines → line ≡ get_or lines i line
-    → OnTheWay g (played_from g (drop i lines)) all began p → ((m : Making) → IsMaking g m p → GoesAt g line.number (Err answered) (goes g line.step m) q)
+pub stops_at_line : {B : Type 0} (Shows : B → List Entry → Type 0) {g : Given} {all : Making → Told}
+    {began p : Playing} (q : Playing) (lines : List Line) (i : ℕ) (line : Line)
+    (r : Result B PlayAnswer) (answered y : PlayAnswer) → r ≡ Err y → y ≡ answered → i < length lines →
+    line ≡ get_or lines i line
+    → OnTheWay g (played_from g (drop i lines)) all began p →
+    ((m : Making) → IsMaking g m p → GoesAt g line.number (Err answered) (goes g line.step m) q)
     → (m : Making) → IsMaking g m began → Plays Shows r (all m)
 stops_at_line {B} Shows {g} {all} {began} {p} q lines i line r answered y one two below at way does m is =
     let before = way.come m is in
     let stop = does before.making before.is in
     subst (λ (z : Result B PlayAnswer). Plays Shows z (all m)) (sym (one ∙ ap Err (two ∙ stop.1)))
-    (stopped_at Shows g stop.0 line.number (goes g line.step before.making) (played_from g (drop (i + 1) lines)) (all m) q
+    (stopped_at Shows g stop.0 line.number (goes g line.step before.making)
+    (played_from g (drop (i + 1) lines)) (all m) q
     (sym (line_next g lines i line before.making below at) ∙ before.same) stop.2)
 
 -- where no line is left, the play is done
-pub plays_out : {g : Given} {done : Unit {0}} {all : Making → Told} {began p : Playing} (lines : List Line) (i : ℕ) → length lines ≤ i
-    → OnTheWay g (played_from g (drop i lines)) all began p → (m : Making) → IsMaking g m began → Plays (PlaysTo g p) (Ok done) (all m)
+pub plays_out : {g : Given} {done : Unit {0}} {all : Making → Told} {began p : Playing} (lines : List Line) (i : ℕ) →
+    length lines ≤ i
+    → OnTheWay g (played_from g (drop i lines)) all began p → (m : Making) → IsMaking g m began →
+    Plays (PlaysTo g p) (Ok done) (all m)
 plays_out {g} {done} {all} {began} {p} lines i past way m is =
     let at = way.come m is in (
       at.making.history,
@@ -98,7 +121,8 @@ plays_out {g} {done} {all} {began} {p} lines i past way m is =
     )
 
 -- an answer that stops a play stops what calls it
-pub stops_too : {A B : Type 0} (Shows : A → List Entry → Type 0) (Others : B → List Entry → Type 0) (r : Result B PlayAnswer) (why y : PlayAnswer) (told : Told) → r ≡ Err y → y ≡ why
+pub stops_too : {A B : Type 0} (Shows : A → List Entry → Type 0) (Others : B → List Entry → Type 0)
+    (r : Result B PlayAnswer) (why y : PlayAnswer) (told : Told) → r ≡ Err y → y ≡ why
     → Plays Shows (Err why) told → Plays Others r told
 stops_too {A} {B} Shows Others r why y told one two stop =
     subst (λ (z : Result B PlayAnswer). Plays Others z told) (sym (one ∙ ap Err two)) (by why stop)
@@ -108,8 +132,10 @@ stops_too {A} {B} Shows Others r why y told one two stop =
     by (answer.TooMany line) h = h
     by answer.Want h = tt
 
-pub plays_wants : {A : Type 0} (Shows : A → List Entry → Type 0) (r : Result A PlayAnswer) (y : PlayAnswer) (told : Told) → r ≡ Err y → y ≡ answer.Want → Plays Shows r told
-plays_wants {A} Shows r y told one two = subst (λ (z : Result A PlayAnswer). Plays Shows z told) (sym (one ∙ ap Err two)) tt
+pub plays_wants : {A : Type 0} (Shows : A → List Entry → Type 0) (r : Result A PlayAnswer) (y : PlayAnswer)
+    (told : Told) → r ≡ Err y → y ≡ answer.Want → Plays Shows r told
+plays_wants {A} Shows r y told one two =
+    subst (λ (z : Result A PlayAnswer). Plays Shows z told) (sym (one ∙ ap Err two)) tt
 
 -- a list has an element at each of its places
 kept_at : (kept : List KeptState) (i : ℕ) → i < length kept → (k : KeptState) × (k ≡ get_or kept i k)
@@ -117,44 +143,56 @@ kept_at [] i below = absurd (omega arith)
 kept_at (k ∷ rest) zero below = (k, refl)
 kept_at (k ∷ rest) (suc i) below = kept_at rest i (omega arith)
 
-all_by_places : (f : KeptState → Bool) (kept : List KeptState) → ((i : ℕ) (k : KeptState) → i < length kept → k ≡ get_or kept i k → f k ≡ true) → list_all f kept ≡ true
+all_by_places : (f : KeptState → Bool) (kept : List KeptState) →
+    ((i : ℕ) (k : KeptState) → i < length kept → k ≡ get_or kept i k → f k ≡ true) → list_all f kept ≡ true
 all_by_places f [] each = refl
 all_by_places f (k ∷ rest) each =
-    and_from (f k) (list_all f rest) (each 0 k (omega arith) refl) (all_by_places f rest (λ i x below at. each (suc i) x (omega arith) at))
+    and_from (f k) (list_all f rest) (each 0 k (omega arith) refl)
+    (all_by_places f rest (λ i x below at. each (suc i) x (omega arith) at))
 
 are_played : (g : Given) (m : Making) (p : Playing) → IsMaking g m p → ArePlayed g m.history p.kept.items
 are_played g m p is = (
-  same_lists (map (λ (k : KeptState). k.bench) p.kept.items) (map (bench_at g m.history) (numbers_below (actors_in g.scenario)))
-      (length-map p.kept.items (λ (k : KeptState). k.bench) ∙ is.many ∙ sym (length-map (numbers_below (actors_in g.scenario)) (bench_at g m.history) ∙ length_numbers (actors_in g.scenario)))
-      (λ i d below. each i d (let many = is.many in let long = length-map p.kept.items (λ (k : KeptState). k.bench) in omega arith)),
-  all_by_places (λ (k : KeptState). not k.is_spent) p.kept.items (λ i k below at. ap not (is.kept i k (let many = is.many in omega arith) at).works),
+  same_lists (map (λ (k : KeptState). k.bench) p.kept.items)
+      (map (bench_at g m.history) (numbers_below (actors_in g.scenario)))
+      (length-map p.kept.items (λ (k : KeptState). k.bench) ∙ is.many
+      ∙ sym (length-map (numbers_below (actors_in g.scenario)) (bench_at g m.history)
+      ∙ length-numbers_below (actors_in g.scenario)))
+      (λ i d below. each i d (let many = is.many in let long = length-map p.kept.items (λ (k : KeptState). k.bench) in
+      omega arith)),
+  all_by_places (λ (k : KeptState). not k.is_spent) p.kept.items
+      (λ i k below at. ap not (is.kept i k (let many = is.many in omega arith) at).works),
 )
   where
     each : (i : ℕ) (d : BenchState) → i < actors_in g.scenario
-        → get_or (map (λ (k : KeptState). k.bench) p.kept.items) i d ≡ get_or (map (bench_at g m.history) (numbers_below (actors_in g.scenario))) i d
+        → get_or (map (λ (k : KeptState). k.bench) p.kept.items) i d ≡ get_or
+        (map (bench_at g m.history) (numbers_below (actors_in g.scenario))) i d
     each i d below =
         let there : i < length p.kept.items = (let many = is.many in omega arith) in
         let one = kept_at p.kept.items i there in
         get_or-map (λ (k : KeptState). k.bench) p.kept.items i one.0 d there
         ∙ ap (λ (k : KeptState). k.bench) (sym one.1) ∙ (is.kept i one.0 below one.1).bench
         ∙ ap (bench_at g m.history) (sym (number_at (actors_in g.scenario) i 0 below))
-        ∙ sym (get_or-map (bench_at g m.history) (numbers_below (actors_in g.scenario)) i 0 d (let long = length_numbers (actors_in g.scenario) in omega arith))
+        ∙ sym (get_or-map (bench_at g m.history) (numbers_below (actors_in g.scenario)) i 0 d
+        (let long = length-numbers_below (actors_in g.scenario) in omega arith))
 
-pub play_done : (g h : Given) (p : Playing) (kept : List KeptState) (told : Told) → g ≡ h → kept ≡ p.kept.items → Plays (PlaysTo g p) (Ok tt) told
+pub play_done : (g h : Given) (p : Playing) (kept : List KeptState) (told : Told) → g ≡ h → kept ≡ p.kept.items →
+    Plays (PlaysTo g p) (Ok tt) told
     → (history : List Entry) × (told ≡ Ok history) × ArePlayed h history kept
 play_done g h p kept told same are plays =
     let m = plays.2.0 in (
       plays.0,
       plays.1,
       subst (λ (ks : List KeptState). ArePlayed h plays.0 ks) (sym are)
-          (subst (λ (x : Given). ArePlayed x plays.0 p.kept.items) same (subst (λ (hs : List Entry). ArePlayed g hs p.kept.items) plays.2.1 (are_played g m p plays.2.2))),
+          (subst (λ (x : Given). ArePlayed x plays.0 p.kept.items) same
+          (subst (λ (hs : List Entry). ArePlayed g hs p.kept.items) plays.2.1 (are_played g m p plays.2.2))),
     )
 
 -- what a play goes by, in other words
 given_of : Contents → List Saying → Given
 given_of c sayings = record { scenario = c; sayings = sayings }
 
-pub given_same : (g : Given) (c : Contents) (said words : List Saying) → ◌≡◌ {A = Given} g (record { scenario = c; sayings = said }) → said ≡ words
+pub given_same : (g : Given) (c : Contents) (said words : List Saying) →
+    ◌≡◌ {A = Given} g (record { scenario = c; sayings = said }) → said ≡ words
     → ◌≡◌ {A = Given} g (record { scenario = c; sayings = words })
 unfolding given_of
 given_same g c said words is same = is ∙ ap (given_of c) same
@@ -165,12 +203,17 @@ begins g h p same is = subst (λ (x : Given). IsMaking x beginning p) (sym same)
 pub begins_playing : (g h : Given) (p : Playing) → g ≡ h → IsMaking h beginning p → IsPlaying g p
 begins_playing g h p same is = record { making = beginning; is = begins g h p same is }
 
-pub lines_accepted : (g h : Given) (lines script : List Line) → g ≡ h → lines ≡ script → are_lines_of h.scenario script ≡ true → are_lines_of g.scenario lines ≡ true
-lines_accepted g h lines script same are accepted = ap (λ (x : Given). are_lines_of x.scenario lines) same ∙ ap (are_lines_of h.scenario) are ∙ accepted
+pub lines_accepted : (g h : Given) (lines script : List Line) → g ≡ h → lines ≡ script →
+    are_lines_of h.scenario script ≡ true → are_lines_of g.scenario lines ≡ true
+lines_accepted g h lines script same are accepted = ap (λ (x : Given). are_lines_of x.scenario lines) same
+    ∙ ap (are_lines_of h.scenario) are ∙ accepted
 
-pub play_told : (g h : Given) (lines script : List Line) → g ≡ h → lines ≡ script → played_from g lines beginning ≡ played h script
+pub play_told : (g h : Given) (lines script : List Line) → g ≡ h → lines ≡ script →
+    played_from g lines beginning ≡ played h script
 unfolding played
-play_told g h lines script same are = ap (λ (x : Given). played_from x lines beginning) same ∙ ap (λ (ls : List Line). played_from h ls beginning) are
+play_told g h lines script same are = ap (λ (x : Given). played_from x lines beginning) same
+    ∙ ap (λ (ls : List Line). played_from h ls beginning) are
 
-pub told_as : {A : Type 0} (Shows : A → List Entry → Type 0) (r : Result A PlayAnswer) (told other : Told) → told ≡ other → Plays Shows r told → Plays Shows r other
+pub told_as : {A : Type 0} (Shows : A → List Entry → Type 0) (r : Result A PlayAnswer) (told other : Told) →
+    told ≡ other → Plays Shows r told → Plays Shows r other
 told_as Shows r told other same plays = subst (λ (t : Told). Plays Shows r t) same plays

@@ -1,5 +1,7 @@
 -- Of frames that stand: to whom they go.
-use Rattle.std.proofs.Common.{◌≡◌, ℕ, zero, suc, ◌+◌, ◌*◌, ◌<◌, ◌≤◌, Bool, true, false, cond, ◌&&◌, not, List, [], ◌∷◌, ◌++◌, filter, length, map, nat_eq, nat_le, nat_lt, refl, sym, ◌∙◌, ap, subst, arith}
+use Rattle.std.proofs.Common.{◌≡◌, ℕ, zero, suc, ◌+◌, ◌*◌, ◌<◌, ◌≤◌, Bool, true, false, cond, ◌&&◌, not, List, []}
+use Rattle.std.proofs.Common.{◌∷◌, ◌++◌, filter, length, map, nat_eq, nat_le, nat_lt, refl, sym, ◌∙◌, ap, subst}
+use Rattle.std.proofs.Common.{arith}
 use Rattle.std.specs.List.{list_all}
 use Rattle.std.proofs.lemmas.Bool.{and_parts, and_from, lt-ltb, ltb-true, true≢false}
 use Rattle.message_types.specs.declared.signed.Signed.{Signed}
@@ -17,7 +19,7 @@ use Rattle.world_rules.specs.Frames.{addressees}
 use Rattle.world_rules.specs.Scenarios.{setup_of, group_in}
 use Rattle.world_rules.proofs.Fields.{group_is}
 use Rattle.bench_rules.proofs.Standing.{standing_is_whole}
-use Rattle.intruder_words.specs.Naming.{kind_number}
+use Rattle.message_types.specs.Kinds.{kind_number}
 use Rattle.script_laws.specs.Accepted.{actors_in, is_there}
 use Rattle.script_plays.specs.Addressing.{IsClientFew}
 use Rattle.script_plays.proofs.Lists.{all_join}
@@ -55,7 +57,8 @@ few_masters c is = let f = is.group.at_most_three_intruded in let k = is.group.a
 pub few_actors : (c : Contents) → IsScenario c → actors_in c ≤ 26
 few_actors c is = omega (arith, few_clients c is, few_masters c is)
 
-below_one : (test : ℕ → Bool) (n : ℕ) → (m : ℕ) → n < m → (b : Bool) → list_all (λ a. nat_lt a m) (cond b (n ∷ []) []) ≡ true
+below_one : (test : ℕ → Bool) (n : ℕ) → (m : ℕ) → n < m → (b : Bool) →
+    list_all (λ a. nat_lt a m) (cond b (n ∷ []) []) ≡ true
 below_one test n m below true = and_from (nat_lt n m) true (lt-ltb n m below) refl
 below_one test n m below false = refl
 
@@ -64,22 +67,37 @@ pub voters_are_below : (test : ℕ → Bool) (n m : ℕ) → n ≤ m → list_al
 voters_are_below test zero m below = ap (list_all (λ a. nat_lt a m)) (voters-zero test)
 voters_are_below test (suc n) m below =
     ap (list_all (λ a. nat_lt a m)) (voters-suc test n)
-    ∙ all_join (λ a. nat_lt a m) (voters test n) (cond (test n) (n ∷ []) []) (voters_are_below test n m (omega arith)) (below_one test n m (omega arith) (test n))
+    ∙ all_join (λ a. nat_lt a m) (voters test n) (cond (test n) (n ∷ []) []) (voters_are_below test n m (omega arith))
+    (below_one test n m (omega arith) (test n))
 
 in_its_place : (w : Setup) (f : Signed Body) → stands w f ≡ true → in_place w.group f ≡ true
-in_its_place w f stand = (and_parts (in_place w.group f) (list_all (in_place w.group) (inside f.body)) (standing_is_whole w f stand)).0
+in_its_place w f stand = (and_parts (in_place w.group f) (list_all (in_place w.group) (inside f.body))
+    (standing_is_whole w f stand)).0
 
 -- What a frame in its place says of its client.
-client_there : (g : Group) (signer : ℕ) (sig : List ℕ) (word : Body) → in_place g (record { signer = signer; body = word; sig = sig }) ≡ true
-    → (elim word [ body.Update b ↦ nat_lt b.client g.clients | body.Voucher b ↦ nat_lt b.client g.clients | _ ↦ true ]) ≡ true
+client_there : (g : Group) (signer : ℕ) (sig : List ℕ) (word : Body) →
+    in_place g (record { signer = signer; body = word; sig = sig }) ≡ true
+    → (elim word [
+      | body.Update b ↦ nat_lt b.client g.clients
+      | body.Voucher b ↦ nat_lt b.client g.clients
+      | _ ↦ true
+    ]) ≡ true
 client_there g signer sig (body.Update b) well =
-    (and_parts (nat_lt b.client g.clients) _ (and_parts _ _ (and_parts _ _ (and_parts (nat_lt b.client g.clients && in_32_bits b.client && nat_eq signer (g.n + b.client) && in_64_bits b.t) (op_in_place b.op) well).0).0).0).0
+    (and_parts (nat_lt b.client g.clients) _
+    (and_parts _ _ (and_parts _ _
+    (and_parts (nat_lt b.client g.clients && in_32_bits b.client && nat_eq signer (g.n + b.client)
+    && in_64_bits b.t) (op_in_place b.op) well).0).0).0).0
 client_there g signer sig (body.Voucher b) well =
-    (and_parts (nat_lt b.client g.clients) (nat_le 1 b.number) (and_parts (nat_lt signer g.n) (word_in_place g signer (body.Voucher b)) well).1).0
+    (and_parts (nat_lt b.client g.clients) (nat_le 1 b.number)
+    (and_parts (nat_lt signer g.n) (word_in_place g signer (body.Voucher b)) well).1).0
 client_there g signer sig _ well = refl
 
 few_when : (g : Group) (word : Body) → g.clients ≤ 12
-    → (elim word [ body.Update b ↦ nat_lt b.client g.clients | body.Voucher b ↦ nat_lt b.client g.clients | _ ↦ true ]) ≡ true → IsClientFew word
+    → (elim word [
+      | body.Update b ↦ nat_lt b.client g.clients
+      | body.Voucher b ↦ nat_lt b.client g.clients
+      | _ ↦ true
+    ]) ≡ true → IsClientFew word
 few_when g (body.Update b) few there = omega (arith, ltb-true b.client g.clients there)
 few_when g (body.Voucher b) few there = omega (arith, ltb-true b.client g.clients there)
 few_when g _ few there = tt
@@ -88,14 +106,20 @@ few_when g _ few there = tt
 pub client_few : (c : Contents) (f : Signed Body) → IsScenario c → stands (setup_of c) f ≡ true → IsClientFew f.body
 client_few c f is stand =
     few_when (group_in c) f.body (few_clients c is)
-    (client_there (group_in c) f.signer f.sig f.body (ap (λ (g : Group). in_place g f) (sym (group_is c)) ∙ in_its_place (setup_of c) f stand))
+    (client_there (group_in c) f.signer f.sig f.body (ap (λ (g : Group). in_place g f) (sym (group_is c))
+    ∙ in_its_place (setup_of c) f stand))
 
 there_when : (g : Group) (actor : ℕ) (word : Body)
-    → (elim word [ body.Update b ↦ nat_lt b.client g.clients | body.Voucher b ↦ nat_lt b.client g.clients | _ ↦ true ]) ≡ true
+    → (elim word [
+      | body.Update b ↦ nat_lt b.client g.clients
+      | body.Voucher b ↦ nat_lt b.client g.clients
+      | _ ↦ true
+    ]) ≡ true
     → list_all (λ a. nat_lt a (g.n + g.clients)) (addressees g actor word) ≡ true
 there_when g actor (body.Update b) there = voters_are_below (is_door g b.client) g.n (g.n + g.clients) (omega arith)
 there_when g actor (body.Voucher b) there =
-    and_from (nat_lt (g.n + b.client) (g.n + g.clients)) true (lt-ltb (g.n + b.client) (g.n + g.clients) (omega (arith, ltb-true b.client g.clients there))) refl
+    and_from (nat_lt (g.n + b.client) (g.n + g.clients)) true
+    (lt-ltb (g.n + b.client) (g.n + g.clients) (omega (arith, ltb-true b.client g.clients there))) refl
 there_when g actor _ there = voters_are_below (λ m. not (nat_eq m actor)) g.n (g.n + g.clients) (omega arith)
 
 -- a frame that stands goes to actors that are there
@@ -104,4 +128,5 @@ pub addressees_there : (c : Contents) (actor : ℕ) (f : Signed Body) → stands
 addressees_there c actor f stand =
     ap (λ (g : Group). list_all (is_there c) (addressees g actor f.body)) (group_is c)
     ∙ there_when (group_in c) actor f.body
-    (client_there (group_in c) f.signer f.sig f.body (ap (λ (g : Group). in_place g f) (sym (group_is c)) ∙ in_its_place (setup_of c) f stand))
+    (client_there (group_in c) f.signer f.sig f.body (ap (λ (g : Group). in_place g f) (sym (group_is c))
+    ∙ in_its_place (setup_of c) f stand))

@@ -1,5 +1,6 @@
 -- A number as a field keeps it: of one that is too great for its field the bytes are those of a number that isn't.
-use Rattle.std.proofs.Common.{◌≡◌, ℕ, zero, suc, ◌<◌, ◌^◌, ◌/◌, ◌%◌, Fits, w8, Bool, ◌&&◌, List, [], ◌∷◌, ◌++◌, get_or, map, length, refl, sym, ◌∙◌, ap, subst, arith}
+use Rattle.std.proofs.Common.{◌≡◌, ℕ, zero, suc, ◌<◌, ◌^◌, ◌/◌, ◌%◌, Fits, w8, Bool, ◌&&◌, List, [], ◌∷◌, ◌++◌}
+use Rattle.std.proofs.Common.{get_or, map, length, refl, sym, ◌∙◌, ap, subst, arith}
 use Rattle.std.specs.Prelude.{nat_le}
 use Rattle.std.specs.List.{list_all, flat_map, AllByRecursion}
 use Rattle.std.specs.Int.{byte_at, bytes_high_first}
@@ -8,7 +9,8 @@ use Rattle.std.proofs.lemmas.List.{append-nil, length-map}
 use Rattle.byteorder.specs.Endian.{big_from, big_number}
 use Rattle.byteorder.specs.Numbers.{big_from-bytes}
 use Rattle.wire_parts.specs.Fields.{u16_bytes, u32_bytes, u64_bytes}
-use Rattle.wire_parts.specs.FieldLaws.{length-u16_bytes, length-u32_bytes, length-u64_bytes, u16_bytes-big_number, u32_bytes-big_number, u64_bytes-big_number}
+use Rattle.wire_parts.specs.FieldLaws.{length-u16_bytes, length-u32_bytes, length-u64_bytes, u16_bytes-big_number}
+use Rattle.wire_parts.specs.FieldLaws.{u32_bytes-big_number, u64_bytes-big_number}
 use Rattle.message_types.specs.Texts.{list_text, rows_text}
 use Rattle.message_types.specs.Spelling.{row_fits, rows_fit}
 use Rattle.message_forms.specs.Widths.{FitsRow, FitsRows}
@@ -29,7 +31,8 @@ bytes_fit n x i = let low = bytes_low n x i in omega (arith, low)
 
 number_low : (n x : ℕ) → big_number n (bytes_high_first n x) < 256 ^ n
 number_low n x =
-    let is : big_number n (bytes_high_first n x) ≡ x % 256 ^ n = ap (big_from 0 n) (sym (append-nil (bytes_high_first n x))) ∙ big_from-bytes n x [] in
+    let is : big_number n (bytes_high_first n x) ≡ x % 256 ^ n =
+    ap (big_from 0 n) (sym (append-nil (bytes_high_first n x))) ∙ big_from-bytes n x [] in
     subst (λ (y : ℕ). y < 256 ^ n) (sym is) (mod-lt x {m = 256 ^ n} (one-le-pow n 256 (omega arith)))
 
 -- what a field of 2, 4 or 8 bytes keeps of a number
@@ -79,17 +82,23 @@ unfolding low64 u64_bytes
 small64 x = number_low 8 x
 
 -- lists that are mapped to what has the same text, or passes the same test
-flat_same : {X : Type 0} (item : X → List ℕ) (f : X → X) → ((x : X) → item (f x) ≡ item x) → (xs : List X) → flat_map item (map f xs) ≡ flat_map item xs
+flat_same : {X : Type 0} (item : X → List ℕ) (f : X → X) → ((x : X) → item (f x) ≡ item x) → (xs : List X) →
+    flat_map item (map f xs) ≡ flat_map item xs
 flat_same item f same [] = refl
-flat_same item f same (x ∷ xs) = ap (λ (bs : List ℕ). bs ++ flat_map item (map f xs)) (same x) ∙ ap (λ (bs : List ℕ). item x ++ bs) (flat_same item f same xs)
+flat_same item f same (x ∷ xs) = ap (λ (bs : List ℕ). bs ++ flat_map item (map f xs)) (same x)
+    ∙ ap (λ (bs : List ℕ). item x ++ bs) (flat_same item f same xs)
 
-pub list_same : {X : Type 0} (item : X → List ℕ) (f : X → X) → ((x : X) → item (f x) ≡ item x) → (xs : List X) → list_text item (map f xs) ≡ list_text item xs
+pub list_same : {X : Type 0} (item : X → List ℕ) (f : X → X) → ((x : X) → item (f x) ≡ item x) → (xs : List X) →
+    list_text item (map f xs) ≡ list_text item xs
 list_same item f same xs =
-    ap (λ (n : ℕ). u16_bytes n ++ flat_map item (map f xs)) (length-map xs f) ∙ ap (λ (bs : List ℕ). u16_bytes (length xs) ++ bs) (flat_same item f same xs)
+    ap (λ (n : ℕ). u16_bytes n ++ flat_map item (map f xs)) (length-map xs f)
+    ∙ ap (λ (bs : List ℕ). u16_bytes (length xs) ++ bs) (flat_same item f same xs)
 
-pub all_same : {X : Type 0} (p : X → Bool) (f : X → X) → ((x : X) → p (f x) ≡ p x) → (xs : List X) → list_all p (map f xs) ≡ list_all p xs
+pub all_same : {X : Type 0} (p : X → Bool) (f : X → X) → ((x : X) → p (f x) ≡ p x) → (xs : List X) →
+    list_all p (map f xs) ≡ list_all p xs
 all_same p f same [] = refl
-all_same p f same (x ∷ xs) = ap (λ (b : Bool). b && list_all p (map f xs)) (same x) ∙ ap (λ (b : Bool). p x && b) (all_same p f same xs)
+all_same p f same (x ∷ xs) = ap (λ (b : Bool). b && list_all p (map f xs)) (same x)
+    ∙ ap (λ (b : Bool). p x && b) (all_same p f same xs)
 
 pub all_recursively : {X : Type 0} (P : X → Type 0) (xs : List X) → Each P xs → AllByRecursion P xs
 all_recursively P [] each = tt

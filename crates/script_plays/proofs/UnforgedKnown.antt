@@ -1,14 +1,13 @@
 -- Frames inside what a word is: each is one that its speaker knows.
-use Rattle.std.proofs.Common.{◌≡◌, ℕ, ◌≤◌, Bool, true, false, cond, ◌||◌, List, [], ◌∷◌, Option, Some, None, length, map, nat_eq, refl, sym, ap, subst, arith, inl, inr}
+use Rattle.std.proofs.Common.{◌≡◌, ℕ, ◌≤◌, Bool, true, false, cond, ◌||◌, List, [], ◌∷◌, Option, Some, None, map}
+use Rattle.std.proofs.Common.{nat_eq, refl, sym, subst, inl, inr}
 use Rattle.std.specs.List.{find, filter_map}
 use Rattle.std.specs.Option.{option_and_then}
-use Rattle.std.proofs.lemmas.Bool.{leb-true}
 use Rattle.sha2.proofs.Facts256.{length-sha256}
 use Rattle.quorum_sets.specs.Masters.{numbers_below}
 use Rattle.message_types.specs.declared.signed.Signed.{Signed}
 use Rattle.message_types.specs.declared.updates.Update.{Update}
 use Rattle.message_types.specs.declared.preordering.PoRequest.{PoRequest}
-use Rattle.message_types.specs.declared.preordering.PoAck.{PoAck}
 use Rattle.message_types.specs.declared.preordering.PoSummary.{PoSummary}
 use Rattle.message_types.specs.declared.ordering.Mark.{Mark}
 use Rattle.message_types.specs.declared.ordering.Certificate.{Certificate}
@@ -18,24 +17,30 @@ use Rattle.message_types.specs.declared.body.Body.TheVariants as body
 use Rattle.message_types.specs.Parts.{as_frame}
 use Rattle.message_types.specs.Texts.{update_text, rows_text}
 use Rattle.message_types.specs.Digests.{digest_of_update, digest_of_rows}
-use Rattle.message_forms.specs.Widths.{Is32, Is64, IsDigest, FitsUpdate, FitsRequest, FitsAck, FitsSummary, FitsPrepare, FitsCommit, FitsMark, FitsReport, FitsBody}
+use Rattle.message_forms.specs.Widths.{Is32, Is64, IsDigest, FitsUpdate, FitsRequest, FitsAck, FitsSummary}
+use Rattle.message_forms.specs.Widths.{FitsPrepare, FitsCommit, FitsMark, FitsReport, FitsBody}
 use Rattle.protocol_rules.specs.declared.facts.OrderFact.{OrderFact}
 use Rattle.protocol_rules.specs.declared.facts.OrderFact.TheVariants as fact
 use Rattle.protocol_rules.specs.Words.{first_of_list}
 use Rattle.protocol_rules.specs.Group.{Group}
 use Rattle.protocol_rules.specs.Facts.{facts_of, rows_known}
 use Rattle.protocol_rules.specs.Matrix.{rows_of_frames}
-use Rattle.protocol_rules.specs.Order.{prepare_by, commit_by, mark_by, first_votes, quorum_of, is_voted, prepared, certificate_of, marks_at}
+use Rattle.protocol_rules.specs.Order.{prepare_by, commit_by, mark_by, first_votes, quorum_of, is_voted, prepared}
+use Rattle.protocol_rules.specs.Order.{certificate_of, marks_at}
 use Rattle.protocol_rules.specs.Reconcile.{request_of, ack_of, quorum_of_acks}
-use Rattle.history_rules.specs.Audit.{IsIn, here}
-use Rattle.agreement.proofs.Lists.{Each, each_none, in_cons_cases, in_filter_map_from, in_take, first_in, first_met_from, find_some, some_same, none_some}
+use Rattle.history_rules.specs.Audit.{IsIn}
+use Rattle.agreement.proofs.Lists.{Each, each_none, in_cons_cases, in_filter_map_from, in_take, first_in}
+use Rattle.agreement.proofs.Lists.{first_met_from, find_some, some_same, none_some}
 use Rattle.agreement.proofs.Spoken.{if_some}
-use Rattle.agreement.proofs.Inside.{fact_from, vote_from, prepare_by_from, commit_by_from, mark_by_from, option_map_from}
+use Rattle.agreement.proofs.Inside.{fact_from, vote_from, prepare_by_from, commit_by_from, mark_by_from}
+use Rattle.agreement.proofs.Inside.{option_map_from}
 use Rattle.play_words.specs.declared.words.Item.{Item}
 use Rattle.play_words.specs.declared.words.Ref.{Ref}
 use Rattle.intruder_words.specs.Naming.{named}
 use Rattle.intruder_words.specs.Speaking.{all_of, as_update, as_summary, as_report, digest_in, certificate_known}
-use Rattle.intruder_words.proofs.Whole.{named-from}
+use Rattle.intruder_words.proofs.Whole.{named-from, ack-from, report-from, request-from, step-from, summary-from}
+use Rattle.intruder_words.proofs.Whole.{update-from}
+use Rattle.words_in_place.proofs.Ordering.{voted_one}
 
 -- A part that can stand inside a word fits its fields.
 abbrev pub FitsPart : ℕ → Body → Type 0
@@ -67,44 +72,33 @@ fits_part signer _ low fits = tt
 abbrev pub AreKnown : {B : Type 0} → (B → Body) → List (Signed Body) → List (Signed B) → Type 0
 AreKnown kind known fs = Each (λ f. IsIn (as_frame kind f) known) fs
 
-pub step_from : {X Y : Type 0} (f : X → Option Y) (o : Option X) (y : Y) → option_and_then f o ≡ Some y → (x : X) × (o ≡ Some x) × (f x ≡ Some y)
-step_from f None y e = absurd (none_some e)
-step_from f (Some x) y e = (x, refl, e)
-
--- a frame as one of its kind
-update_from : (signer : ℕ) (b : Body) (sig : List ℕ) (u : Signed Update) → as_update record { signer = signer; body = b; sig = sig } ≡ Some u → record { signer = signer; body = b; sig = sig } ≡ as_frame body.Update u
-update_from signer (body.Update b) sig u e = ap (as_frame body.Update) (some_same e)
-update_from signer _ sig u e = absurd (none_some e)
-
-summary_from : (signer : ℕ) (b : Body) (sig : List ℕ) (u : Signed PoSummary) → as_summary record { signer = signer; body = b; sig = sig } ≡ Some u → record { signer = signer; body = b; sig = sig } ≡ as_frame body.PoSummary u
-summary_from signer (body.PoSummary b) sig u e = ap (as_frame body.PoSummary) (some_same e)
-summary_from signer _ sig u e = absurd (none_some e)
-
-report_from : (signer : ℕ) (b : Body) (sig : List ℕ) (u : Signed Report) → as_report record { signer = signer; body = b; sig = sig } ≡ Some u → record { signer = signer; body = b; sig = sig } ≡ as_frame body.Report u
-report_from signer (body.Report b) sig u e = ap (as_frame body.Report) (some_same e)
-report_from signer _ sig u e = absurd (none_some e)
-
-named_known : {B : Type 0} (known : List (Signed Body)) (kind : B → Body) (read : Signed Body → Option (Signed B)) → ((f : Signed Body) (x : Signed B) → read f ≡ Some x → f ≡ as_frame kind x)
+named_known : {B : Type 0} (known : List (Signed Body)) (kind : B → Body) (read : Signed Body → Option (Signed B)) →
+    ((f : Signed Body) (x : Signed B) → read f ≡ Some x → f ≡ as_frame kind x)
     → (r : Ref) (x : Signed B) → option_and_then read (named known r) ≡ Some x → IsIn (as_frame kind x) known
 named_known known kind read from r x e =
-    let step = step_from read (named known r) x e in
+    let step = step-from read (named known r) x e in
     subst (λ (f : Signed Body). IsIn f known) (from step.0 x step.2) (named-from known r step.0 step.1).0
 
-pub update_known : (known : List (Signed Body)) (r : Ref) (x : Signed Update) → option_and_then as_update (named known r) ≡ Some x → IsIn (as_frame body.Update x) known
-update_known known = named_known known body.Update as_update (λ f x e. update_from f.signer f.body f.sig x e)
+pub update_known : (known : List (Signed Body)) (r : Ref) (x : Signed Update) →
+    option_and_then as_update (named known r) ≡ Some x → IsIn (as_frame body.Update x) known
+update_known known = named_known known body.Update as_update (λ f x e. update-from f.signer f.body f.sig x e)
 
-pub summary_known : (known : List (Signed Body)) (r : Ref) (x : Signed PoSummary) → option_and_then as_summary (named known r) ≡ Some x → IsIn (as_frame body.PoSummary x) known
-summary_known known = named_known known body.PoSummary as_summary (λ f x e. summary_from f.signer f.body f.sig x e)
+pub summary_known : (known : List (Signed Body)) (r : Ref) (x : Signed PoSummary) →
+    option_and_then as_summary (named known r) ≡ Some x → IsIn (as_frame body.PoSummary x) known
+summary_known known = named_known known body.PoSummary as_summary (λ f x e. summary-from f.signer f.body f.sig x e)
 
-pub report_known : (known : List (Signed Body)) (r : Ref) (x : Signed Report) → option_and_then as_report (named known r) ≡ Some x → IsIn (as_frame body.Report x) known
-report_known known = named_known known body.Report as_report (λ f x e. report_from f.signer f.body f.sig x e)
+pub report_known : (known : List (Signed Body)) (r : Ref) (x : Signed Report) →
+    option_and_then as_report (named known r) ≡ Some x → IsIn (as_frame body.Report x) known
+report_known known = named_known known body.Report as_report (λ f x e. report-from f.signer f.body f.sig x e)
 
 -- all of several
-pub each_gathered : {X Y : Type 0} (P : Y → Type 0) (name : X → Option Y) → ((x : X) (y : Y) → name x ≡ Some y → P y) → (xs : List X) (ys : List Y) → all_of (map name xs) ≡ Some ys → Each P ys
+pub each_gathered : {X Y : Type 0} (P : Y → Type 0) (name : X → Option Y) →
+    ((x : X) (y : Y) → name x ≡ Some y → P y) → (xs : List X) (ys : List Y) → all_of (map name xs) ≡ Some ys → Each P ys
 each_gathered {X} {Y} P name each [] ys e = subst (λ (zs : List Y). Each P zs) (some_same e) (each_none P)
 each_gathered {X} {Y} P name each (x ∷ xs) ys e = by (name x) refl e (λ zs is. each_gathered P name each xs zs is)
   where
-    by : (o : Option Y) → name x ≡ o → all_of (o ∷ map name xs) ≡ Some ys → ((zs : List Y) → all_of (map name xs) ≡ Some zs → Each P zs) → Each P ys
+    by : (o : Option Y) → name x ≡ o → all_of (o ∷ map name xs) ≡ Some ys →
+        ((zs : List Y) → all_of (map name xs) ≡ Some zs → Each P zs) → Each P ys
     by None is none later = absurd (none_some none)
     by (Some y) is some later =
         let rest = option_map_from (λ zs. y ∷ zs) (all_of (map name xs)) some in
@@ -122,41 +116,53 @@ pub rows_digest_size : (rows : List (List ℕ)) → IsDigest (digest_of_rows row
 unfolding digest_of_rows
 rows_digest_size rows = length-sha256 (rows_text rows)
 
-digest_of_body : (g : Group) (signer : ℕ) (b : Body) (sig digest : List ℕ) → digest_in g record { signer = signer; body = b; sig = sig } ≡ Some digest → IsDigest digest
-digest_of_body g signer (body.PoRequest b) sig digest e = subst IsDigest (some_same e) (update_digest_size b.update.body)
-digest_of_body g signer (body.PrePrepare b) sig digest e = subst IsDigest (some_same e) (rows_digest_size (rows_of_frames g b.frames))
+digest_of_body : (g : Group) (signer : ℕ) (b : Body) (sig digest : List ℕ) →
+    digest_in g record { signer = signer; body = b; sig = sig } ≡ Some digest → IsDigest digest
+digest_of_body g signer (body.PoRequest b) sig digest e =
+    subst IsDigest (some_same e) (update_digest_size b.update.body)
+digest_of_body g signer (body.PrePrepare b) sig digest e =
+    subst IsDigest (some_same e) (rows_digest_size (rows_of_frames g b.frames))
 digest_of_body g signer _ sig digest e = absurd (none_some e)
 
-pub named_digest_size : (g : Group) (known : List (Signed Body)) (r : Ref) (digest : List ℕ) → option_and_then (digest_in g) (named known r) ≡ Some digest → IsDigest digest
+pub named_digest_size : (g : Group) (known : List (Signed Body)) (r : Ref) (digest : List ℕ) →
+    option_and_then (digest_in g) (named known r) ≡ Some digest → IsDigest digest
 named_digest_size g known r digest e =
-    let step = step_from (digest_in g) (named known r) digest e in
+    let step = step-from (digest_in g) (named known r) digest e in
     digest_of_body g step.0.signer step.0.body step.0.sig digest step.2
 
 -- the votes of a quorum
-pub prepares_known : (g : Group) (known : List (Signed Body)) (v s : ℕ) (digest : List ℕ) → AreKnown body.Prepare known (quorum_of g (prepare_by v s digest) (facts_of g known))
+pub prepares_known : (g : Group) (known : List (Signed Body)) (v s : ℕ) (digest : List ℕ) →
+    AreKnown body.Prepare known (quorum_of g (prepare_by v s digest) (facts_of g known))
 prepares_known g known v s digest f h =
-    let vote = vote_from g (prepare_by v s digest) (facts_of g known) f (in_take g.q (first_votes g (prepare_by v s digest) (facts_of g known)) h) in
+    let vote = vote_from g (prepare_by v s digest) (facts_of g known) f
+    (in_take g.q (first_votes g (prepare_by v s digest) (facts_of g known)) h) in
     let is = prepare_by_from v s digest vote.0 vote.1 f vote.4 in
     let word = fact_from g known (fact.Prepare f) (subst (λ (x : OrderFact). IsIn x (facts_of g known)) is.0 vote.3) in
     subst (λ (p : Signed Body). IsIn p known) word.2 word.1
 
-pub commits_known : (g : Group) (known : List (Signed Body)) (v s : ℕ) (digest : List ℕ) → AreKnown body.Commit known (quorum_of g (commit_by v s digest) (facts_of g known))
+pub commits_known : (g : Group) (known : List (Signed Body)) (v s : ℕ) (digest : List ℕ) →
+    AreKnown body.Commit known (quorum_of g (commit_by v s digest) (facts_of g known))
 commits_known g known v s digest f h =
-    let vote = vote_from g (commit_by v s digest) (facts_of g known) f (in_take g.q (first_votes g (commit_by v s digest) (facts_of g known)) h) in
+    let vote = vote_from g (commit_by v s digest) (facts_of g known) f
+    (in_take g.q (first_votes g (commit_by v s digest) (facts_of g known)) h) in
     let is = commit_by_from v s digest vote.0 vote.1 f vote.4 in
     let word = fact_from g known (fact.Commit f) (subst (λ (x : OrderFact). IsIn x (facts_of g known)) is.0 vote.3) in
     subst (λ (p : Signed Body). IsIn p known) word.2 word.1
 
-marks_voted : (g : Group) (known : List (Signed Body)) (s : ℕ) → AreKnown body.Mark known (quorum_of g (mark_by s) (facts_of g known))
+marks_voted : (g : Group) (known : List (Signed Body)) (s : ℕ) →
+    AreKnown body.Mark known (quorum_of g (mark_by s) (facts_of g known))
 marks_voted g known s f h =
-    let vote = vote_from g (mark_by s) (facts_of g known) f (in_take g.q (first_votes g (mark_by s) (facts_of g known)) h) in
+    let vote = vote_from g (mark_by s) (facts_of g known) f
+    (in_take g.q (first_votes g (mark_by s) (facts_of g known)) h) in
     let is = mark_by_from s vote.0 vote.1 f vote.4 in
     let word = fact_from g known (fact.Mark f) (subst (λ (x : OrderFact). IsIn x (facts_of g known)) is vote.3) in
     subst (λ (p : Signed Body). IsIn p known) word.2 word.1
 
-pub marks_known : (g : Group) (known : List (Signed Body)) (s : ℕ) (marks : List (Signed Mark)) → marks_at g (facts_of g known) s ≡ Some marks → AreKnown body.Mark known marks
+pub marks_known : (g : Group) (known : List (Signed Body)) (s : ℕ) (marks : List (Signed Mark)) →
+    marks_at g (facts_of g known) s ≡ Some marks → AreKnown body.Mark known marks
 marks_known g known s marks e =
-    subst (λ (ms : List (Signed Mark)). AreKnown body.Mark known ms) (if_some (nat_eq s 0 || is_voted g (mark_by s) (facts_of g known)) e).1 (by_base (nat_eq s 0))
+    subst (λ (ms : List (Signed Mark)). AreKnown body.Mark known ms)
+    (if_some (nat_eq s 0 || is_voted g (mark_by s) (facts_of g known)) e).1 (by_base (nat_eq s 0))
   where
     by_base : (b : Bool) → AreKnown body.Mark known (cond b [] (quorum_of g (mark_by s) (facts_of g known)))
     by_base true = each_none _
@@ -166,54 +172,49 @@ marks_known g known s marks e =
 word_known : (known : List (Signed Body)) (p q : Signed Body) → p ≡ q → IsIn p known → IsIn q known
 word_known known p q same h = subst (λ (x : Signed Body). IsIn x known) same h
 
-request_from : (j k : ℕ) (u : Update) (signer : ℕ) (b : Body) (sig : List ℕ) (x : Signed PoRequest) → request_of j k u record { signer = signer; body = b; sig = sig } ≡ Some x → record { signer = signer; body = b; sig = sig } ≡ as_frame body.PoRequest x
-request_from j k u signer (body.PoRequest b) sig x e = ap (as_frame body.PoRequest) (if_some _ e).1
-request_from j k u signer _ sig x e = absurd (none_some e)
-
-pub request_known : (known : List (Signed Body)) (j k : ℕ) (u : Update) (x : Signed PoRequest) → first_of_list (filter_map (request_of j k u) known) ≡ Some x → IsIn (as_frame body.PoRequest x) known
+pub request_known : (known : List (Signed Body)) (j k : ℕ) (u : Update) (x : Signed PoRequest) →
+    first_of_list (filter_map (request_of j k u) known) ≡ Some x → IsIn (as_frame body.PoRequest x) known
 request_known known j k u x e =
     let word = in_filter_map_from (request_of j k u) known (first_in (filter_map (request_of j k u) known) e) in
-    word_known known word.0 (as_frame body.PoRequest x) (request_from j k u word.0.signer word.0.body word.0.sig x word.2) word.1
+    word_known known word.0 (as_frame body.PoRequest x)
+    (request-from j k u word.0.signer word.0.body word.0.sig x word.2) word.1
 
-ack_from : (j k : ℕ) (digest : List ℕ) (m signer : ℕ) (b : Body) (sig : List ℕ) (x : Signed PoAck) → ack_of j k digest m record { signer = signer; body = b; sig = sig } ≡ Some x → record { signer = signer; body = b; sig = sig } ≡ as_frame body.PoAck x
-ack_from j k digest m signer (body.PoAck b) sig x e = ap (as_frame body.PoAck) (if_some _ e).1
-ack_from j k digest m signer _ sig x e = absurd (none_some e)
-
-pub acks_known : (g : Group) (known : List (Signed Body)) (j k : ℕ) (digest : List ℕ) → AreKnown body.PoAck known (quorum_of_acks g known j k digest)
+pub acks_known : (g : Group) (known : List (Signed Body)) (j k : ℕ) (digest : List ℕ) →
+    AreKnown body.PoAck known (quorum_of_acks g known j k digest)
 acks_known g known j k digest f h =
-    let master = in_filter_map_from (λ m. first_of_list (filter_map (ack_of j k digest m) known)) (numbers_below g.n) (in_take g.q _ h) in
-    let word = in_filter_map_from (ack_of j k digest master.0) known (first_in (filter_map (ack_of j k digest master.0) known) master.2) in
-    word_known known word.0 (as_frame body.PoAck f) (ack_from j k digest master.0 word.0.signer word.0.body word.0.sig f word.2) word.1
+    let master = in_filter_map_from (λ m. first_of_list (filter_map (ack_of j k digest m) known))
+    (numbers_below g.n) (in_take g.q _ h) in
+    let word = in_filter_map_from (ack_of j k digest master.0) known
+    (first_in (filter_map (ack_of j k digest master.0) known) master.2) in
+    word_known known word.0 (as_frame body.PoAck f)
+    (ack-from j k digest master.0 word.0.signer word.0.body word.0.sig f word.2) word.1
 
--- a certificate
-one_of : {X : Type 0} (xs : List X) → 1 ≤ length xs → (x : X) × IsIn x xs
-one_of [] some = absurd (omega arith)
-one_of (x ∷ xs) some = (x, here xs)
-
-voted_one : {X : Type 0} (g : Group) (vote : ℕ → OrderFact → Option X) (facts : List OrderFact) → 1 ≤ g.q → is_voted g vote facts ≡ true → (x : X) × IsIn x (first_votes g vote facts)
-unfolding is_voted
-voted_one g vote facts some voted =
-    let enough : g.q ≤ length (first_votes g vote facts) = leb-true g.q (length (first_votes g vote facts)) voted in
-    one_of (first_votes g vote facts) (omega arith)
-
-prepared_small : (g : Group) → 1 ≤ g.q → (known : List (Signed Body)) → Each IsFit known → (v s : ℕ) (rows : List (List ℕ)) → prepared g (facts_of g known) v s ≡ Some rows → Is64 s
+prepared_small : (g : Group) → 1 ≤ g.q → (known : List (Signed Body)) → Each IsFit known →
+    (v s : ℕ) (rows : List (List ℕ)) → prepared g (facts_of g known) v s ≡ Some rows → Is64 s
 unfolding prepared
 prepared_small g some known fit v s rows e =
-    let met = first_met_from (λ beginning. find (λ rows. is_voted g (prepare_by v s (digest_of_rows rows)) beginning) (rows_known beginning)) [] (facts_of g known) e in
+    let met = first_met_from (λ beginning. find (λ rows. is_voted g (prepare_by v s (digest_of_rows rows)) beginning)
+    (rows_known beginning)) [] (facts_of g known) e in
     let found = find_some (λ rows. is_voted g (prepare_by v s (digest_of_rows rows)) met.0) (rows_known met.0) met.2 in
     let one = voted_one g (prepare_by v s (digest_of_rows rows)) met.0 some found.1 in
     let vote = vote_from g (prepare_by v s (digest_of_rows rows)) met.0 one.0 one.1 in
     let is = prepare_by_from v s (digest_of_rows rows) vote.0 vote.1 one.0 vote.4 in
-    let word = fact_from g known (fact.Prepare one.0) (subst (λ (x : OrderFact). IsIn x (facts_of g known)) is.0 (met.1 vote.1 vote.3)) in
-    let part = fit (as_frame body.Prepare one.0) (word_known known word.0 (as_frame body.Prepare one.0) word.2 word.1) in
+    let word = fact_from g known (fact.Prepare one.0)
+    (subst (λ (x : OrderFact). IsIn x (facts_of g known)) is.0 (met.1 vote.1 vote.3)) in
+    let part = fit (as_frame body.Prepare one.0)
+    (word_known known word.0 (as_frame body.Prepare one.0) word.2 word.1) in
     subst Is64 is.3 part.1.1.0
 
 -- its number is within its field, and its prepares are known
 abbrev pub IsCertificate : List (Signed Body) → Certificate → Type 0
 IsCertificate known c = Is64 c.s × AreKnown body.Prepare known c.prepares
 
-pub certificate_is : (g : Group) → 1 ≤ g.q → (known : List (Signed Body)) → Each IsFit known → (item : Item) (c : Certificate) → certificate_known g (facts_of g known) item ≡ Some c → IsCertificate known c
+pub certificate_is : (g : Group) → 1 ≤ g.q → (known : List (Signed Body)) → Each IsFit known →
+    (item : Item) (c : Certificate) → certificate_known g (facts_of g known) item ≡ Some c → IsCertificate known c
 certificate_is g some known fit item c e =
-    let made = option_map_from (certificate_of g (facts_of g known) item.s item.v) (prepared g (facts_of g known) item.v item.s) e in
-    subst (λ (d : Certificate). IsCertificate known d) made.2
-    (prepared_small g some known fit item.v item.s made.0 made.1, prepares_known g known item.v item.s (digest_of_rows made.0))
+    let made = option_map_from (certificate_of g (facts_of g known) item.s item.v)
+    (prepared g (facts_of g known) item.v item.s) e in
+    subst (λ (d : Certificate). IsCertificate known d) made.2 (
+      prepared_small g some known fit item.v item.s made.0 made.1,
+      prepares_known g known item.v item.s (digest_of_rows made.0),
+    )

@@ -10,9 +10,11 @@ use Rattle.kept_lists.specs.State.{KeptState}
 -- The master's first word from a place on stands at this one.
 pub record IsNextWord (words : List Saying) (from master place : ℕ) : Type 0 where
   pub below : place < length words
-  pub first : (s : Saying) → s ≡ slice_index_or words place s → own_words master (drop from words) ≡ s ∷ own_words master (drop (place + 1) words)
+  pub first : (s : Saying) → s ≡ slice_index_or words place s → own_words master (drop from words) ≡ s
+      ∷ own_words master (drop (place + 1) words)
 
 -- A master that said a word has an entry more, and else stands as it did.
 abbrev pub HasCried : KeptState → ℕ → Word → Option (List ℕ) → KeptState → Type 0
 HasCried old stamp word None new = Unit {0}
-HasCried old stamp word (Some bytes) new = (new.bench ≡ with_entry (after_word old.bench word) stamp (Cry bytes)) × (new.is_spent ≡ false)
+HasCried old stamp word (Some bytes) new = (new.bench ≡ with_entry (after_word old.bench word) stamp (Cry bytes))
+    × (new.is_spent ≡ false)

@@ -22,16 +22,19 @@ pub record IsPlayed (g : Given) (history : List Entry) : Type 0 where
 -- what a script and words define is legal and short
 abbrev pub PlayedIsLegal : Type 0
 PlayedIsLegal =
-    (g : Given) (lines : List Line) (history : List Entry) → IsScenario g.scenario → are_lines_of g.scenario lines ≡ true
+    (g : Given) (lines : List Line) (history : List Entry) → IsScenario g.scenario →
+    are_lines_of g.scenario lines ≡ true
     → are_sayings_of g.scenario g.sayings ≡ true → played g lines ≡ Ok history → IsPlayed g history
 
 -- no word of raw bytes is said
 abbrev pub AreNotRaw : List Saying → Type 0
 AreNotRaw sayings = list_all (λ s. not (is_raw s.word)) sayings ≡ true
 
--- Without raw words no word in it is forged: what an intruded master puts into its frames under another's name is what it
--- knows, and so what that one said.
+-- Without raw words no word in it is forged: what an intruded master puts into its frames under another's name is what
+-- it knows, and so what that one said.
 abbrev pub PlayedIsUnforged : Type 0
 PlayedIsUnforged =
-    (g : Given) (lines : List Line) (history : List Entry) → IsScenario g.scenario → are_lines_of g.scenario lines ≡ true
-    → are_sayings_of g.scenario g.sayings ≡ true → AreNotRaw g.sayings → played g lines ≡ Ok history → forged (setup_of g.scenario) history ≡ 0
+    (g : Given) (lines : List Line) (history : List Entry) → IsScenario g.scenario →
+    are_lines_of g.scenario lines ≡ true
+    → are_sayings_of g.scenario g.sayings ≡ true → AreNotRaw g.sayings → played g lines ≡ Ok history →
+    forged (setup_of g.scenario) history ≡ 0

@@ -1,12 +1,13 @@
 -- Frames on their way: what is posted of an entry, and to whom. (This project's own.)
-use Rattle.std.specs.Prelude.{ℕ, suc, ◌^◌, ◌-◌, Bool, ◌&&◌, List, [], ◌∷◌, ◌++◌, Option, Some, None, map, filter, nat_eq, nat_lt, slice_get, if◌then◌else◌}
+use Rattle.std.specs.Prelude.{ℕ, suc, ◌^◌, ◌-◌, Bool, ◌&&◌, List, [], ◌∷◌, ◌++◌, Option, Some, None, map, filter}
+use Rattle.std.specs.Prelude.{nat_eq, nat_lt, slice_get, if◌then◌else◌}
 use Rattle.std.specs.List.{flat_map}
 use Rattle.message_types.specs.declared.signed.Signed.{Signed}
 use Rattle.message_types.specs.declared.body.Body.{Body}
 use Rattle.history_rules.specs.Events.{Event, Took}
 use Rattle.history_rules.specs.Setup.{Setup, stands}
 use Rattle.world_rules.specs.Frames.{addressees}
-use Rattle.intruder_words.specs.Naming.{kind_number}
+use Rattle.message_types.specs.Kinds.{kind_number}
 use Rattle.play_words.specs.declared.words.Ref.{Ref}
 use Rattle.script_plays.specs.declared.mail.Held.{Held}
 use Rattle.script_plays.specs.declared.mail.Post.{Post}
@@ -14,16 +15,19 @@ use Rattle.script_plays.specs.declared.mail.Delivery.{Delivery}
 
 -- The frame as an event can take it: none where it doesn't stand. An event's place is a number of 32 bits.
 unfoldable pub held_at : Setup → ℕ → ℕ → Signed Body → Option Held
-held_at w stamp place f = if nat_lt place (2 ^ 32) && stands w f then Some (record { stamp = stamp; place = place; frame = f }) else None
+held_at w stamp place f = if nat_lt place (2 ^ 32)
+    && stands w f then Some (record { stamp = stamp; place = place; frame = f }) else None
 
 -- a frame that an actor said as body `place` of its entry with that stamp, posted to these
 abbrev pub post_to : List ℕ → Setup → ℕ → ℕ → ℕ → Signed Body → Post
-post_to to w from stamp place f = record { from = from; kind = kind_number f.body; to = to; held = held_at w stamp place f }
+post_to to w from stamp place f =
+    record { from = from; kind = kind_number f.body; to = to; held = held_at w stamp place f }
 
 -- a correct actor's frames of one entry, each posted to the addressees of its body
 abbrev pub posts_from : Setup → ℕ → ℕ → ℕ → List (Signed Body) → List Post
 posts_from w from stamp place [] = []
-posts_from w from stamp place (f ∷ rest) = post_to (addressees w.group from f.body) w from stamp place f ∷ posts_from w from stamp (suc place) rest
+posts_from w from stamp place (f ∷ rest) = post_to (addressees w.group from f.body) w from stamp place f
+    ∷ posts_from w from stamp (suc place) rest
 
 -- the deliveries of a posted frame: one to each whom it is posted to, none of a frame that can't be taken
 abbrev pub sent_held : ℕ → List ℕ → Option Held → List Delivery

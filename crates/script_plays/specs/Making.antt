@@ -1,5 +1,6 @@
 -- The one history that a script and words define: a step for each line. (This project's own.)
-use Rattle.std.specs.Prelude.{ℕ, zero, suc, Bool, true, false, ◌||◌, not, List, [], ◌∷◌, ◌++◌, Option, Some, None, Result, Ok, Err, length, map, filter, take, nat_eq, nat_le, slice_get, if◌then◌else◌}
+use Rattle.std.specs.Prelude.{ℕ, zero, suc, Bool, true, false, ◌||◌, not, List, [], ◌∷◌, ◌++◌, Option, Some, None}
+use Rattle.std.specs.Prelude.{Result, Ok, Err, length, map, filter, take, nat_eq, nat_le, slice_get, if◌then◌else◌}
 use Rattle.std.specs.List.{flat_map, list_any}
 use Rattle.message_types.specs.declared.signed.Signed.{Signed}
 use Rattle.message_types.specs.declared.body.Body.{Body}
@@ -25,8 +26,8 @@ use Rattle.script_lines.specs.Given.{own_words}
 use Rattle.script_plays.specs.declared.mail.Held.{Held}
 use Rattle.script_plays.specs.declared.mail.Post.{Post}
 use Rattle.script_plays.specs.declared.mail.Delivery.{Delivery}
-use Rattle.script_plays.specs.declared.answer.Stop.{Stop}
-use Rattle.script_plays.specs.declared.answer.Stop.TheVariants as stop
+use Rattle.script_plays.specs.declared.answer.StepRefusal.{StepRefusal}
+use Rattle.script_plays.specs.declared.answer.StepRefusal.TheVariants as stop
 use Rattle.script_laws.specs.Accepted.{actors_in}
 use Rattle.script_plays.specs.Mail.{post_to, posts_from, sent, post_named, taking}
 
@@ -35,8 +36,8 @@ pub record Given : Type 0 where
   pub scenario : Contents
   pub sayings : List Saying
 
--- A history in the making: its entries, all frames that were posted, each once, what is on its way in order of post, and
--- which actors are lost.
+-- A history in the making: its entries, all frames that were posted, each once, what is on its way in order of post,
+-- and which actors are lost.
 pub record Making : Type 0 where
   pub history : List Entry
   pub posts : List Post
@@ -45,7 +46,7 @@ pub record Making : Type 0 where
 
 -- how a step ends: with a history in the making, or with why the play stops
 abbrev pub Going : Type 0
-Going = Result Making Stop
+Going = Result Making StepRefusal
 
 -- a step, and if it stops nothing else, then another
 abbrev pub then_goes : Going → (Making → Going) → Going
@@ -67,7 +68,8 @@ is_raw _ = false
 
 -- how many of them it signed
 abbrev pub words_signed : List Saying → ℕ → List Entry → ℕ
-words_signed sayings actor list = length (filter (λ s. not (is_raw s.word)) (take (words_said list) (own_words actor sayings)))
+words_signed sayings actor list =
+    length (filter (λ s. not (is_raw s.word)) (take (words_said list) (own_words actor sayings)))
 
 -- the actor as it is after the history
 unfoldable pub bench_at : Given → List Entry → ℕ → BenchState
@@ -212,12 +214,13 @@ goes g (step.Cry master times) m = times_over times (cries g master) m
 goes g (step.Restart actor) m = does g actor Restart m
 
 -- a line's step and then the lines after it; where it stops, the number of the line and why
-abbrev pub then_plays : ℕ → Going → (Making → Result (List Entry) (ℕ × Stop)) → Result (List Entry) (ℕ × Stop)
+abbrev pub then_plays : ℕ → Going → (Making → Result (List Entry) (ℕ × StepRefusal)) →
+    Result (List Entry) (ℕ × StepRefusal)
 then_plays number (Ok m) f = f m
 then_plays number (Err why) f = Err (number, why)
 
 -- the history of the lines, or the number of the line at which the play stops, and why
-unfoldable pub played_from : Given → List Line → Making → Result (List Entry) (ℕ × Stop)
+unfoldable pub played_from : Given → List Line → Making → Result (List Entry) (ℕ × StepRefusal)
 played_from g [] m = Ok m.history
 played_from g (line ∷ rest) m = then_plays line.number (goes g line.step m) (played_from g rest)
 
@@ -226,5 +229,5 @@ abbrev pub beginning : Making
 beginning = record { history = []; posts = []; waiting = []; lost = [] }
 
 -- the history of a script, from the beginning
-unfoldable pub played : Given → List Line → Result (List Entry) (ℕ × Stop)
+unfoldable pub played : Given → List Line → Result (List Entry) (ℕ × StepRefusal)
 played g lines = played_from g lines beginning

@@ -1,5 +1,6 @@
 -- When a play at work stands where a history in the making does. (This project's own.)
-use Rattle.std.specs.Prelude.{◌≡◌, ℕ, ◌+◌, ◌*◌, ◌<◌, ◌≤◌, Bool, true, false, ◌&&◌, not, List, [], ◌∷◌, ◌++◌, Option, Some, None, Result, Ok, Err, drop, length, map, nat_lt, slice_index_or, if◌then◌else◌}
+use Rattle.std.specs.Prelude.{◌≡◌, ℕ, ◌+◌, ◌*◌, ◌<◌, ◌≤◌, Bool, true, false, ◌&&◌, not, List, [], ◌∷◌, ◌++◌, Option}
+use Rattle.std.specs.Prelude.{Some, None, Result, Ok, Err, drop, length, map, nat_lt, slice_index_or, if◌then◌else◌}
 use Rattle.std.specs.List.{list_all, flat_map}
 use Rattle.std.specs.declared.vec.Vec.{Vec}
 use Rattle.std.specs.declared.alloc.Global.{Global}
@@ -18,8 +19,8 @@ use Rattle.script_lines.specs.declared.saying.Saying.{Saying}
 use Rattle.script_lines.specs.Given.{own_words}
 use Rattle.script_plays.specs.declared.answer.PlayAnswer.{PlayAnswer}
 use Rattle.script_plays.specs.declared.answer.PlayAnswer.TheVariants as answer
-use Rattle.script_plays.specs.declared.answer.Stop.{Stop}
-use Rattle.script_plays.specs.declared.answer.Stop.TheVariants as stop
+use Rattle.script_plays.specs.declared.answer.StepRefusal.{StepRefusal}
+use Rattle.script_plays.specs.declared.answer.StepRefusal.TheVariants as stop
 use Rattle.script_plays.specs.declared.mail.Held.{Held}
 use Rattle.script_plays.specs.declared.mail.Post.{Post}
 use Rattle.script_plays.specs.declared.mail.Delivery.{Delivery}
@@ -41,7 +42,8 @@ slots_of slots = map (λ v. v.items) slots
 -- Each slot of so many actors has the frames posted.
 pub record AreSlots (actors : ℕ) (posts : List Post) (slots : List (List (Option Held))) : Type 0 where
   pub all : length slots ≡ 22 * actors
-  pub each : (actor kind : ℕ) → actor < actors → kind < 22 → slice_index_or slots (slot_at actor kind) [] ≡ posted_by actor kind posts
+  pub each : (actor kind : ℕ) → actor < actors → kind < 22 →
+      slice_index_or slots (slot_at actor kind) [] ≡ posted_by actor kind posts
 
 -- What was posted, and what is on its way.
 pub record IsMail (actors : ℕ) (posts : List Post) (deliveries : List Delivery) (mail : Mail) : Type 0 where
@@ -79,8 +81,8 @@ is_posted_well w now (Some h) = is_held_well w now h
 abbrev pub is_due : Contents → ℕ → Delivery → Bool
 is_due c now d = is_there c d.to && is_held_well (setup_of c) now d.held
 
--- What holds of each history in the making: it is legal and no longer than a play can be, each frame that can be taken stands
--- and was said before, and each delivery is to an actor that is there.
+-- What holds of each history in the making: it is legal and no longer than a play can be, each frame that can be taken
+-- stands and was said before, and each delivery is to an actor that is there.
 pub record IsSound (c : Contents) (m : Making) : Type 0 where
   pub legal : IsLegal (setup_of c) m.history
   pub short : length m.history ≤ most_entries
@@ -94,18 +96,21 @@ pub record IsKeptAt (g : Given) (history : List Entry) (actor : ℕ) (kept : Kep
 
 -- The master's next word is looked for from a place in the list of all words.
 abbrev pub IsSaidTo : Given → List Entry → ℕ → ℕ → Type 0
-IsSaidTo g history master place = own_words master (drop place g.sayings) ≡ drop (words_said (own history master)) (own_words master g.sayings)
+IsSaidTo g history master place = own_words master (drop place g.sayings) ≡ drop (words_said (own history master))
+    (own_words master g.sayings)
 
 -- A play at work stands where a history in the making does.
 pub record IsMaking (g : Given) (m : Making) (p : Playing) : Type 0 where
   pub sound : IsSound g.scenario m
   pub many : length p.kept.items ≡ actors_in g.scenario
-  pub kept : (actor : ℕ) (k : KeptState) → actor < actors_in g.scenario → k ≡ slice_index_or p.kept.items actor k → IsKeptAt g m.history actor k
+  pub kept : (actor : ℕ) (k : KeptState) → actor < actors_in g.scenario → k ≡ slice_index_or p.kept.items actor k →
+      IsKeptAt g m.history actor k
   pub entries : p.entries ≡ length m.history
   pub mail : IsMail (actors_in g.scenario) m.posts m.waiting p.mail
   pub lost : p.lost.items ≡ m.lost
   pub speakers : length p.said.items ≡ actors_in g.scenario
-  pub said : (actor : ℕ) → actor < actors_in g.scenario → IsSaidTo g m.history actor (slice_index_or p.said.items actor 0)
+  pub said : (actor : ℕ) → actor < actors_in g.scenario →
+      IsSaidTo g m.history actor (slice_index_or p.said.items actor 0)
 
 -- It stands where some history does.
 pub record IsPlaying (g : Given) (p : Playing) : Type 0 where
@@ -113,7 +118,7 @@ pub record IsPlaying (g : Given) (p : Playing) : Type 0 where
   pub is : IsMaking g making p
 
 -- A step was done as it is defined, or wasn't for the cause that is defined, or for want of memory.
-abbrev pub Goes : {A : Type 0} → Given → Result A Stop → Going → Playing → Type 0
+abbrev pub Goes : {A : Type 0} → Given → Result A StepRefusal → Going → Playing → Type 0
 Goes g (Ok done) going p = (m : Making) × (going ≡ Ok m) × IsMaking g m p
 Goes g (Err stop.Want) going p = Unit {0}
 Goes g (Err why) going p = going ≡ Err why
@@ -123,7 +128,7 @@ abbrev pub AreNew : Contents → List KeptState → Type 0
 AreNew c kept = kept ≡ map (first_state c) (numbers_below (actors_in c))
 
 -- the event that takes the frame that was named, if that can be taken
-abbrev pub FoundAs : Result (Option Happening) Stop → Option (Option Held) → Type 0
+abbrev pub FoundAs : Result (Option Happening) StepRefusal → Option (Option Held) → Type 0
 FoundAs (Ok None) named = named ≡ Some None
 FoundAs (Ok (Some event)) named = (held : Held) × (named ≡ Some (Some held)) × (event_of event ≡ taking held)
 FoundAs (Err stop.NoFrame) named = named ≡ None
@@ -131,7 +136,7 @@ FoundAs (Err stop.TooMany) named = ⊥
 FoundAs (Err stop.Want) named = Unit {0}
 
 -- what a play answers that stops at a line
-abbrev pub answer_at : ℕ → Stop → PlayAnswer
+abbrev pub answer_at : ℕ → StepRefusal → PlayAnswer
 answer_at line stop.NoFrame = answer.NoFrame line
 answer_at line stop.TooMany = answer.TooMany line
 answer_at line stop.Want = answer.Want
@@ -139,20 +144,23 @@ answer_at line stop.Want = answer.Want
 -- a line was done as it is defined, or the play stops at it
 abbrev pub GoesAt : Given → ℕ → Result (Unit {0}) PlayAnswer → Going → Playing → Type 0
 GoesAt g line (Ok done) going p = (m : Making) × (going ≡ Ok m) × IsMaking g m p
-GoesAt g line (Err answered) going p = (why : Stop) × (answered ≡ answer_at line why) × Goes {A = Unit {0}} g (Err why) going p
+GoesAt g line (Err answered) going p = (why : StepRefusal) × (answered ≡ answer_at line why)
+    × Goes {A = Unit {0}} g (Err why) going p
 
 -- the actors of a play, as they are after a history
 abbrev pub ArePlayed : Given → List Entry → List KeptState → Type 0
 ArePlayed g history kept =
-    (map (λ k. k.bench) kept ≡ map (bench_at g history) (numbers_below (actors_in g.scenario))) × (list_all (λ k. not k.is_spent) kept ≡ true)
+    (map (λ k. k.bench) kept ≡ map (bench_at g history) (numbers_below (actors_in g.scenario)))
+    × (list_all (λ k. not k.is_spent) kept ≡ true)
 
 -- a play at work stands where the history has come to
 abbrev pub PlaysTo : Given → Playing → Unit {0} → List Entry → Type 0
 PlaysTo g p done history = (m : Making) × (m.history ≡ history) × IsMaking g m p
 
--- The answer of a play is the history that is defined, as its actors' lists, or the line at which it stops, and why; or want
--- of memory.
-abbrev pub Plays : {A : Type 0} → (A → List Entry → Type 0) → Result A PlayAnswer → Result (List Entry) (ℕ × Stop) → Type 0
+-- The answer of a play is the history that is defined, as its actors' lists, or the line at which it stops, and why; or
+-- want of memory.
+abbrev pub Plays : {A : Type 0} → (A → List Entry → Type 0) → Result A PlayAnswer →
+    Result (List Entry) (ℕ × StepRefusal) → Type 0
 Plays Shows (Ok kept) played = (history : List Entry) × (played ≡ Ok history) × Shows kept history
 Plays Shows (Err (answer.NoFrame line)) played = played ≡ Err (line, stop.NoFrame)
 Plays Shows (Err (answer.TooMany line)) played = played ≡ Err (line, stop.TooMany)

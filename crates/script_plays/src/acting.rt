@@ -13,7 +13,7 @@ ghost use Rattle.script_laws.specs.Accepted.{may_do};
 ghost use Rattle.script_plays.specs.Making.{Making, is_cry, has_halted, most_entries, stamp_said, after, does};
 ghost use Rattle.script_plays.specs.Playing.{IsWorld, given_in, IsMaking, IsPlaying, Goes};
 
-use crate::answer::Stop;
+use crate::answer::StepRefusal;
 use crate::playing::{Playing, World};
 use crate::posting::posts_of;
 use kept_lists::Kept;
@@ -91,7 +91,7 @@ pub(crate) fn does(
     playing: &mut Playing,
     actor: u32,
     event: Event,
-) -> Result<(), Stop>
+) -> Result<(), StepRefusal>
     requires world { IsWorld world.now }
     requires playing { IsPlaying (given_in world.now) playing.old }
     requires role { may_do (contents world.now.scenario.now) actor (event_of event) ≡ true }
@@ -104,7 +104,7 @@ pub(crate) fn does(
         return Ok(());
     }
     if playing.entries >= MOST_ENTRIES {
-        return Err(Stop::TooMany);
+        return Err(StepRefusal::TooMany);
     }
     Ok(act(world, playing, actor, event)?)
 }

@@ -30,32 +30,32 @@ impl From<Want> for PlayAnswer {
 
 /// Why a line isn't played.
 #[derive(Clone, Copy, Debug, PartialEq, Eq)]
-pub enum Stop {
+pub enum StepRefusal {
     NoFrame,
     TooMany,
     Want,
 }
 
-impl From<Want> for Stop {
+impl From<Want> for StepRefusal {
     ghost use Rattle.std.specs.Prelude.{◌≡◌};
-    ghost use Rattle.script_plays.specs.declared.answer.Stop.TheVariants.{Want as WantStop};
+    ghost use Rattle.script_plays.specs.declared.answer.StepRefusal.TheVariants.{Want as WantStop};
 
     ghost from_gives = { λ _ stop. stop ≡ WantStop };
 
-    fn from(_refused: Want) -> Stop {
-        Stop::Want
+    fn from(_refused: Want) -> StepRefusal {
+        StepRefusal::Want
     }
 }
 
-impl Stop {
+impl StepRefusal {
     /// The answer of a play that stops at the line of that number.
     pub(crate) fn at(self, line: u64) -> PlayAnswer
         ensures { result ≡ answer_at line self }
     {
         match self {
-            Stop::NoFrame => PlayAnswer::NoFrame { line },
-            Stop::TooMany => PlayAnswer::TooMany { line },
-            Stop::Want => PlayAnswer::Want,
+            StepRefusal::NoFrame => PlayAnswer::NoFrame { line },
+            StepRefusal::TooMany => PlayAnswer::TooMany { line },
+            StepRefusal::Want => PlayAnswer::Want,
         }
     }
 }

@@ -15,7 +15,7 @@ ghost use Rattle.script_plays.specs.Playing.{IsWorld, given_in, IsMaking, IsPlay
 ghost use Rattle.script_plays.specs.Crying.{IsNextWord, HasCried};
 
 use crate::acting::MOST_ENTRIES;
-use crate::answer::Stop;
+use crate::answer::StepRefusal;
 use crate::playing::{Playing, World};
 use crate::posting::cried_posts;
 use kept_lists::Kept;
@@ -74,7 +74,12 @@ fn cry_word(
 }
 
 /// A master's word at this place of the list of all words, where there is room for an entry.
-fn say(world: &World<'_>, playing: &mut Playing, master: u32, place: usize) -> Result<(), Stop>
+fn say(
+    world: &World<'_>,
+    playing: &mut Playing,
+    master: u32,
+    place: usize,
+) -> Result<(), StepRefusal>
     requires world { IsWorld world.now }
     requires playing { IsPlaying (given_in world.now) playing.old }
     requires master { is_intruded (contents world.now.scenario.now) master ≡ true }
@@ -87,7 +92,7 @@ fn say(world: &World<'_>, playing: &mut Playing, master: u32, place: usize) -> R
     let stamp = playing.entries;
     let kept = &mut playing.kept[master as usize];
     let Some(bytes) = cry_word(world, kept, stamp, &saying.word)? else {
-        return Err(Stop::NoFrame);
+        return Err(StepRefusal::NoFrame);
     };
     let posts = cried_posts(world, master, saying.to.as_slice(), stamp, bytes.as_slice())?;
     playing.mail.post(&posts, true)?;
@@ -97,7 +102,7 @@ fn say(world: &World<'_>, playing: &mut Playing, master: u32, place: usize) -> R
 }
 
 /// A master's next word.
-fn cry(world: &World<'_>, playing: &mut Playing, master: u32) -> Result<(), Stop>
+fn cry(world: &World<'_>, playing: &mut Playing, master: u32) -> Result<(), StepRefusal>
     requires world { IsWorld world.now }
     requires playing { IsPlaying (given_in world.now) playing.old }
     requires master { is_intruded (contents world.now.scenario.now) master ≡ true }
@@ -106,10 +111,10 @@ fn cry(world: &World<'_>, playing: &mut Playing, master: u32) -> Result<(), Stop
 {
     let from = playing.said[master as usize];
     let Some(place) = next_word(world.words, from, master) else {
-        return Err(Stop::NoFrame);
+        return Err(StepRefusal::NoFrame);
     };
     if playing.entries >= MOST_ENTRIES {
-        return Err(Stop::TooMany);
+        return Err(StepRefusal::TooMany);
     }
     say(world, playing, master, place)
 }
@@ -120,7 +125,7 @@ pub(crate) fn cry_times(
     playing: &mut Playing,
     master: u32,
     times: u64,
-) -> Result<(), Stop>
+) -> Result<(), StepRefusal>
     requires world { IsWorld world.now }
     requires playing { IsPlaying (given_in world.now) playing.old }
     requires master { is_intruded (contents world.now.scenario.now) master ≡ true }

@@ -13,10 +13,11 @@ ghost use Rattle.world_history.specs.Roles.{is_want as is_want_of_form, optional
 ghost use Rattle.script_plays.specs.Posting.{is_want};
 ghost use Rattle.script_plays.specs.Playing.{IsWorld};
 
-use crate::addressing::{addressees, kind_of};
+use crate::addressing::addressees;
 use crate::mail::{Held, Post};
 use crate::playing::World;
 use checked_frames::{CheckRefusal, Checked, check};
+use intruder_words::kind_of;
 use message_forms::{FormRefusal, read_frame};
 use message_types::Frame;
 use plain_lists::{Items, Want};

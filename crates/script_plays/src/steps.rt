@@ -11,7 +11,7 @@ ghost use Rattle.script_plays.specs.Making.{Making, times_over, all_tick, delive
 ghost use Rattle.script_plays.specs.Playing.{IsWorld, given_in, IsMaking, IsPlaying, Goes, is_due, FoundAs};
 
 use crate::acting::does;
-use crate::answer::Stop;
+use crate::answer::StepRefusal;
 use crate::crying::cry_times;
 use crate::mail::{Delivery, Held};
 use crate::playing::{Playing, World};
@@ -54,7 +54,7 @@ fn numbers_below(alloc: Global, end: u32) -> Result<Vec<u32>, Want>
 }
 
 /// These tick, one after the other.
-fn all_tick(world: &World<'_>, playing: &mut Playing, actors: &[u32]) -> Result<(), Stop>
+fn all_tick(world: &World<'_>, playing: &mut Playing, actors: &[u32]) -> Result<(), StepRefusal>
     requires world { IsWorld world.now }
     requires playing { IsPlaying (given_in world.now) playing.old }
     requires there { list_all (is_there (contents world.now.scenario.now)) actors.now ≡ true }
@@ -73,7 +73,7 @@ fn tick_times(
     playing: &mut Playing,
     actors: &[u32],
     times: u64,
-) -> Result<(), Stop>
+) -> Result<(), StepRefusal>
     requires world { IsWorld world.now }
     requires playing { IsPlaying (given_in world.now) playing.old }
     requires there { list_all (is_there (contents world.now.scenario.now)) actors.now ≡ true }
@@ -86,7 +86,12 @@ fn tick_times(
     Ok(())
 }
 
-fn tick(world: &World<'_>, playing: &mut Playing, who: Ticking, times: u64) -> Result<(), Stop>
+fn tick(
+    world: &World<'_>,
+    playing: &mut Playing,
+    who: Ticking,
+    times: u64,
+) -> Result<(), StepRefusal>
     requires world { IsWorld world.now }
     requires playing { IsPlaying (given_in world.now) playing.old }
     requires there { are_ticking (contents world.now.scenario.now) who ≡ true }
@@ -122,7 +127,7 @@ fn taking(held: &Held) -> Result<Event, Want>
 }
 
 /// A delivery is taken by its addressee, or thrown away.
-fn deliver(world: &World<'_>, playing: &mut Playing, delivery: &Delivery) -> Result<(), Stop>
+fn deliver(world: &World<'_>, playing: &mut Playing, delivery: &Delivery) -> Result<(), StepRefusal>
     requires world { IsWorld world.now }
     requires playing { IsPlaying (given_in world.now) playing.old }
     requires due { is_due (contents world.now.scenario.now) playing.old.entries delivery.now ≡ true }
@@ -136,7 +141,11 @@ fn deliver(world: &World<'_>, playing: &mut Playing, delivery: &Delivery) -> Res
     does(world, playing, delivery.to, event)
 }
 
-fn deliver_all(world: &World<'_>, playing: &mut Playing, waiting: &[Delivery]) -> Result<(), Stop>
+fn deliver_all(
+    world: &World<'_>,
+    playing: &mut Playing,
+    waiting: &[Delivery],
+) -> Result<(), StepRefusal>
     requires world { IsWorld world.now }
     requires playing { IsPlaying (given_in world.now) playing.old }
     requires due { list_all (is_due (contents world.now.scenario.now) playing.old.entries) waiting.now ≡ true }
@@ -150,7 +159,7 @@ fn deliver_all(world: &World<'_>, playing: &mut Playing, waiting: &[Delivery]) -
 }
 
 /// All that waits is delivered, in order.
-fn round(world: &World<'_>, playing: &mut Playing) -> Result<(), Stop>
+fn round(world: &World<'_>, playing: &mut Playing) -> Result<(), StepRefusal>
     requires world { IsWorld world.now }
     requires playing { IsPlaying (given_in world.now) playing.old }
     ensures { (m : Making) → IsMaking (given_in world.now) m playing.old
@@ -161,7 +170,7 @@ fn round(world: &World<'_>, playing: &mut Playing) -> Result<(), Stop>
     deliver_all(world, playing, &waiting)
 }
 
-fn flow(world: &World<'_>, playing: &mut Playing, rounds: u64) -> Result<(), Stop>
+fn flow(world: &World<'_>, playing: &mut Playing, rounds: u64) -> Result<(), StepRefusal>
     requires world { IsWorld world.now }
     requires playing { IsPlaying (given_in world.now) playing.old }
     ensures { (m : Making) → IsMaking (given_in world.now) m playing.old
@@ -174,18 +183,18 @@ fn flow(world: &World<'_>, playing: &mut Playing, rounds: u64) -> Result<(), Sto
 }
 
 /// The frame that was named, as it can be taken.
-fn found(named: Option<&Option<Held>>) -> Result<Option<Event>, Stop>
+fn found(named: Option<&Option<Held>>) -> Result<Option<Event>, StepRefusal>
     ensures { FoundAs result (option_copied named.entry) }
 {
     match named {
-        None => Err(Stop::NoFrame),
+        None => Err(StepRefusal::NoFrame),
         Some(None) => Ok(None),
         Some(Some(held)) => Ok(Some(taking(held)?)),
     }
 }
 
 /// An actor takes a frame that was posted, whether it is lost or not.
-fn take(world: &World<'_>, playing: &mut Playing, actor: u32, which: Ref) -> Result<(), Stop>
+fn take(world: &World<'_>, playing: &mut Playing, actor: u32, which: Ref) -> Result<(), StepRefusal>
     requires world { IsWorld world.now }
     requires playing { IsPlaying (given_in world.now) playing.old }
     requires there { is_there (contents world.now.scenario.now) actor ≡ true }
@@ -217,7 +226,7 @@ fn lose(lost: &mut Vec<u32>, actor: u32) -> Result<(), Want>
 }
 
 /// What a line does.
-pub(crate) fn goes(world: &World<'_>, playing: &mut Playing, step: Step) -> Result<(), Stop>
+pub(crate) fn goes(world: &World<'_>, playing: &mut Playing, step: Step) -> Result<(), StepRefusal>
     requires world { IsWorld world.now }
     requires playing { IsPlaying (given_in world.now) playing.old }
     requires accepted { is_step_of (contents world.now.scenario.now) step ≡ true }

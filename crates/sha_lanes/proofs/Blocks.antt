@@ -1,5 +1,6 @@
 -- The one block of a chain's step.
-use Rattle.std.proofs.Common.{◌≡◌, ℕ, ◌<◌, ◌+◌, ◌*◌, ◌/◌, ◌%◌, ◌^◌, List, ◌∷◌, ◌++◌, length, slice_index, arith, refl, sym, ap, subst, ◌∙◌, w32, length-append, Fits}
+use Rattle.std.proofs.Common.{◌≡◌, ℕ, ◌<◌, ◌+◌, ◌*◌, ◌/◌, ◌%◌, ◌^◌, List, ◌∷◌, ◌++◌, length, slice_index, arith, refl}
+use Rattle.std.proofs.Common.{sym, ap, subst, ◌∙◌, w32, length-append, Fits}
 use Rattle.std.proofs.lemmas.List.{take_all}
 use Rattle.std.proofs.lemmas.Simd.{Each1-get_or}
 use Rattle.std.proofs.lemmas.Nat.{from_be_bytes-to_be_bytes_4}
@@ -61,8 +62,10 @@ block_is id q c s h =
 pub key_word_is : (id : List ℕ) (q c s : ℕ) (h : List ℕ) (k : ℕ) → k < 5
     → slice_index (key_words id q) k ≡ slice_index (schedule (step_text id q c s h ++ tail) 48) k
 key_word_is id q c s h k lt =
-    below_five (λ n. slice_index (key_words id q) n ≡ slice_index (block_words id q c s h) n) refl refl refl refl refl k lt
-    ∙ block_is id q c s h k (omega arith) ∙ sym (slice_index-schedule_first (step_text id q c s h ++ tail) 48 k (omega arith))
+    below_five (λ n. slice_index (key_words id q) n ≡ slice_index (block_words id q c s h) n)
+    refl refl refl refl refl k lt
+    ∙ block_is id q c s h k (omega arith)
+    ∙ sym (slice_index-schedule_first (step_text id q c s h ++ tail) 48 k (omega arith))
 
 length-text : (id : List ℕ) (q c s : ℕ) (h : List ℕ) → length (step_text id q c s h) ≡ 55
 unfolding digest_bytes

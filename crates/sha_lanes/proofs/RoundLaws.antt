@@ -1,5 +1,6 @@
 -- Rounds one by one, rounds that read the same words, and what lists of words keep of them.
-use Rattle.std.proofs.Common.{◌≡◌, ◌≢◌, ℕ, zero, suc, ◌<◌, ◌≤◌, ◌+◌, ◌-◌, List, [], ◌∷◌, length, slice_index, slice_set, arith, refl, sym, ap, ◌∙◌, inl, inr, get_or-set_same, get_or-set_other}
+use Rattle.std.proofs.Common.{◌≡◌, ◌≢◌, ℕ, zero, suc, ◌<◌, ◌≤◌, ◌+◌, ◌-◌, List, [], ◌∷◌, length, slice_index}
+use Rattle.std.proofs.Common.{slice_set, arith, refl, sym, ap, ◌∙◌, inl, inr, get_or-set_same, get_or-set_other}
 use Rattle.std.proofs.lemmas.Bool.{cases_lt}
 use Rattle.std.proofs.lemmas.List.{length-map, length-set}
 use Rattle.std.specs.Prelude.{slice_index_or}
@@ -14,14 +15,17 @@ pub rounds_more : (h w v : List ℕ) (t k x : ℕ) (next : List ℕ) → v ≡ r
     → x ≡ slice_index w t → next ≡ round v k x → next ≡ rounds h w (t + 1)
 rounds_more h w v t k x next ev ek ex en = rw en (rw (rounds_next h w t, ← ev, ek, ex) refl)
 
-pub rounds-cong : (h w x : List ℕ) (n : ℕ) → ((k : ℕ) → k < n → slice_index w k ≡ slice_index x k) → rounds h w n ≡ rounds h x n
+pub rounds-cong : (h w x : List ℕ) (n : ℕ) → ((k : ℕ) → k < n → slice_index w k ≡ slice_index x k) →
+    rounds h w n ≡ rounds h x n
 unfolding rounds
 rounds-cong h w x zero same = refl
 rounds-cong h w x (suc n) same =
-    ap (λ (v : List ℕ). round v (slice_index round_constants n) (slice_index w n)) (rounds-cong h w x n (λ k lt. same k (omega arith)))
+    ap (λ (v : List ℕ). round v (slice_index round_constants n) (slice_index w n))
+    (rounds-cong h w x n (λ k lt. same k (omega arith)))
     ∙ ap (λ (y : ℕ). round (rounds h x n) (slice_index round_constants n) y) (same n (omega arith))
 
-both_other : (r : List ℕ) (p q i x y : ℕ) → i ≢ p → i ≢ q → slice_index (slice_set (slice_set r q y) p x) i ≡ slice_index r i
+both_other : (r : List ℕ) (p q i x y : ℕ) → i ≢ p → i ≢ q →
+    slice_index (slice_set (slice_set r q y) p x) i ≡ slice_index r i
 both_other r p q i x y not_p not_q = get_or-set_other (slice_set r q y) p i x 0 not_p ∙ get_or-set_other r q i y 0 not_q
 
 -- what a round makes of a and e, put behind what was made of them before
@@ -31,10 +35,12 @@ pub trail_next : (r : List ℕ) (t k w x y : ℕ) → 131 + t < length r
 trail_next r t k w x y inside made_a made_e =
     let v : List ℕ = slice_set (slice_set r (131 + t) y) (68 + t) x in
     let same_e : slice_index v (131 + t) ≡ y =
-    get_or-set_other (slice_set r (131 + t) y) (68 + t) (131 + t) x 0 (omega arith) ∙ get_or-set_same r (131 + t) y 0 inside in
+    get_or-set_other (slice_set r (131 + t) y) (68 + t) (131 + t) x 0 (omega arith)
+    ∙ get_or-set_same r (131 + t) y 0 inside in
     let same_a : slice_index v (68 + t) ≡ x =
     get_or-set_same (slice_set r (131 + t) y) (68 + t) x 0 (omega (arith, length-set r (131 + t) y)) in
-    let kept : (i : ℕ) → i ≢ 68 + t → i ≢ 131 + t → slice_index v i ≡ slice_index r i = λ i. both_other r (68 + t) (131 + t) i x y in
+    let kept : (i : ℕ) → i ≢ 68 + t → i ≢ 131 + t → slice_index v i ≡ slice_index r i =
+    λ i. both_other r (68 + t) (131 + t) i x y in
     let at : (i m : ℕ) → i ≡ m → slice_index v i ≡ slice_index v m = λ i m e. ap (λ (n : ℕ). slice_index v n) e in
     let a1 : slice_index v (67 + (t + 1)) ≡ add32 (temp1 (trail r t) k w) (temp2 (trail r t)) =
     at _ (68 + t) (omega arith) ∙ same_a ∙ made_a in
@@ -65,7 +71,8 @@ pub record Rounding (b h r : List ℕ) (t : ℕ) : Type 0 where
   pub variables : trail r t ≡ rounds h (schedule b 48) (t + 5)
 
 -- the word after those that a list has of a block
-next_word_is : (b w : List ℕ) (t : ℕ) → 16 ≤ t → t < 64 → ((k : ℕ) → k < t → slice_index w k ≡ slice_index (schedule b 48) k)
+next_word_is : (b w : List ℕ) (t : ℕ) → 16 ≤ t → t < 64 →
+    ((k : ℕ) → k < t → slice_index w k ≡ slice_index (schedule b 48) k)
     → next_word w t ≡ slice_index (schedule b 48) t
 next_word_is b w t low high held =
     rw (
@@ -76,7 +83,8 @@ next_word_is b w t low high held =
     )
     (sym (slice_index-schedule_next b 48 t low (omega arith)))
 
-words_more : (b r : List ℕ) (t : ℕ) → 16 ≤ t → t < 64 → 64 ≤ length r → ((k : ℕ) → k < t → slice_index r k ≡ slice_index (schedule b 48) k)
+words_more : (b r : List ℕ) (t : ℕ) → 16 ≤ t → t < 64 → 64 ≤ length r →
+    ((k : ℕ) → k < t → slice_index r k ≡ slice_index (schedule b 48) k)
     → (k : ℕ) → k < t + 1 → slice_index (slice_set r t (next_word r t)) k ≡ slice_index (schedule b 48) k
 words_more b r t low high long held k lt = elim (cases_lt k t) [
   | inl below ↦ get_or-set_other r t k (next_word r t) 0 (omega arith) ∙ held k below
@@ -91,7 +99,8 @@ trail_kept r p x t lt =
     let kept : (i : ℕ) → 64 ≤ i → slice_index (slice_set r p x) i ≡ slice_index r i =
     λ i high. get_or-set_other r p i x 0 (omega arith) in
     λ i.
-    kept (67 + t) (omega arith) i ∷ kept (66 + t) (omega arith) i ∷ kept (65 + t) (omega arith) i ∷ kept (64 + t) (omega arith) i
+    kept (67 + t) (omega arith) i ∷ kept (66 + t) (omega arith) i ∷ kept (65 + t) (omega arith) i
+    ∷ kept (64 + t) (omega arith) i
     ∷ kept (130 + t) (omega arith) i ∷ kept (129 + t) (omega arith) i ∷ kept (128 + t) (omega arith) i
     ∷ kept (127 + t) (omega arith) i ∷ []
 
@@ -108,7 +117,8 @@ variables_more b h r later t held word made =
 -- one word and one round more
 pub rounding_more : (b h r with_word later : List ℕ) (t : ℕ) → t < 48 → 64 ≤ length r → Rounding b h r t
     → with_word ≡ slice_set r (t + 16) (next_word r (t + 16))
-    → trail later (t + 1) ≡ round (trail with_word t) (slice_index round_constants (t + 5)) (slice_index with_word (t + 5))
+    → trail later (t + 1) ≡ round (trail with_word t) (slice_index round_constants (t + 5))
+    (slice_index with_word (t + 5))
     → ((k : ℕ) → k < 64 → slice_index later k ≡ slice_index with_word k)
     → Rounding b h later (t + 1)
 rounding_more b h r with_word later t lt long rounding word made kept =
@@ -127,18 +137,21 @@ abbrev four : List ℕ → ℕ → ℕ → ℕ → ℕ → ℕ → List ℕ
 four r at p q x y = slice_set (slice_set (slice_set (slice_set r (at + 3) p) (at + 2) q) (at + 1) x) at y
 
 module _ (r : List ℕ) (at p q x y : ℕ) where
-  three_kept : (i : ℕ) → i ≢ at → i ≢ at + 1 → i ≢ at + 2 → slice_index (four r at p q x y) i ≡ slice_index (slice_set r (at + 3) p) i
+  three_kept : (i : ℕ) → i ≢ at → i ≢ at + 1 → i ≢ at + 2 →
+      slice_index (four r at p q x y) i ≡ slice_index (slice_set r (at + 3) p) i
   three_kept i not_0 not_1 not_2 =
       get_or-set_other (slice_set (slice_set (slice_set r (at + 3) p) (at + 2) q) (at + 1) x) at i y 0 not_0
       ∙ get_or-set_other (slice_set (slice_set r (at + 3) p) (at + 2) q) (at + 1) i x 0 not_1
       ∙ get_or-set_other (slice_set r (at + 3) p) (at + 2) i q 0 not_2
 
   pub four_below : (k : ℕ) → k < at → slice_index (four r at p q x y) k ≡ slice_index r k
-  four_below k lt = three_kept k (omega arith) (omega arith) (omega arith) ∙ get_or-set_other r (at + 3) k p 0 (omega arith)
+  four_below k lt = three_kept k (omega arith) (omega arith) (omega arith)
+      ∙ get_or-set_other r (at + 3) k p 0 (omega arith)
 
   module _ (inside : at + 4 ≤ length r) where
     pub four_last : slice_index (four r at p q x y) (at + 3) ≡ p
-    four_last = three_kept (at + 3) (omega arith) (omega arith) (omega arith) ∙ get_or-set_same r (at + 3) p 0 (omega arith)
+    four_last = three_kept (at + 3) (omega arith) (omega arith) (omega arith)
+        ∙ get_or-set_same r (at + 3) p 0 (omega arith)
 
     pub four_third : slice_index (four r at p q x y) (at + 2) ≡ q
     four_third =
@@ -165,10 +178,12 @@ module _ (r : List ℕ) (at p q x y : ℕ) where
 -- one word more of a block
 pub word_copied : (r block : List (List ℕ)) (n : ℕ) → n < length r
     → ((j i : ℕ) → i < n → slice_index (column j r) i ≡ slice_index (column j block) i)
-    → (j i : ℕ) → i < n + 1 → slice_index (column j (slice_set r n (slice_index_or block n []))) i ≡ slice_index (column j block) i
+    → (j i : ℕ) → i < n + 1 → slice_index (column j (slice_set r n (slice_index_or block n [])))
+    i ≡ slice_index (column j block) i
 word_copied r block n inside same j i lt =
     let word : List ℕ = slice_index_or block n [] in
-    let set_at : column j (slice_set r n word) ≡ slice_set (column j r) n (slice_index word j) = column-set r n j word in
+    let set_at : column j (slice_set r n word) ≡ slice_set (column j r) n (slice_index word j) =
+    column-set r n j word in
     ap (λ (c : List ℕ). slice_index c i) set_at
     ∙ elim (cases_lt i n) [
       | inl below ↦ get_or-set_other (column j r) n i (slice_index word j) 0 (omega arith) ∙ same j i below

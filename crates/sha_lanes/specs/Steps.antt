@@ -26,7 +26,8 @@ joined_word a b = from_be_bytes w32
 -- the low three bytes of a, and the first of the padding
 unfoldable pub last_word : ℕ → ℕ
 last_word a = from_be_bytes w32
-    (slice_index (to_be_bytes w32 a) 1 ∷ slice_index (to_be_bytes w32 a) 2 ∷ slice_index (to_be_bytes w32 a) 3 ∷ 0x80 ∷ [])
+    (slice_index (to_be_bytes w32 a) 1 ∷ slice_index (to_be_bytes w32 a) 2
+    ∷ slice_index (to_be_bytes w32 a) 3 ∷ 0x80 ∷ [])
 
 -- the words that all steps of a key's chains begin with
 abbrev pub key_words : List ℕ → ℕ → List ℕ

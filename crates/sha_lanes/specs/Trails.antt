@@ -1,5 +1,5 @@
--- What rounds make of a and e, kept from the first to the last (FIPS 180-4, section 6.2.2, step 3: each round hands a on
--- to b, c and d, and e to f, g and h). The places are this project's own.
+-- What rounds make of a and e, kept from the first to the last (FIPS 180-4, section 6.2.2, step 3: each round hands a
+-- on to b, c and d, and e to f, g and h). The places are this project's own.
 use Rattle.std.specs.Prelude.{ℕ, ◌+◌, List, [], ◌∷◌, slice_index}
 
 -- the eight working variables: the last value of a is at place 67 + t, and the last of e at place 130 + t

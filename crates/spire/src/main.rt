@@ -1,7 +1,7 @@
 //! The program: runs the command that its words are, over real files and standard output.
 #![tactic(auto)]
 
-use command_ends::no_words::{NoWords, spire_without_words};
+use command_ends::no_words::{WordsRefusal, spire_without_words};
 use outside::{RealErr, RealFiles, RealOut};
 use std::process::ExitCode;
 use std::{env, io};
@@ -22,14 +22,14 @@ fn main(rt: HostRuntime) -> ExitCode {
 }
 
 // The words after the program's name.
-fn read_words(rt: &HostRuntime) -> Result<Vec<String>, NoWords> {
+fn read_words(rt: &HostRuntime) -> Result<Vec<String>, WordsRefusal> {
     let args = env::args(rt).map_err(|error| match error.kind() {
-        io::ErrorKind::OutOfMemory => NoWords::Want,
-        _ => NoWords::NotText,
+        io::ErrorKind::OutOfMemory => WordsRefusal::Want,
+        _ => WordsRefusal::NotText,
     })?;
     let mut words = Vec::new(rt.alloc());
     for word in args.skip(1) {
-        words.push(word).map_err(|_| NoWords::Want)?;
+        words.push(word).map_err(|_| WordsRefusal::Want)?;
     }
     Ok(words)
 }

@@ -14,7 +14,9 @@ use lib.ListN.{get_elem?}
 word_found : (words : List ℕ) (word found : ℕ) → words ≡ word ∷ [] → get_elem? words 0 ≡ some found → word ≡ found
 word_found words word found is at = some-injective word found (sym (ap (λ (ws : List ℕ). get_elem? ws 0) is) ∙ at)
 
-module _ (seats id found : ℕ) (v : Known) (words : List ℕ) (xs : List ℕ) (last : Final (Seen (λ (s : State ℕ Known). IsKept seats s.words s.views) id v) words xs) (at : get_elem? words 0 ≡ some found) where
+module _ (seats id found : ℕ) (v : Known) (words : List ℕ) (xs : List ℕ)
+    (last : Final (Seen (λ (s : State ℕ Known). IsKept seats s.words s.views) id v) words xs)
+    (at : get_elem? words 0 ≡ some found) where
   abbrev s : State ℕ Known
   s = last.0
 
@@ -39,12 +41,17 @@ module _ (seats id found : ℕ) (v : Known) (words : List ℕ) (xs : List ℕ) (
 
     pub closes_draws : IsEachOnce found v.drawn
     closes_draws = record {
-      once = λ x. sym (sum_of_one (λ u. times x u.drawn) (λ u. length u.numbers) s.views id v seen alone (λ j u there none. omega (arith, times-le-length x u.drawn, h.few j u there, none))) ∙ h.draws x ∙ ap (λ (n : ℕ). once_below n x) is;
-      count = sym (sum_of_one (λ u. length u.drawn) (λ u. length u.numbers) s.views id v seen alone (λ j u there none. omega (arith, h.few j u there, none))) ∙ h.all_draws ∙ is;
+      once = λ x. sym (sum_of_one (λ u. times x u.drawn) (λ u. length u.numbers) s.views id v seen alone
+          (λ j u there none. omega (arith, times-le-length x u.drawn, h.few j u there, none))) ∙ h.draws x
+          ∙ ap (λ (n : ℕ). once_below n x) is;
+      count = sym (sum_of_one (λ u. length u.drawn) (λ u. length u.numbers) s.views id v seen alone
+          (λ j u there none. omega (arith, h.few j u there, none))) ∙ h.all_draws ∙ is;
     }
 
     pub closes_numbers : IsEachOnce v.made v.numbers
     closes_numbers = record {
-      once = λ x. sym (sum_of_one (λ u. times x u.numbers) (λ u. length u.numbers) s.views id v seen alone (λ j u there none. omega (arith, times-le-length x u.numbers, none))) ∙ h.numbers x ∙ ap (λ (n : ℕ). once_below n x) (sym counted);
+      once = λ x. sym (sum_of_one (λ u. times x u.numbers) (λ u. length u.numbers) s.views id v seen alone
+          (λ j u there none. omega (arith, times-le-length x u.numbers, none))) ∙ h.numbers x
+          ∙ ap (λ (n : ℕ). once_below n x) (sym counted);
       count = whole;
     }

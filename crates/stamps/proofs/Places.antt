@@ -1,18 +1,21 @@
 -- What holds of each view at its place, after one of them changed or one more came.
-use Rattle.std.proofs.Common.{◌≡◌, ◌≢◌, ◌⊎◌, ℕ, zero, suc, ◌<◌, List, [], ◌∷◌, ◌++◌, length, set, inl, inr, ⊎_elim, refl, sym, ap, subst, arith}
+use Rattle.std.proofs.Common.{◌≡◌, ◌≢◌, ◌⊎◌, ℕ, zero, suc, ◌<◌, List, [], ◌∷◌, ◌++◌, length, set, inl, inr, ⊎_elim}
+use Rattle.std.proofs.Common.{refl, sym, ap, subst, arith}
 use Rattle.atomic_table.proofs.Lists.{at_set}
 use Rattle.stamps.specs.Steps.{made_at}
 use mathlib.Core.Option.{some, some-ne-none, some-injective}
 use lib.ListN.{get_elem?}
 
 module _ {X : Type 0} where
-  at_more : (xs : List X) (w u : X) (j : ℕ) → get_elem? (xs ++ w ∷ []) j ≡ some u → (get_elem? xs j ≡ some u) ⊎ ((length xs ≡ j) × (w ≡ u))
+  at_more : (xs : List X) (w u : X) (j : ℕ) → get_elem? (xs ++ w ∷ []) j ≡ some u → (get_elem? xs j ≡ some u)
+      ⊎ ((length xs ≡ j) × (w ≡ u))
   at_more [] w u zero at = inr (refl, some-injective w u at)
   at_more [] w u (suc j) at = absurd (some-ne-none u (sym at))
   at_more (x ∷ xs) w u zero at = inl at
   at_more (x ∷ xs) w u (suc j) at = ⊎_elim (λ t. inl t) (λ t. inr (ap suc t.0, t.1)) (at_more xs w u j at)
 
-  pub each_changed : (P : ℕ → X → Type 0) (xs : List X) (i : ℕ) (w : X) → ((j : ℕ) (u : X) → j ≢ i → get_elem? xs j ≡ some u → P j u) → P i w
+  pub each_changed : (P : ℕ → X → Type 0) (xs : List X) (i : ℕ) (w : X) →
+      ((j : ℕ) (u : X) → j ≢ i → get_elem? xs j ≡ some u → P j u) → P i w
       → (j : ℕ) (u : X) → get_elem? (set xs i w) j ≡ some u → P j u
   each_changed P xs i w others mine j u at =
       ⊎_elim
@@ -20,7 +23,8 @@ module _ {X : Type 0} where
       (λ (t : (j ≢ i) × (get_elem? xs j ≡ some u)). others j u t.0 t.1)
       (at_set xs i j w u at)
 
-  pub each_more : (P : ℕ → X → Type 0) (xs : List X) (w : X) → ((j : ℕ) (u : X) → get_elem? xs j ≡ some u → P j u) → P (length xs) w
+  pub each_more : (P : ℕ → X → Type 0) (xs : List X) (w : X) → ((j : ℕ) (u : X) → get_elem? xs j ≡ some u → P j u) →
+      P (length xs) w
       → (j : ℕ) (u : X) → get_elem? (xs ++ w ∷ []) j ≡ some u → P j u
   each_more P xs w others last j u at =
       ⊎_elim

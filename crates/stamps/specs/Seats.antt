@@ -7,8 +7,9 @@ pub record Source : Type 0 where
   pub table : TableId
   pub seats : ℕ
 
--- A seat: the stamps that it is of, its number, how many seats were made (which the first seat alone counts; 0 in another),
--- the numbers of the seats that are in it, its own and those joined to it, and all numbers that these have drawn.
+-- A seat: the stamps that it is of, its number, how many seats were made (which the first seat alone counts; 0 in
+-- another), the numbers of the seats that are in it, its own and those joined to it, and all numbers that these have
+-- drawn.
 pub record Drawer : Type 0 where
   pub of : Source
   pub number : ℕ

@@ -16,8 +16,8 @@ abbrev pub made_at : ℕ → ℕ → ℕ
 made_at count zero = count
 made_at count (suc place) = 0
 
--- Each number below the word was drawn once, by one of the seats. Each number below the count of seats made is that of one
--- seat. A seat drew at most 2^32 numbers for each seat in it, so the word never wraps.
+-- Each number below the word was drawn once, by one of the seats. Each number below the count of seats made is that of
+-- one seat. A seat drew at most 2^32 numbers for each seat in it, so the word never wraps.
 pub record IsKept (seats : ℕ) (words : List ℕ) (views : List Known) : Type 0 where
   pub word : ℕ
   pub count : ℕ
@@ -33,7 +33,8 @@ pub record IsKept (seats : ℕ) (words : List ℕ) (views : List Known) : Type 0
 -- the number found joins the end of the seat's draws, and is above all that stand there
 abbrev pub Drew : Me ℕ Known → ℕ → Me ℕ Known → Type 0
 Drew before found after =
-    (after ≡ (known before.0.made before.0.numbers (before.0.drawn ++ found ∷ []), before.1)) × All (λ x. x < found) before.0.drawn
+    (after ≡ (known before.0.made before.0.numbers (before.0.drawn ++ found ∷ []), before.1))
+    × All (λ x. x < found) before.0.drawn
 
 -- the first seat counts one seat more, whose number is the count before
 abbrev pub one_more : Known → Known

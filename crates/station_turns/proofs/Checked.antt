@@ -1,5 +1,6 @@
 -- What a frame is held as.
-use Rattle.std.proofs.Common.{◌≡◌, ℕ, Bool, true, false, cond, Option, Some, None, Result, Ok, Err, refl, sym, ◌∙◌, ap}
+use Rattle.std.proofs.Common.{◌≡◌, ℕ, Bool, true, false, cond, Option, Some, None, Result, Ok, Err, refl, sym, ◌∙◌}
+use Rattle.std.proofs.Common.{ap}
 use Rattle.std.proofs.lemmas.Bool.{false≢true, false_from_ne_true}
 use Rattle.message_types.specs.declared.signed.Signed.{Signed}
 use Rattle.message_types.specs.declared.body.Body.{Body}
@@ -19,8 +20,10 @@ use Rattle.station_turns.specs.Checking.{is_want, held_where_standing}
 made : Bool → ℕ → ℕ → Signed Body → Option Held
 made well stamp place f = cond well (Some (record { stamp = stamp; place = place; frame = f })) None
 
-pub held_well : (c : Contents) (rg : Ring) (stamp place : ℕ) (f x : Signed Body) → x ≡ f → ring.stands rg f ≡ true → rg ≡ ring_in c
-    → ◌≡◌ {A = Option Held} (Some (record { stamp = stamp; place = place; frame = x })) (held_where_standing (setup_of c) stamp place f)
+pub held_well : (c : Contents) (rg : Ring) (stamp place : ℕ) (f x : Signed Body) → x ≡ f →
+    ring.stands rg f ≡ true → rg ≡ ring_in c
+    → ◌≡◌ {A = Option Held} (Some (record { stamp = stamp; place = place; frame = x }))
+    (held_where_standing (setup_of c) stamp place f)
 unfolding made
 held_well c rg stamp place f x frame stand same =
     ap (λ (y : Signed Body). Some (record { stamp = stamp; place = place; frame = y })) frame
@@ -33,7 +36,8 @@ some_fault (check.Unsigned part) first other fault none = absurd cc
 some_fault (check.Misplaced part) first other fault none = absurd cc
 
 -- a frame that is refused doesn't stand
-pub held_fallen : (c : Contents) (rg : Ring) (stamp place : ℕ) (f : Signed Body) (r : CheckRefusal) → is_want r ≡ false → IsFault r (first_fault rg f) → rg ≡ ring_in c
+pub held_fallen : (c : Contents) (rg : Ring) (stamp place : ℕ) (f : Signed Body) (r : CheckRefusal) →
+    is_want r ≡ false → IsFault r (first_fault rg f) → rg ≡ ring_in c
     → ◌≡◌ {A = Option Held} None (held_where_standing (setup_of c) stamp place f)
 unfolding made
 held_fallen c rg stamp place f r other fault same =
@@ -42,4 +46,5 @@ held_fallen c rg stamp place f r other fault same =
     (stands_faultless rg f (ap (λ (x : Ring). ring.stands x f) same ∙ sym (stands_by_ring c f) ∙ stand)))))
 
 pub same_refusal : (r : Result (Signed Body) CheckRefusal) (a b : CheckRefusal) → r ≡ Err a → r ≡ Err b → a ≡ b
-same_refusal r a b first second = ap (λ (x : Result (Signed Body) CheckRefusal). elim x [ Ok f ↦ a | Err e ↦ e ]) (sym first ∙ second)
+same_refusal r a b first second = ap (λ (x : Result (Signed Body) CheckRefusal). elim x [ Ok f ↦ a | Err e ↦ e ])
+    (sym first ∙ second)

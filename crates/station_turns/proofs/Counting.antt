@@ -1,18 +1,13 @@
 -- What an entry more counts for: turns made, inputs used, words signed.
-use Rattle.std.proofs.Common.{◌≡◌, ℕ, zero, suc, ◌+◌, ◌<◌, Bool, true, false, cond, not, List, [], ◌∷◌, ◌++◌, Option, Some, None, length, filter, take, refl, sym, ◌∙◌, ap, arith}
-use Rattle.std.specs.Prelude.{slice_get}
+use Rattle.std.proofs.Common.{◌≡◌, ℕ, suc, ◌+◌, ◌<◌, Bool, true, false, cond, not, List, [], ◌∷◌, ◌++◌, Option, Some}
+use Rattle.std.proofs.Common.{None, length, filter, take, refl, sym, ◌∙◌, ap, arith}
 use Rattle.std.proofs.lemmas.List.{length-append}
+use Rattle.std.proofs.lemmas.List.Elements.{filter-append}
 use Rattle.play_words.specs.declared.input.Input.{Input}
 use Rattle.history_rules.specs.Events.{Event, Entry}
-use Rattle.station_turns.specs.Pace.{is_skip, is_outside, turns_made, inputs_used, next_input, signs_word, words_signed}
-
-filter_join : {X : Type 0} (f : X → Bool) (xs ys : List X) → filter f (xs ++ ys) ≡ filter f xs ++ filter f ys
-filter_join f [] ys = refl
-filter_join f (x ∷ xs) ys = at (f x) (filter_join f xs ys)
-  where
-    at : (b : Bool) → filter f (xs ++ ys) ≡ filter f xs ++ filter f ys → cond b (x ∷ filter f (xs ++ ys)) (filter f (xs ++ ys)) ≡ cond b (x ∷ filter f xs) (filter f xs) ++ filter f ys
-    at true h = ap (λ zs. x ∷ zs) h
-    at false h = h
+use Rattle.station_turns.specs.Pace.{is_skip, is_outside, turns_made, inputs_used, next_input, signs_word}
+use Rattle.station_turns.specs.Pace.{words_signed}
+use Rattle.plain_lists.proofs.Lists.{take_suc}
 
 count_one : {X : Type 0} (f : X → Bool) (x : X) (b : Bool) → f x ≡ b → length (filter f (x ∷ [])) ≡ cond b 1 0
 count_one f x b is = ap (λ (c : Bool). length (cond c (x ∷ []) [])) is ∙ by b
@@ -21,13 +16,15 @@ count_one f x b is = ap (λ (c : Bool). length (cond c (x ∷ []) [])) is ∙ by
     by true = refl
     by false = refl
 
-count_push : {X : Type 0} (f : X → Bool) (xs : List X) (x : X) (b : Bool) → f x ≡ b → length (filter f (xs ++ x ∷ [])) ≡ length (filter f xs) + cond b 1 0
+count_push : {X : Type 0} (f : X → Bool) (xs : List X) (x : X) (b : Bool) → f x ≡ b →
+    length (filter f (xs ++ x ∷ [])) ≡ length (filter f xs) + cond b 1 0
 count_push f xs x b is =
-    ap length (filter_join f xs (x ∷ []))
+    ap length (filter-append f xs (x ∷ []))
     ∙ length-append (filter f xs) (filter f (x ∷ []))
     ∙ ap (λ (n : ℕ). length (filter f xs) + n) (count_one f x b is)
 
-pub turn_more : (list : List Entry) (e : Entry) → is_skip e.event ≡ false → turns_made (list ++ e ∷ []) ≡ turns_made list + 1
+pub turn_more : (list : List Entry) (e : Entry) → is_skip e.event ≡ false →
+    turns_made (list ++ e ∷ []) ≡ turns_made list + 1
 unfolding turns_made
 turn_more list e other = count_push (λ (x : Entry). not (is_skip x.event)) list e true (ap not other)
 
@@ -35,11 +32,13 @@ pub turn_same : (list : List Entry) (e : Entry) → is_skip e.event ≡ true →
 unfolding turns_made
 turn_same list e skip = count_push (λ (x : Entry). not (is_skip x.event)) list e false (ap not skip) ∙ omega arith
 
-pub input_more : (list : List Entry) (e : Entry) → is_outside e.event ≡ true → inputs_used (list ++ e ∷ []) ≡ inputs_used list + 1
+pub input_more : (list : List Entry) (e : Entry) → is_outside e.event ≡ true →
+    inputs_used (list ++ e ∷ []) ≡ inputs_used list + 1
 unfolding inputs_used
 input_more list e outside = count_push (λ (x : Entry). is_outside x.event) list e true outside
 
-pub input_same : (list : List Entry) (e : Entry) → is_outside e.event ≡ false → inputs_used (list ++ e ∷ []) ≡ inputs_used list
+pub input_same : (list : List Entry) (e : Entry) → is_outside e.event ≡ false →
+    inputs_used (list ++ e ∷ []) ≡ inputs_used list
 unfolding inputs_used
 input_same list e inside = count_push (λ (x : Entry). is_outside x.event) list e false inside ∙ omega arith
 
@@ -55,20 +54,17 @@ pub no_words : (inputs : List Input) → words_signed inputs [] ≡ 0
 unfolding words_signed inputs_used
 no_words inputs = refl
 
-take_one_more : {X : Type 0} (xs : List X) (k : ℕ) (x : X) → slice_get xs k ≡ Some x → take (suc k) xs ≡ take k xs ++ x ∷ []
-take_one_more [] k x is = absurd cc
-take_one_more (y ∷ ys) zero x is = let same : y ≡ x = cc in ap (λ z. z ∷ []) same
-take_one_more (y ∷ ys) (suc k) x is = ap (λ zs. y ∷ zs) (take_one_more ys k x is)
-
-pub signed_same : (inputs : List Input) (list more : List Entry) → inputs_used more ≡ inputs_used list → words_signed inputs more ≡ words_signed inputs list
+pub signed_same : (inputs : List Input) (list more : List Entry) → inputs_used more ≡ inputs_used list →
+    words_signed inputs more ≡ words_signed inputs list
 unfolding words_signed
 signed_same inputs list more same = ap (λ (n : ℕ). length (filter signs_word (take n inputs))) same
 
-pub signed_more : (inputs : List Input) (list more : List Entry) (x : Input) → next_input inputs list ≡ Some x → inputs_used more ≡ inputs_used list + 1
+pub signed_more : (inputs : List Input) (list more : List Entry) (x : Input) → next_input inputs list ≡ Some x →
+    inputs_used more ≡ inputs_used list + 1
     → words_signed inputs more ≡ words_signed inputs list + cond (signs_word x) 1 0
 unfolding words_signed
 signed_more inputs list more x next used =
     let one : inputs_used list + 1 ≡ suc (inputs_used list) = omega arith in
     ap (λ (n : ℕ). length (filter signs_word (take n inputs))) (used ∙ one)
-    ∙ ap (λ (xs : List Input). length (filter signs_word xs)) (take_one_more inputs (inputs_used list) x next)
+    ∙ ap (λ (xs : List Input). length (filter signs_word xs)) (take_suc inputs (inputs_used list) x next)
     ∙ count_push signs_word (take (inputs_used list) inputs) x (signs_word x) refl

@@ -1,5 +1,6 @@
 -- What a turn tells: to whom a word goes that was cried, and that it counts.
-use Rattle.std.proofs.Common.{◌≡◌, ℕ, zero, suc, ◌+◌, Bool, true, false, cond, ◌&&◌, List, [], ◌∷◌, Option, Some, None, refl, sym, ◌∙◌, ap, subst, inl, inr, ◌⊎◌}
+use Rattle.std.proofs.Common.{◌≡◌, ℕ, zero, suc, ◌+◌, Bool, true, false, cond, ◌&&◌, List, [], ◌∷◌, Option, Some}
+use Rattle.std.proofs.Common.{None, refl, sym, ◌∙◌, ap, subst, inl, inr, ◌⊎◌}
 use Rattle.std.specs.Prelude.{slice_get, IfSome}
 use Rattle.std.specs.List.{list_all}
 use Rattle.std.proofs.lemmas.Bool.{and_parts}
@@ -18,44 +19,55 @@ use Rattle.station_turns.specs.Pace.{is_skip, fits_input, fit_inputs, turns_made
 use Rattle.station_turns.specs.Turns.{Stationed, Enters, Turns, still_held, event_next, named, cries_frame, named_at}
 use Rattle.station_turns.proofs.Counting.{turn_more}
 use Rattle.station_turns.proofs.Skipped.{skips_turns}
-use Rattle.station_turns.proofs.Steady.{entry_event}
 use Rattle.station_turns.proofs.Seen.{of_turned}
 use Rattle.station_turns.proofs.WholeTurns.{next_no_skip}
+use Rattle.kept_lists.proofs.Acting.{event_at}
 
 -- an input that fits names actors that are there
-fit_there : (c : Contents) (actor : ℕ) (x : Input) → fits_input c actor x ≡ true → list_all (is_there c) (named (Some x)) ≡ true
-fit_there c actor (input.Say to said) fit = (and_parts (is_intruded c actor && is_accepted said) (list_all (is_there c) to) fit).1
+fit_there : (c : Contents) (actor : ℕ) (x : Input) → fits_input c actor x ≡ true →
+    list_all (is_there c) (named (Some x)) ≡ true
+fit_there c actor (input.Say to said) fit =
+    (and_parts (is_intruded c actor && is_accepted said) (list_all (is_there c) to) fit).1
 fit_there c actor (input.Command op) fit = refl
 fit_there c actor (input.Field area place value) fit = refl
 fit_there c actor input.Poll fit = refl
 fit_there c actor input.Restart fit = refl
 
-next_there : (c : Contents) (actor : ℕ) (inputs : List Input) (k : ℕ) → fit_inputs c actor inputs ≡ true → list_all (is_there c) (named (slice_get inputs k)) ≡ true
+next_there : (c : Contents) (actor : ℕ) (inputs : List Input) (k : ℕ) → fit_inputs c actor inputs ≡ true →
+    list_all (is_there c) (named (slice_get inputs k)) ≡ true
 next_there c actor [] k fit = refl
-next_there c actor (x ∷ xs) zero fit = fit_there c actor x (and_parts (fits_input c actor x) (fit_inputs c actor xs) fit).0
-next_there c actor (x ∷ xs) (suc k) fit = next_there c actor xs k (and_parts (fits_input c actor x) (fit_inputs c actor xs) fit).1
+next_there c actor (x ∷ xs) zero fit =
+    fit_there c actor x (and_parts (fits_input c actor x) (fit_inputs c actor xs) fit).0
+next_there c actor (x ∷ xs) (suc k) fit =
+    next_there c actor xs k (and_parts (fits_input c actor x) (fit_inputs c actor xs) fit).1
 
-there_when : (c : Contents) (b : Bool) (to : List ℕ) → list_all (is_there c) to ≡ true → list_all (is_there c) (cond b to []) ≡ true
+there_when : (c : Contents) (b : Bool) (to : List ℕ) → list_all (is_there c) to ≡ true →
+    list_all (is_there c) (cond b to []) ≡ true
 there_when c true to there = there
 there_when c false to there = refl
 
 -- so a turn's word goes to actors that are there
-entered_there : (mid new : Stationed) (stamp : ℕ) (event : Event) (t : Turned) → Enters mid stamp event t new → list_all (is_there new.kept.bench.world) t.to ≡ true
+entered_there : (mid new : Stationed) (stamp : ℕ) (event : Event) (t : Turned) → Enters mid stamp event t new →
+    list_all (is_there new.kept.bench.world) t.to ≡ true
 entered_there mid new stamp event t enters =
     let c = new.kept.bench.world in
     let given = next_input mid.inputs mid.kept.bench.list in
     ap (list_all (is_there c)) enters.to
     ∙ there_when c (cries_frame event) (named given)
-    (ap (λ (xs : List Input). list_all (is_there c) (named (slice_get xs (inputs_used mid.kept.bench.list)))) (sym enters.inputs)
+    (ap (λ (xs : List Input). list_all (is_there c) (named (slice_get xs (inputs_used mid.kept.bench.list))))
+    (sym enters.inputs)
     ∙ next_there c new.kept.bench.actor new.inputs (inputs_used mid.kept.bench.list) enters.steady.inputs)
 
-turned_there : (old new : Stationed) (held : Option Held) (t : Turned) → Turns old held t new → list_all (is_there new.kept.bench.world) t.to ≡ true
+turned_there : (old new : Stationed) (held : Option Held) (t : Turned) → Turns old held t new →
+    list_all (is_there new.kept.bench.world) t.to ≡ true
 turned_there old new held t (inl cut) = ap (list_all (is_there new.kept.bench.world)) cut.nothing.1
 turned_there old new held t (inr adds) = entered_there adds.mid new adds.stamp _ t adds.enters
 
-pub there_told : (name : RunName) (old new : Stationed) (held : Option Held) (t : Turned) → Turns old held t new → IsOf name old → list_all (is_there name.scenario) t.to ≡ true
+pub there_told : (name : RunName) (old new : Stationed) (held : Option Held) (t : Turned) → Turns old held t new →
+    IsOf name old → list_all (is_there name.scenario) t.to ≡ true
 there_told name old new held t turns one =
-    subst (λ (c : Contents). list_all (is_there c) t.to ≡ true) (of_turned name old new held t turns one).world (turned_there old new held t turns)
+    subst (λ (c : Contents). list_all (is_there c) t.to ≡ true) (of_turned name old new held t turns one).world
+    (turned_there old new held t turns)
 
 -- a turn counts, unless it ends with a skip that halts the actor
 pub made_told : (old new : Stationed) (held : Option Held) (t : Turned) → Turns old held t new
@@ -66,5 +78,7 @@ made_told old new held t (inr adds) =
     let m = adds.mid.kept.bench in
     let ev = event_next adds.mid.inputs m (still_held held adds.stamp) in
     inr (ap (λ (x : BenchState). turns_made x.list) adds.enters.bench
-    ∙ turn_more m.list (entry_at m adds.stamp ev) (ap is_skip (entry_event m adds.stamp ev) ∙ next_no_skip adds.mid.inputs m (still_held held adds.stamp))
-    ∙ ap (λ (x : BenchState). turns_made x.list + 1) adds.draws.skipped.bench ∙ ap (λ (n : ℕ). n + 1) (skips_turns b adds.draws.skips))
+    ∙ turn_more m.list (entry_at m adds.stamp ev) (ap is_skip (event_at m adds.stamp ev)
+    ∙ next_no_skip adds.mid.inputs m (still_held held adds.stamp))
+    ∙ ap (λ (x : BenchState). turns_made x.list + 1) adds.draws.skipped.bench
+    ∙ ap (λ (n : ℕ). n + 1) (skips_turns b adds.draws.skips))

@@ -14,4 +14,5 @@ is_want _ = false
 
 -- the frame as a turn can take it: none where it doesn't stand
 abbrev pub held_where_standing : Setup → ℕ → ℕ → Signed Body → Option Held
-held_where_standing w stamp place f = if stands w f then Some (record { stamp = stamp; place = place; frame = f }) else None
+held_where_standing w stamp place f =
+    if stands w f then Some (record { stamp = stamp; place = place; frame = f }) else None

@@ -6,8 +6,8 @@ use Rattle.scenario_file.specs.Reading.{Contents}
 use Rattle.stamps.specs.Seats.{Source}
 use Rattle.station_turns.specs.Turns.{Stationed}
 
--- The scenario, the inputs that each actor is given, in the order of the actors' numbers, how many turns an actor makes, and
--- which stamps are drawn.
+-- The scenario, the inputs that each actor is given, in the order of the actors' numbers, how many turns an actor
+-- makes, and which stamps are drawn.
 pub record RunName : Type 0 where
   pub scenario : Contents
   pub inputs : List (List Input)
@@ -23,4 +23,15 @@ pub record IsOf (name : RunName) (s : Stationed) : Type 0 where
 
 -- stamps that nothing is drawn from
 abbrev pub no_source : Source
-no_source = record { table = record { words = 1; slots = 0; views_name = 0; atom = 0; block = 0; offset = 0; slot_names = [] }; seats = 0 }
+no_source = record {
+  table = record {
+    words = 1;
+    slots = 0;
+    views_name = 0;
+    atom = 0;
+    block = 0;
+    offset = 0;
+    slot_names = [];
+  };
+  seats = 0;
+}

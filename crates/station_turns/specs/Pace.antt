@@ -1,6 +1,8 @@
--- How the entries of an actor go in a run of threads: in turns, each of some skips and one more entry. Which entry that is goes
--- by its number among those that are no skips, and by the inputs that are left to the actor. (This project's own.)
-use Rattle.std.specs.Prelude.{◌≡◌, ℕ, ◌+◌, ◌%◌, ◌≤◌, Bool, true, false, not, ◌&&◌, List, [], ◌∷◌, ◌++◌, length, filter, map, take, Option, Some, None, unwrap_or, slice_get, nat_eq, if◌then◌else◌}
+-- How the entries of an actor go in a run of threads: in turns, each of some skips and one more entry. Which entry that
+-- is goes by its number among those that are no skips, and by the inputs that are left to the actor. (This project's
+-- own.)
+use Rattle.std.specs.Prelude.{◌≡◌, ℕ, ◌+◌, ◌%◌, ◌≤◌, Bool, true, false, not, ◌&&◌, List, [], ◌∷◌, ◌++◌, length}
+use Rattle.std.specs.Prelude.{filter, map, take, Option, Some, None, unwrap_or, slice_get, nat_eq, if◌then◌else◌}
 use Rattle.std.specs.List.{list_all}
 use Rattle.std.specs.Option.{option_map}
 use Rattle.play_words.specs.declared.input.Input.{Input}
@@ -15,8 +17,8 @@ use Rattle.script_laws.specs.Accepted.{is_there, is_intruded}
 use Rattle.world_rules.specs.Scenarios.{setup_of, fits_in}
 use Rattle.world_history.specs.State.{BenchState, spoken, after_word}
 
--- the actor can be given the input: an event of its role, or, of an intruded master, a word that a file of words can hold, to
--- actors that are there
+-- the actor can be given the input: an event of its role, or, of an intruded master, a word that a file of words can
+-- hold, to actors that are there
 abbrev pub fits_input : Contents → ℕ → Input → Bool
 fits_input c actor (input.Command op) = fits_in c actor (Command op)
 fits_input c actor (input.Field area place value) = fits_in c actor (Field area place value)
@@ -75,7 +77,8 @@ words_signed inputs list = length (filter signs_word (take (inputs_used list) in
 
 -- an actor that was given these inputs, after its own entries
 abbrev pub bench_after : Contents → ℕ → List Input → List Entry → BenchState
-bench_after c actor inputs list = record { world = c; actor = actor; list = list; signed = words_signed inputs list; is_spent = false }
+bench_after c actor inputs list =
+    record { world = c; actor = actor; list = list; signed = words_signed inputs list; is_spent = false }
 
 -- the event that an input becomes: none of a word that the actor can't say
 abbrev pub event_given : BenchState → Input → Option Event
@@ -90,8 +93,8 @@ abbrev pub after_input : BenchState → Input → BenchState
 after_input b (input.Say to said) = after_word b said
 after_input b _ = b
 
--- the event that the next entry but skips is to have, if it is to have a certain one: entry 4, 8, .. is a tick, and entry 1, 5,
--- .. the next input, where one is left, or a tick where that is a word that the actor can't say
+-- the event that the next entry but skips is to have, if it is to have a certain one: entry 4, 8, .. is a tick, and
+-- entry 1, 5, .. the next input, where one is left, or a tick where that is a word that the actor can't say
 abbrev pub due_as : BenchState → ℕ → Option Input → Option Event
 due_as b number left =
     if nat_eq (number % 4) 0 then Some Tick
@@ -110,11 +113,12 @@ pub record AreFewSkips (skips : List Entry) : Type 0 where
   pub all : list_all (λ e. is_skip e.event) skips ≡ true
   pub few : length skips ≤ 16
 
--- The entries of an actor that is given these inputs, turn by turn: each is at most 16 skips and then the entry that is due. A
--- skip at which the actor's keeper failed ends the last turn.
+-- The entries of an actor that is given these inputs, turn by turn: each is at most 16 skips and then the entry that is
+-- due. A skip at which the actor's keeper failed ends the last turn.
 pub data IsPaced (c : Contents) (actor : ℕ) (inputs : List Input) : List Entry → Type 0 where
   begins : IsPaced c actor inputs []
-  turns : (before skips : List Entry) (e : Entry) (list : List Entry) → IsPaced c actor inputs before → AreFewSkips skips
+  turns : (before skips : List Entry) (e : Entry) (list : List Entry) →
+      IsPaced c actor inputs before → AreFewSkips skips
       → is_skip e.event ≡ false → Follows (due_next inputs (bench_after c actor inputs (before ++ skips))) e.event
       → list ≡ (before ++ skips) ++ e ∷ [] → IsPaced c actor inputs list
   halts : (before skips list : List Entry) → IsPaced c actor inputs before → AreFewSkips skips

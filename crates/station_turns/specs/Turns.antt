@@ -1,5 +1,7 @@
 -- What stands behind an actor's lock in a run of threads, and what one turn of it draws and adds. (This project's own.)
-use Rattle.std.specs.Prelude.{◌≡◌, ◌⊎◌, ℕ, ◌+◌, ◌*◌, ◌^◌, ◌%◌, ◌<◌, ◌≤◌, Bool, true, false, ◌&&◌, List, [], ◌∷◌, ◌++◌, length, map, Option, Some, None, unwrap_or, is_some, nat_eq, nat_le, nat_lt, if◌then◌else◌}
+use Rattle.std.specs.Prelude.{◌≡◌, ◌⊎◌, ℕ, ◌+◌, ◌*◌, ◌^◌, ◌%◌, ◌<◌, ◌≤◌, Bool, true, false, ◌&&◌, List, [], ◌∷◌, ◌++◌}
+use Rattle.std.specs.Prelude.{length, map, Option, Some, None, unwrap_or, is_some, nat_eq, nat_le, nat_lt}
+use Rattle.std.specs.Prelude.{if◌then◌else◌}
 use Rattle.std.specs.List.{list_all}
 use Rattle.message_types.specs.declared.signed.Signed.{Signed}
 use Rattle.message_types.specs.declared.body.Body.{Body}
@@ -21,10 +23,11 @@ use Rattle.station_turns.specs.declared.held.Turned.{Turned}
 use Rattle.station_turns.specs.declared.live.Live.{Live}
 use Rattle.station_turns.specs.declared.turning.Due.{Due}
 use Rattle.station_turns.specs.declared.turning.Due.TheVariants as due
-use Rattle.station_turns.specs.Pace.{fit_inputs, turns_made, inputs_used, words_signed, next_input, bench_after, event_given, due_next, IsPaced}
+use Rattle.station_turns.specs.Pace.{fit_inputs, turns_made, inputs_used, words_signed, next_input, bench_after}
+use Rattle.station_turns.specs.Pace.{event_given, due_next, IsPaced}
 
--- The actor with its keeper, its seat, all inputs that it is given, how many turns it may make, and whether memory ran out
--- under it.
+-- The actor with its keeper, its seat, all inputs that it is given, how many turns it may make, and whether memory ran
+-- out under it.
 pub record Stationed : Type 0 where
   pub kept : KeptState
   pub seat : Drawer
@@ -35,8 +38,10 @@ pub record Stationed : Type 0 where
 abbrev pub stationed : Live → Stationed
 stationed s = record { kept = s.kept; seat = s.seat; inputs = s.inputs.items; turns = s.turns; given_up = false }
 
--- What holds of an actor's own state between two entries of it, where its seat has drawn these stamps more than its list has.
--- Its seat has the number after the actor's: seat 0 stays with whoever made the stamps, and all are joined to it at the end.
+-- What holds of an actor's own state between two entries of it, where its seat has drawn these stamps more than its
+-- list has.
+-- Its seat has the number after the actor's: seat 0 stays with whoever made the stamps, and all are joined to it at the
+-- end.
 pub record IsSteady (s : Stationed) (more : List ℕ) : Type 0 where
   pub works : s.kept.is_spent ≡ false
   pub unspent : s.kept.bench.is_spent ≡ false
@@ -111,7 +116,8 @@ named _ = []
 abbrev pub cries_frame : Event → Bool
 cries_frame event = nat_lt 0 (length (cried event))
 
--- to whom the frames of an event go, where it is a word's cry that spells one; each other frame goes where its body does
+-- to whom the frames of an event go, where it is a word's cry that spells one; each other frame goes where its body
+-- does
 abbrev pub named_at : Event → Option Input → List ℕ
 named_at event given = if cries_frame event then named given else []
 
@@ -153,7 +159,8 @@ Draws old held stamp new = DrawsLast old held stamp new ⊎ DrawsOne old held st
 
 -- The entry of an event was added at a stamp that was drawn for it, and what is posted of it is given.
 pub record Enters (s : Stationed) (stamp : ℕ) (event : Event) (t : Turned) (new : Stationed) : Type 0 where
-  pub bench : new.kept.bench ≡ bench_after s.kept.bench.world s.kept.bench.actor s.inputs (s.kept.bench.list ++ entry_at s.kept.bench stamp event ∷ [])
+  pub bench : new.kept.bench ≡ bench_after s.kept.bench.world s.kept.bench.actor s.inputs
+      (s.kept.bench.list ++ entry_at s.kept.bench stamp event ∷ [])
   pub seat : new.seat ≡ s.seat
   pub inputs : new.inputs ≡ s.inputs
   pub turns : new.turns ≡ s.turns
@@ -170,8 +177,8 @@ pub record IsCut (old : Stationed) (held : Option Held) (t : Turned) (new : Stat
   pub cried : t.cried ≡ false
   pub back : t.held ≡ held
 
--- The turn adds its skips and, at the next stamp, the entry that is due. Where that stamp isn't above the held frame's, 16
--- skips came before it, and the frame is dropped.
+-- The turn adds its skips and, at the next stamp, the entry that is due. Where that stamp isn't above the held frame's,
+-- 16 skips came before it, and the frame is dropped.
 pub record Adds (old : Stationed) (held : Option Held) (t : Turned) (new : Stationed) : Type 0 where
   pub stamp : ℕ
   pub mid : Stationed

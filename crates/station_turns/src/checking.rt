@@ -7,7 +7,7 @@ ghost use Rattle.bench_rules.specs.Lists.{ring_in};
 ghost use Rattle.station_turns.specs.Checking.{is_want, held_where_standing};
 
 use crate::held::Held;
-use checked_frames::{CheckRefusal, KeyRing, check};
+use checked_frames::{CheckRefusal, KeyRing, RingMemory, check_with};
 use message_types::Frame;
 use plain_lists::Want;
 use std::alloc::Global;
@@ -19,10 +19,11 @@ fn is_want(refusal: CheckRefusal) -> bool
 }
 
 /// A frame that was taken from an inbox, as a turn can take it; none where it doesn't stand. It was said at this stamp as body
-/// number `place` of its entry. The ring has the keys of the run's scenario.
+/// number `place` of its entry. The ring has the keys of the run's scenario; the memory is of frames that were checked with it.
 pub fn held_if_standing(
     alloc: Global,
     ring: &KeyRing,
+    memory: &mut RingMemory,
     stamp: u64,
     place: u32,
     frame: Frame,
@@ -30,7 +31,7 @@ pub fn held_if_standing(
     requires { IsTrue (has_spelling frame) }
     ensures { IfOk result (λ held. (c : Contents) → ring.now ≡ ring_in c → held ≡ held_where_standing (setup_of c) stamp place frame) }
 {
-    match check(alloc, ring, frame) {
+    match check_with(alloc, ring, memory, frame) {
         Ok(frame) => Ok(Some(Held {
             stamp,
             place,

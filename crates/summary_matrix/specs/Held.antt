@@ -1,11 +1,14 @@
 -- What a matrix holds, and when it is the matrix of the words that its master knows.
-use Rattle.std.specs.Prelude.{◌≡◌, ℕ, ◌<◌, Bool, true, false, List, [], Option, Some, None, map, slice_index, if◌then◌else◌}
+use Rattle.std.specs.Prelude.{◌≡◌, ℕ, ◌<◌, Bool, true, false, List, [], ◌∷◌, Option, Some, None, map, slice_index}
+use Rattle.std.specs.Prelude.{if◌then◌else◌}
 use Rattle.std.specs.List.{filter_map, slice_index_or}
 use Rattle.message_types.specs.declared.signed.Signed.{Signed}
 use Rattle.message_types.specs.declared.preordering.PoSummary.{PoSummary}
 use Rattle.message_types.specs.declared.body.Body.{Body}
 use Rattle.message_types.specs.declared.body.Body.TheVariants as body
 use Rattle.quorum_sets.specs.Masters.{numbers_below}
+use Rattle.protocol_rules.specs.Parts as part
+use Rattle.quorum_sets.specs.declared.limits.TheConstants.{MOST_MASTERS}
 use Rattle.protocol_rules.specs.Group.{Group}
 use Rattle.protocol_rules.specs.Matrix.{latest, latest_frames, exceeds, tells_more}
 use Rattle.protocol_rules.specs.Master.{latest_rows}
@@ -24,9 +27,17 @@ pub record IsMatrixOf (g : Group) (m : Summaries) (known : List (Signed Body)) :
   pub quorum : m.group.q ≡ g.q
   pub summaries : (j : ℕ) → j < g.n → held m j ≡ latest known j
 
--- the numbers tell, for each of the 14 masters that a group may have, what f gives
+-- The matrix learns a word: whatever was known, it is the matrix where this is known too.
+abbrev pub Learns : Summaries → Summaries → Signed Body → Type 0
+Learns old new f = (g : Group) → part.Grows (IsMatrixOf g old) (IsMatrixOf g new) (f ∷ [])
+
+-- what holds of all that may be known where this is the matrix
+abbrev pub Where : Summaries → (Group → List (Signed Body) → Type 0) → Type 0
+Where m Holds = (g : Group) (known : List (Signed Body)) → IsMatrixOf g m known → Holds g known
+
+-- the numbers tell, for each of the masters that a group may have, what f gives
 abbrev pub TellsEach : List ℕ → (ℕ → ℕ) → Type 0
-TellsEach numbers f = (j : ℕ) → j < 14 → slice_index numbers j ≡ f j
+TellsEach numbers f = (j : ℕ) → j < MOST_MASTERS → slice_index numbers j ≡ f j
 
 -- What a leader offers next after `offered`: all latest summaries, where they make more eligible.
 unfoldable pub proposal_of : Group → List (Signed Body) → (ℕ → ℕ) → Option (List (Signed PoSummary))

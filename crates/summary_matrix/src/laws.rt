@@ -1,9 +1,9 @@
-ghost use Rattle.std.specs.Prelude.{◌≡◌, ◌++◌, ◌∷◌, [], ℕ, List, false, filter};
+ghost use Rattle.std.specs.Prelude.{◌≡◌, ℕ, List, false, filter};
 ghost use Rattle.message_types.specs.declared.signed.Signed.{Signed};
 ghost use Rattle.message_types.specs.declared.body.Body.{Body};
 ghost use Rattle.protocol_rules.specs.Group.{Group};
 ghost use Rattle.protocol_rules.specs.Matrix.{latest};
-ghost use Rattle.summary_matrix.specs.Held.{Summaries, IsMatrixOf, is_summary};
+ghost use Rattle.summary_matrix.specs.Held.{Summaries, IsMatrixOf, Learns, is_summary};
 
 /// A law, which does nothing: a master's latest summary among words is that among the summaries of them. So the
 /// matrix that took the summaries that its master knows, in their order, is the matrix of all that it knows, and
@@ -11,6 +11,5 @@ ghost use Rattle.summary_matrix.specs.Held.{Summaries, IsMatrixOf, is_summary};
 pub fn only_summaries_count()
     ensures latest { (known : List (Signed Body)) (j : ℕ) → latest (filter is_summary known) j ≡ latest known j }
     ensures matrix { (g : Group) (m : Summaries) (known : List (Signed Body)) → IsMatrixOf g m (filter is_summary known) → IsMatrixOf g m known }
-    ensures others { (g : Group) (m : Summaries) (known : List (Signed Body)) (f : Signed Body) → is_summary f ≡ false
-        → IsMatrixOf g m known → IsMatrixOf g m (known ++ f ∷ []) }
+    ensures others { (m : Summaries) (f : Signed Body) → is_summary f ≡ false → Learns m m f }
 {}

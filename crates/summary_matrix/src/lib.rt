@@ -7,4 +7,4 @@ pub mod matrix;
 pub mod reach;
 
 pub use matrix::Matrix;
-pub use reach::{MOST_NUMBER, Reach, eligible};
+pub use reach::{Reach, eligible};

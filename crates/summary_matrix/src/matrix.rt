@@ -1,28 +1,30 @@
-ghost use Rattle.std.specs.Prelude.{◌≡◌, ◌++◌, ◌∷◌, ◌≤◌, ◌<◌, ℕ, List, [], length, take, IsTrue, OnOk, OnErr, IfOk, option_copied, slice_index, sum};
+ghost use Rattle.std.specs.Prelude.{◌≡◌, ◌++◌, ◌≤◌, ◌<◌, ℕ, [], length, take, IsTrue, OnOk, OnErr, IfOk, option_copied, slice_index, sum};
 ghost use Rattle.std.specs.Option.{option_to_list};
-ghost use Rattle.message_types.specs.declared.signed.Signed.{Signed as SignedWord};
-ghost use Rattle.message_types.specs.declared.body.Body.{Body};
 ghost use Rattle.message_types.specs.declared.body.Body.TheVariants as body;
 ghost use Rattle.message_types.specs.Parts.{as_frame};
-ghost use Rattle.protocol_rules.specs.Group.{Group, group_of};
+ghost use Rattle.protocol_rules.specs.Group.{group_of};
 ghost use Rattle.protocol_rules.specs.Places.{in_place};
 ghost use Rattle.protocol_rules.specs.Matrix.{column};
 ghost use Rattle.protocol_rules.specs.Matrix as rules;
 ghost use Rattle.protocol_rules.specs.Master.{latest_rows};
-ghost use Rattle.summary_matrix.specs.Held.{IsMatrixOf, TellsEach, proposal_of, takes_over, row_of, rows_at, frames_at};
+ghost use Rattle.summary_matrix.specs.Held.{IsMatrixOf, Learns, Where, TellsEach, proposal_of, takes_over, row_of, rows_at, frames_at};
 
 use crate::reach::{Reach, greatest_reached, leading, number_at};
 use message_types::{FrameList, PoSummary, Rows, Signed};
 use plain_lists::{Copied, Items, Vector, Want};
-use quorum_sets::Sizes;
+use protocol_rules::MOST_NUMBER;
+use quorum_sets::{MASTER_PLACES, MOST_MASTERS, Sizes};
 use std::alloc::Global;
 use std::marker::Model;
+
+// The numbers of a summary are together no more than this.
+const MOST_TOTAL: u64 = MOST_MASTERS as u64 * MOST_NUMBER;
 
 /// The latest summary of each master.
 pub struct Matrix {
     alloc: Global,
     sizes: Sizes,
-    latest: [Option<Signed<PoSummary>>; 14],
+    latest: [Option<Signed<PoSummary>>; MASTER_PLACES],
 }
 
 // Taken apart here once, so that no crate above proves it again.
@@ -41,12 +43,13 @@ impl Model for Matrix {
     ghost use Rattle.std.specs.List.{slice_index_or};
     ghost use Rattle.protocol_rules.specs.Group.{group_of};
     ghost use Rattle.summary_matrix.specs.Held.{Summaries, row_of};
+    ghost use Rattle.summary_matrix.specs.declared.matrix.TheConstants.{MOST_TOTAL};
 
     ghost Value = { Summaries };
 
     ghost view = { λ m. record { group = group_of m.sizes 0; latest = m.latest } };
 
-    ghost invariant = { λ m. (j : ℕ) → sum (row_of (slice_index_or m.latest j None)) ≤ 57344 };
+    ghost invariant = { λ m. (j : ℕ) → sum (row_of (slice_index_or m.latest j None)) ≤ MOST_TOTAL };
 }
 
 impl Matrix {
@@ -68,8 +71,7 @@ impl Matrix {
     pub fn take(&mut self, frame: &Signed<PoSummary>) -> Result<(), Want>
         requires { IsTrue (in_place self.old.group (as_frame body.PoSummary frame.now)) }
         ensures group { self.new.group ≡ self.old.group }
-        ensures ok { OnOk result ((g : Group) (known : List (SignedWord Body)) → IsMatrixOf g self.old known
-            → IsMatrixOf g self.new (known ++ as_frame body.PoSummary frame.now ∷ [])) }
+        ensures ok { OnOk result (Learns self.old self.new (as_frame body.PoSummary frame.now)) }
         ensures err { OnErr result (self.new ≡ self.old) }
     {
         let place = frame.signer as usize;
@@ -84,16 +86,14 @@ impl Matrix {
     /// A master's latest summary. None exactly where none of it is known.
     pub fn latest(&self, j: u32) -> Option<&Signed<PoSummary>>
         requires { j < self.now.group.n }
-        ensures { (g : Group) (known : List (SignedWord Body)) → IsMatrixOf g self.now known
-            → option_copied result ≡ rules.latest known j }
+        ensures { Where self.now (λ g known. option_copied result ≡ rules.latest known j) }
     {
         self.latest[j as usize].as_ref()
     }
 
     /// The numbers of the latest summaries, a row for each master.
     pub fn rows(&self) -> Result<Rows, Want>
-        ensures { IfOk result (λ rows. (g : Group) (known : List (SignedWord Body)) → IsMatrixOf g self.now known
-            → rows ≡ latest_rows g known) }
+        ensures { IfOk result (λ rows. Where self.now (λ g known. rows ≡ latest_rows g known)) }
     {
         let mut rows = Items::new(self.alloc);
         for master in 0..self.sizes.n {
@@ -104,11 +104,10 @@ impl Matrix {
 
     /// How far the latest summaries make the requests of each master eligible.
     pub fn eligible(&self) -> Reach
-        ensures { (g : Group) (known : List (SignedWord Body)) → IsMatrixOf g self.now known
-            → TellsEach result.numbers (rules.eligible g (latest_rows g known)) }
+        ensures { Where self.now (λ g known. TellsEach result.numbers (rules.eligible g (latest_rows g known))) }
     {
         let mut reach = Reach::none();
-        for place in 0..14usize {
+        for place in 0..MASTER_PLACES {
             let numbers = self.column(place);
             reach.numbers[place] = greatest_reached(
                 leading(&numbers, self.sizes.n as usize),
@@ -120,16 +119,14 @@ impl Matrix {
 
     /// Whether the latest summaries make more eligible than `offered` has.
     pub fn exceeds(&self, offered: &Reach) -> bool
-        ensures { (g : Group) (known : List (SignedWord Body)) → IsMatrixOf g self.now known
-            → result ≡ rules.exceeds g (latest_rows g known) (slice_index offered.now.numbers) }
+        ensures { Where self.now (λ g known. result ≡ rules.exceeds g (latest_rows g known) (slice_index offered.now.numbers)) }
     {
         self.eligible().exceeds(offered, self.sizes.n)
     }
 
     /// The latest summaries, where they make more eligible than `offered` has. None exactly where they don't.
     pub fn proposal(&self, offered: &Reach) -> Result<Option<FrameList>, Want>
-        ensures { IfOk result (λ answer. (g : Group) (known : List (SignedWord Body)) → IsMatrixOf g self.now known
-            → answer ≡ proposal_of g known (slice_index offered.now.numbers)) }
+        ensures { IfOk result (λ answer. Where self.now (λ g known. answer ≡ proposal_of g known (slice_index offered.now.numbers))) }
     {
         if !self.exceeds(offered) {
             return Ok(None);
@@ -148,10 +145,10 @@ impl Matrix {
     }
 
     /// What the latest summaries tell of one master.
-    fn column(&self, place: usize) -> [u64; 14]
+    fn column(&self, place: usize) -> [u64; MASTER_PLACES]
         ensures { take self.now.group.n result ≡ column (rows_at self.now.group.n self.now.latest) place }
     {
-        let mut numbers = [0; 14];
+        let mut numbers = [0; MASTER_PLACES];
         for master in 0..self.sizes.n {
             let at = master as usize;
             numbers[at] = number_told(&self.latest[at], place);
@@ -162,8 +159,8 @@ impl Matrix {
 
 /// Whether a summary takes the place of the one held, if any.
 fn replaces(frame: &Signed<PoSummary>, held: &Option<Signed<PoSummary>>) -> bool
-    requires new { sum frame.now.body.numbers ≤ 57344 }
-    requires old { sum (row_of held.now) ≤ 57344 }
+    requires new { sum frame.now.body.numbers ≤ MOST_TOTAL }
+    requires old { sum (row_of held.now) ≤ MOST_TOTAL }
     ensures { result ≡ takes_over frame.now held.now }
 {
     match held {
@@ -173,7 +170,7 @@ fn replaces(frame: &Signed<PoSummary>, held: &Option<Signed<PoSummary>>) -> bool
 }
 
 fn total(numbers: &Vector) -> u64
-    requires { sum numbers.now ≤ 57344 }
+    requires { sum numbers.now ≤ MOST_TOTAL }
     ensures { result ≡ sum numbers.now }
 {
     numbers.as_slice().iter().sum()

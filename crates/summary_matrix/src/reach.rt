@@ -9,24 +9,21 @@ ghost use Rattle.summary_matrix.specs.Held.{TellsEach};
 
 use message_types::Rows;
 use plain_lists::Vector;
-use quorum_sets::Sizes;
+use quorum_sets::{MASTER_PLACES, MOST_MASTERS, Sizes};
 
-/// The greatest pre-order number of a master.
-pub const MOST_NUMBER: u64 = 4096;
-
-/// How far the requests of each of up to 14 masters reach, by master.
-#[derive(Clone, Copy, Debug, PartialEq, Eq)]
+/// How far the requests of each master reach, by master.
+#[derive(Clone, Copy, PartialEq, Eq)]
 pub struct Reach {
-    pub numbers: [u64; 14],
+    pub numbers: [u64; MASTER_PLACES],
 }
 
 /// How far rows make the requests of each master eligible: the `q`-th greatest of their numbers for it.
 pub fn eligible(sizes: &Sizes, rows: &Rows) -> Reach
-    requires { length rows.now ≤ 14 }
+    requires { length rows.now ≤ MOST_MASTERS }
     ensures { (clients : ℕ) → TellsEach result.numbers (rules.eligible (group_of sizes.now clients) rows.now) }
 {
     let mut reach = Reach::none();
-    for place in 0..14usize {
+    for place in 0..MASTER_PLACES {
         let numbers = column_of(rows.as_slice(), place);
         reach.numbers[place] = greatest_reached(leading(&numbers, rows.len()), sizes.q);
     }
@@ -38,21 +35,23 @@ impl Reach {
     pub fn none() -> Reach
         ensures { TellsEach result.numbers (λ j. 0) }
     {
-        Reach { numbers: [0; 14] }
+        Reach {
+            numbers: [0; MASTER_PLACES],
+        }
     }
 
     /// Takes the greater number at each place.
     pub fn raise(&mut self, other: &Reach)
         ensures { TellsEach self.new.numbers (λ j. max (slice_index self.old.numbers j) (slice_index other.now.numbers j)) }
     {
-        for place in 0..14usize {
+        for place in 0..MASTER_PLACES {
             self.numbers[place] = self.numbers[place].max(other.numbers[place]);
         }
     }
 
     /// Whether it reaches further than `offered` for one of the masters below `masters`.
     pub fn exceeds(&self, offered: &Reach, masters: u32) -> bool
-        requires { masters ≤ 14 }
+        requires { masters ≤ MOST_MASTERS }
         ensures { result ≡ list_any (λ j. nat_lt (slice_index offered.now.numbers j) (slice_index self.now.numbers j)) (numbers_below masters) }
     {
         for master in 0..masters {
@@ -66,11 +65,11 @@ impl Reach {
 }
 
 /// The numbers of rows at one place.
-fn column_of(rows: &[Vector], place: usize) -> [u64; 14]
-    requires { length rows.now ≤ 14 }
+fn column_of(rows: &[Vector], place: usize) -> [u64; MASTER_PLACES]
+    requires { length rows.now ≤ MOST_MASTERS }
     ensures { take (length rows.now) result ≡ column rows.now place }
 {
-    let mut numbers = [0; 14];
+    let mut numbers = [0; MASTER_PLACES];
     for (at, row) in rows.iter().enumerate() {
         numbers[at] = number_at(row, place);
     }

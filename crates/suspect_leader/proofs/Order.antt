@@ -1,5 +1,6 @@
 -- The order of sayings, as the sets keep it.
-use Rattle.std.proofs.Common.{◌≡◌, ℕ, ◌<◌, Less, Equal, Greater, Bool, true, false, cond, ◌&&◌, ◌||◌, List, [], ◌∷◌, nat_eq, nat_lt, refl, sym, ◌∙◌, ap, inl, inr, ◌⊎◌, arith}
+use Rattle.std.proofs.Common.{◌≡◌, ℕ, ◌<◌, Less, Equal, Greater, Bool, true, false, ◌&&◌, ◌||◌, List, [], ◌∷◌, nat_eq}
+use Rattle.std.proofs.Common.{nat_lt, refl, sym, ◌∙◌, ap, inl, inr, ◌⊎◌, arith}
 use Rattle.std.specs.List.{AllByRecursion}
 use Rattle.std.specs.List.Sorted.{IsStrictlySortedBy}
 use Rattle.std.specs.Ordering.{is_eq, is_lt, nat_cmp, ordering_then}
@@ -9,56 +10,24 @@ use Rattle.suspect_leader.specs.declared.saying.Saying.{Saying}
 use Rattle.suspect_leader.specs.declared.saying.Saying.TheVariants.{Ping, Pong, RoundTrip, Report, Bound, Vote}
 use Rattle.suspect_leader.specs.contracts.saying.SayingOrd.TheImpl.{cmp-value}
 use Rattle.suspect_leader.specs.Sayings.{same_saying, is_among}
+use Rattle.plain_lists.proofs.Orders.{is_lt_then, is_lt_number, is_eq_number, pair_same}
+use Rattle.plain_lists.proofs.Booleans.{nat_eq-itself}
 
 abbrev pub order : Saying → Saying → Ordering
 order = cmp-value.it
-
--- numbers and pairs of them
-number_is : (l e : Bool) → (l ≡ true → e ≡ false) → is_eq (cond l Less (cond e Equal Greater)) ≡ e
-number_is true e h = sym (h refl)
-number_is false true h = refl
-number_is false false h = refl
-
-apart : (x y : ℕ) → nat_lt x y ≡ true → nat_eq x y ≡ false
-apart x y lt = elim_at (nat_eq x y) refl
-  where
-    elim_at : (b : Bool) → nat_eq x y ≡ b → b ≡ false
-    elim_at false e = refl
-    elim_at true e = let p : x ≡ y = eqb-true x y e in let q : x < y = ltb-true x y lt in absurd (omega arith)
-
-is_eq_number : (x y : ℕ) → is_eq (nat_cmp x y) ≡ nat_eq x y
-is_eq_number x y = number_is (nat_lt x y) (nat_eq x y) (apart x y)
-
-is_lt_cond : (l e : Bool) → is_lt (cond l Less (cond e Equal Greater)) ≡ l
-is_lt_cond true e = refl
-is_lt_cond false true = refl
-is_lt_cond false false = refl
-
-is_lt_number : (x y : ℕ) → is_lt (nat_cmp x y) ≡ nat_lt x y
-is_lt_number x y = is_lt_cond (nat_lt x y) (nat_eq x y)
-
-is_eq_then : (a b : Ordering) → is_eq (ordering_then a b) ≡ (is_eq a && is_eq b)
-is_eq_then Less b = refl
-is_eq_then Equal b = refl
-is_eq_then Greater b = refl
-
-is_lt_then : (a b : Ordering) → is_lt (ordering_then a b) ≡ (is_lt a || is_eq a && is_lt b)
-is_lt_then Less b = refl
-is_lt_then Equal b = refl
-is_lt_then Greater b = refl
 
 is_less : (o : Ordering) → is_lt o ≡ true → o ≡ Less
 is_less Less e = refl
 is_less Equal e = absurd (cc)
 is_less Greater e = absurd (cc)
 
-pub pair_same : (a b x y : ℕ) → is_eq (ordering_then (nat_cmp a x) (nat_cmp b y)) ≡ (nat_eq a x && nat_eq b y)
-pair_same a b x y = is_eq_then (nat_cmp a x) (nat_cmp b y) ∙ ap (λ t. t && is_eq (nat_cmp b y)) (is_eq_number a x) ∙ ap (λ t. nat_eq a x && t) (is_eq_number b y)
-
-pair_before : (a b x y : ℕ) → is_lt (ordering_then (nat_cmp a x) (nat_cmp b y)) ≡ (nat_lt a x || nat_eq a x && nat_lt b y)
+pair_before : (a b x y : ℕ) →
+    is_lt (ordering_then (nat_cmp a x) (nat_cmp b y)) ≡ (nat_lt a x || nat_eq a x && nat_lt b y)
 pair_before a b x y =
-    is_lt_then (nat_cmp a x) (nat_cmp b y) ∙ ap (λ t. t || is_eq (nat_cmp a x) && is_lt (nat_cmp b y)) (is_lt_number a x)
-    ∙ ap (λ t. nat_lt a x || t && is_lt (nat_cmp b y)) (is_eq_number a x) ∙ ap (λ t. nat_lt a x || nat_eq a x && t) (is_lt_number b y)
+    is_lt_then (nat_cmp a x) (nat_cmp b y) ∙ ap (λ t. t || is_eq (nat_cmp a x) && is_lt (nat_cmp b y))
+    (is_lt_number a x)
+    ∙ ap (λ t. nat_lt a x || t && is_lt (nat_cmp b y)) (is_eq_number a x)
+    ∙ ap (λ t. nat_lt a x || nat_eq a x && t) (is_lt_number b y)
 
 pub number_less : (x y : ℕ) → x < y → nat_cmp x y ≡ Less
 number_less x y lt = is_less (nat_cmp x y) (is_lt_number x y ∙ lt-ltb x y lt)
@@ -67,7 +36,8 @@ pub pair_less_first : (a b x y : ℕ) → a < x → ordering_then (nat_cmp a x) 
 pair_less_first a b x y lt = ap (λ o. ordering_then o (nat_cmp b y)) (number_less a x lt)
 
 pub pair_less_second : (a b y : ℕ) → b < y → ordering_then (nat_cmp a a) (nat_cmp b y) ≡ Less
-pair_less_second a b y lt = is_less (ordering_then (nat_cmp a a) (nat_cmp b y)) (pair_before a b a y ∙ at (nat_lt a a) (nat_eq a a) (eq-eqb a a refl))
+pair_less_second a b y lt = is_less (ordering_then (nat_cmp a a) (nat_cmp b y))
+    (pair_before a b a y ∙ at (nat_lt a a) (nat_eq a a) (eq-eqb a a refl))
   where
     at : (l e : Bool) → e ≡ true → (l || e && nat_lt b y) ≡ true
     at true e h = refl
@@ -79,12 +49,16 @@ number_both x y one two =
     let q : y < x = ltb-true y x (sym (is_lt_number y x) ∙ ap is_lt two) in
     absurd (omega (arith, p, q))
 
-pair_both : (a b x y : ℕ) → ordering_then (nat_cmp a x) (nat_cmp b y) ≡ Less → ordering_then (nat_cmp x a) (nat_cmp y b) ≡ Less → ⊥
+pair_both : (a b x y : ℕ) → ordering_then (nat_cmp a x) (nat_cmp b y) ≡ Less →
+    ordering_then (nat_cmp x a) (nat_cmp y b) ≡ Less → ⊥
 pair_both a b x y one two =
-    split (or_cases (nat_lt a x) (nat_eq a x && nat_lt b y) (sym (pair_before a b x y) ∙ ap is_lt one)) (or_cases (nat_lt x a) (nat_eq x a && nat_lt y b) (sym (pair_before x y a b) ∙ ap is_lt two))
+    split (or_cases (nat_lt a x) (nat_eq a x && nat_lt b y) (sym (pair_before a b x y) ∙ ap is_lt one))
+    (or_cases (nat_lt x a) (nat_eq x a && nat_lt y b) (sym (pair_before x y a b) ∙ ap is_lt two))
   where
-    split : (nat_lt a x ≡ true) ⊎ ((nat_eq a x && nat_lt b y) ≡ true) → (nat_lt x a ≡ true) ⊎ ((nat_eq x a && nat_lt y b) ≡ true) → ⊥
-    split (inl p) (inl q) = let u : a < x = ltb-true a x p in let v : x < a = ltb-true x a q in absurd (omega (arith, u, v))
+    split : (nat_lt a x ≡ true) ⊎ ((nat_eq a x && nat_lt b y) ≡ true) → (nat_lt x a ≡ true)
+        ⊎ ((nat_eq x a && nat_lt y b) ≡ true) → ⊥
+    split (inl p) (inl q) = let u : a < x = ltb-true a x p in let v : x < a = ltb-true x a q in
+        absurd (omega (arith, u, v))
     split (inl p) (inr q) =
         let u : a < x = ltb-true a x p in
         let w : x ≡ a = eqb-true x a ((and_parts (nat_eq x a) (nat_lt y b) q).0) in
@@ -123,19 +97,16 @@ same_is (Bound a) (Bound x) e = ap Bound (eqb-true a x e)
 same_is (Vote a) (Vote x) e = ap Vote (eqb-true a x e)
 same_is _ _ e = absurd (cc)
 
-itself : (x : ℕ) → nat_eq x x ≡ true
-itself x = eq-eqb x x refl
-
 both_themselves : (x y : ℕ) → (nat_eq x x && nat_eq y y) ≡ true
-both_themselves x y = ap (λ b. b && nat_eq y y) (itself x) ∙ itself y
+both_themselves x y = ap (λ b. b && nat_eq y y) (nat_eq-itself x) ∙ nat_eq-itself y
 
 pub same_itself : (x : Saying) → same_saying x x ≡ true
-same_itself (Ping a) = itself a
+same_itself (Ping a) = nat_eq-itself a
 same_itself (Pong a b) = both_themselves a b
 same_itself (RoundTrip a b) = both_themselves a b
 same_itself (Report a b) = both_themselves a b
-same_itself (Bound a) = itself a
-same_itself (Vote a) = itself a
+same_itself (Bound a) = nat_eq-itself a
+same_itself (Vote a) = nat_eq-itself a
 
 not_both : (x y : Saying) → order x y ≡ Less → order y x ≡ Less → ⊥
 not_both (Ping a) (Ping x) = number_both a x
@@ -152,9 +123,11 @@ Rising = IsStrictlySortedBy order
 -- one of a list after which x stands isn't x
 after_isnt : (x : Saying) (rest : List Saying) → AllByRecursion (λ y. order x y ≡ Less) rest → is_among rest x ≡ false
 after_isnt x [] all = refl
-after_isnt x (y ∷ rest) all = ap (λ b. b || is_among rest x) (sym (order_same x y) ∙ ap is_eq all.0) ∙ after_isnt x rest all.1
+after_isnt x (y ∷ rest) all = ap (λ b. b || is_among rest x) (sym (order_same x y) ∙ ap is_eq all.0)
+    ∙ after_isnt x rest all.1
 
-step_among : (x s y : Saying) (there : Bool) → (same_saying s y || there) ≡ true → order x y ≡ Less → (there ≡ true → order x s ≡ Less) → order x s ≡ Less
+step_among : (x s y : Saying) (there : Bool) → (same_saying s y || there) ≡ true → order x y ≡ Less →
+    (there ≡ true → order x s ≡ Less) → order x s ≡ Less
 step_among x s y there e first later = by (or_cases (same_saying s y) there e)
   where
     by : (same_saying s y ≡ true) ⊎ (there ≡ true) → order x s ≡ Less
@@ -162,7 +135,8 @@ step_among x s y there e first later = by (or_cases (same_saying s y) there e)
     by (inr after) = later after
 
 -- one that is among them comes after what all come after
-among_after : (x s : Saying) (rest : List Saying) → AllByRecursion (λ y. order x y ≡ Less) rest → is_among rest s ≡ true → order x s ≡ Less
+among_after : (x s : Saying) (rest : List Saying) → AllByRecursion (λ y. order x y ≡ Less) rest →
+    is_among rest s ≡ true → order x s ≡ Less
 among_after x s [] all e = absurd (true≢false (sym e))
 among_after x s (y ∷ rest) all e = step_among x s y (is_among rest s) e all.0 (among_after x s rest all.1)
 
@@ -173,7 +147,8 @@ swapped x y apart_ = look (same_saying y x) refl
     look false q = refl
     look true q = absurd (true≢false (sym (same_itself x) ∙ ap (same_saying x) (sym (same_is y x q)) ∙ apart_))
 
-tails : (x y : Saying) (xs ys : List Saying) → AllByRecursion (λ z. order x z ≡ Less) xs → AllByRecursion (λ z. order y z ≡ Less) ys → x ≡ y
+tails : (x y : Saying) (xs ys : List Saying) → AllByRecursion (λ z. order x z ≡ Less) xs →
+    AllByRecursion (λ z. order y z ≡ Less) ys → x ≡ y
     → ((s : Saying) → is_among (x ∷ xs) s ≡ is_among (y ∷ ys) s) → (s : Saying) → is_among xs s ≡ is_among ys s
 tails x y xs ys up down e same s = at (same_saying s x) refl
   where
@@ -182,9 +157,11 @@ tails x y xs ys up down e same s = at (same_saying s x) refl
         ap (is_among xs) (same_is s x here) ∙ after_isnt x xs up
         ∙ sym (ap (is_among ys) (same_is s x here ∙ e) ∙ after_isnt y ys down)
     at false there =
-        sym (ap (λ b. b || is_among xs s) there) ∙ same s ∙ ap (λ b. b || is_among ys s) (ap (same_saying s) (sym e) ∙ there)
+        sym (ap (λ b. b || is_among xs s) there) ∙ same s ∙ ap (λ b. b || is_among ys s)
+        (ap (same_saying s) (sym e) ∙ there)
 
-heads : (x y : Saying) (xs ys : List Saying) → AllByRecursion (λ z. order x z ≡ Less) xs → AllByRecursion (λ z. order y z ≡ Less) ys
+heads : (x y : Saying) (xs ys : List Saying) → AllByRecursion (λ z. order x z ≡ Less) xs →
+    AllByRecursion (λ z. order y z ≡ Less) ys
     → ((s : Saying) → is_among (x ∷ xs) s ≡ is_among (y ∷ ys) s) → x ≡ y
 heads x y xs ys up down same = by (same_saying x y) refl
   where
@@ -192,8 +169,10 @@ heads x y xs ys up down same = by (same_saying x y) refl
     by true e = same_is x y e
     by false e =
         absurd (not_both x y
-        (among_after x y xs up (sym (ap (λ b. b || is_among xs y) (swapped x y e)) ∙ same y ∙ ap (λ b. b || is_among ys y) (same_itself y)))
-        (among_after y x ys down (sym (ap (λ b. b || is_among ys x) e) ∙ sym (same x) ∙ ap (λ b. b || is_among xs x) (same_itself x))))
+        (among_after x y xs up (sym (ap (λ b. b || is_among xs y) (swapped x y e)) ∙ same y
+        ∙ ap (λ b. b || is_among ys y) (same_itself y)))
+        (among_after y x ys down (sym (ap (λ b. b || is_among ys x) e) ∙ sym (same x)
+        ∙ ap (λ b. b || is_among xs x) (same_itself x))))
 
 -- two rising lists of the same sayings are one
 pub unique : (xs ys : List Saying) → Rising xs → Rising ys → ((s : Saying) → is_among xs s ≡ is_among ys s) → xs ≡ ys

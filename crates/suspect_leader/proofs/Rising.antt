@@ -1,11 +1,13 @@
 -- Numbers and sayings in rising order, and which there are.
-use Rattle.std.proofs.Common.{◌≡◌, ℕ, zero, suc, ◌<◌, ◌≤◌, Bool, true, false, cond, ◌&&◌, ◌||◌, List, [], ◌∷◌, ◌++◌, filter, nat_eq, nat_lt, nat_le, refl, sym, ◌∙◌, ap, arith, add-one}
+use Rattle.std.proofs.Common.{◌≡◌, ℕ, zero, suc, ◌<◌, ◌≤◌, Bool, true, false, cond, ◌&&◌, ◌||◌, List, [], ◌∷◌, ◌++◌}
+use Rattle.std.proofs.Common.{filter, nat_eq, nat_lt, nat_le, refl, sym, ◌∙◌, ap, arith, add-one}
 use Rattle.std.specs.List.{list_any, AllByRecursion}
 use Rattle.std.proofs.lemmas.Bool.{leb-true, leb-false, ltb-true, ltb-false, lt-ltb, le-ltb, eqb-true, eqb-false}
 use Rattle.std.proofs.lemmas.List.Folds.{list_any-append}
 use Rattle.quorum_sets.specs.Masters.{numbers_below}
 use Rattle.protocol_rules.specs.Words.{put_in_order, in_order, each_once}
-use Rattle.suspect_leader.proofs.Masters.{below_none_at, below_one_more}
+use Rattle.quorum_sets.proofs.Numbered.{below_one_more, below_none_at}
+use Rattle.plain_lists.proofs.Booleans.{or_middle}
 
 abbrev pub Each : {X : Type 0} → (X → Type 0) → List X → Type 0
 Each = AllByRecursion
@@ -47,7 +49,8 @@ climbing_put : (x : ℕ) (l : List ℕ) → Climbing l → Climbing (put_in_orde
 climbing_put x [] up = (tt, tt)
 climbing_put x (y ∷ rest) up = at (nat_le x y) refl (climbing_put x rest up.1)
   where
-    at : (b : Bool) → nat_le x y ≡ b → Climbing (put_in_order x rest) → Climbing (cond b (x ∷ y ∷ rest) (y ∷ put_in_order x rest))
+    at : (b : Bool) → nat_le x y ≡ b → Climbing (put_in_order x rest) →
+        Climbing (cond b (x ∷ y ∷ rest) (y ∷ put_in_order x rest))
     at true e more =
         let le : x ≤ y = leb-true x y e in
         ((le, each_then (λ z. y ≤ z) (λ z. x ≤ z) rest (λ z h. omega (arith, le, h)) up.0), up)
@@ -76,13 +79,17 @@ steps_once [] up = tt
 steps_once (x ∷ []) up = (tt, tt)
 steps_once (x ∷ y ∷ rest) up = at (nat_eq x y) refl (steps_once (y ∷ rest) up.1)
   where
-    at : (b : Bool) → nat_eq x y ≡ b → Steps (each_once (y ∷ rest)) → Steps (cond b (each_once (y ∷ rest)) (x ∷ each_once (y ∷ rest)))
+    at : (b : Bool) → nat_eq x y ≡ b → Steps (each_once (y ∷ rest)) →
+        Steps (cond b (each_once (y ∷ rest)) (x ∷ each_once (y ∷ rest)))
     at true e more = more
     at false e more =
         let le : x ≤ y = up.0.0 in
         let ne : x ≡ y → ⊥ = eqb-false x y e in
-        let lt : x < y = omega (arith, le, ne) in
-        (each_once_each (λ z. x < z) (y ∷ rest) (lt, each_then (λ z. y ≤ z) (λ z. x < z) rest (λ z h. omega (arith, lt, h)) up.1.0), more)
+        let lt : x < y = omega (arith, le, ne) in (
+          each_once_each (λ z. x < z) (y ∷ rest)
+              (lt, each_then (λ z. y ≤ z) (λ z. x < z) rest (λ z h. omega (arith, lt, h)) up.1.0),
+          more,
+        )
 
 pub steps_in_order : (xs : List ℕ) → Steps (each_once (in_order xs))
 steps_in_order xs = steps_once (in_order xs) (climbing xs)
@@ -102,18 +109,14 @@ steps_snoc (x ∷ rest) n up all = (each_append (λ y. x < y) rest (n ∷ []) up
 below_each : (n : ℕ) → Each (λ y. y < n) (numbers_below n)
 unfolding numbers_below
 below_each zero = tt
-below_each (suc n) = each_append (λ y. y < suc n) (numbers_below n) (n ∷ []) (each_then (λ y. y < n) (λ y. y < suc n) (numbers_below n) (λ y h. omega (arith, h)) (below_each n)) (omega arith, tt)
+below_each (suc n) = each_append (λ y. y < suc n) (numbers_below n) (n ∷ [])
+    (each_then (λ y. y < n) (λ y. y < suc n) (numbers_below n) (λ y h. omega (arith, h)) (below_each n))
+    (omega arith, tt)
 
 pub steps_below : (n : ℕ) → Steps (numbers_below n)
 unfolding numbers_below
 steps_below zero = tt
 steps_below (suc n) = steps_snoc (numbers_below n) n (steps_below n) (below_each n)
-
--- which there are
-pub or_middle : (a b d : Bool) → (a || (b || d)) ≡ (b || (a || d))
-or_middle true true d = refl
-or_middle true false d = refl
-or_middle false b d = refl
 
 pub or_twice : (a d : Bool) → (a || d) ≡ (a || (a || d))
 or_twice true d = refl
@@ -123,7 +126,8 @@ any_put : (p : ℕ → Bool) (x : ℕ) (l : List ℕ) → list_any p (put_in_ord
 any_put p x [] = refl
 any_put p x (y ∷ rest) = at (nat_le x y) (any_put p x rest)
   where
-    at : (b : Bool) → list_any p (put_in_order x rest) ≡ (p x || list_any p rest) → list_any p (cond b (x ∷ y ∷ rest) (y ∷ put_in_order x rest)) ≡ (p x || (p y || list_any p rest))
+    at : (b : Bool) → list_any p (put_in_order x rest) ≡ (p x || list_any p rest) →
+        list_any p (cond b (x ∷ y ∷ rest) (y ∷ put_in_order x rest)) ≡ (p x || (p y || list_any p rest))
     at true more = refl
     at false more = ap (λ b. p y || b) more ∙ or_middle (p y) (p x) (list_any p rest)
 
@@ -138,14 +142,17 @@ any_once p [] = refl
 any_once p (x ∷ []) = refl
 any_once p (x ∷ y ∷ rest) = at (nat_eq x y) refl (any_once p (y ∷ rest))
   where
-    at : (b : Bool) → nat_eq x y ≡ b → list_any p (each_once (y ∷ rest)) ≡ (p y || list_any p rest) → list_any p (cond b (each_once (y ∷ rest)) (x ∷ each_once (y ∷ rest))) ≡ (p x || (p y || list_any p rest))
-    at true e more = more ∙ or_twice (p y) (list_any p rest) ∙ ap (λ v. p v || (p y || list_any p rest)) (sym (eqb-true x y e))
+    at : (b : Bool) → nat_eq x y ≡ b → list_any p (each_once (y ∷ rest)) ≡ (p y || list_any p rest) →
+        list_any p (cond b (each_once (y ∷ rest)) (x ∷ each_once (y ∷ rest))) ≡ (p x || (p y || list_any p rest))
+    at true e more = more ∙ or_twice (p y) (list_any p rest)
+        ∙ ap (λ v. p v || (p y || list_any p rest)) (sym (eqb-true x y e))
     at false e more = ap (λ b. p x || b) more
 
 pub any_each_once : (p : ℕ → Bool) (xs : List ℕ) → list_any p (each_once (in_order xs)) ≡ list_any p xs
 any_each_once p xs = any_once p (in_order xs) ∙ any_in_order p xs
 
-pub any_filter : (p : ℕ → Bool) (n : ℕ) (xs : List ℕ) → list_any (nat_eq n) (filter p xs) ≡ (p n && list_any (nat_eq n) xs)
+pub any_filter : (p : ℕ → Bool) (n : ℕ) (xs : List ℕ) →
+    list_any (nat_eq n) (filter p xs) ≡ (p n && list_any (nat_eq n) xs)
 any_filter p n [] = nothing (p n)
   where
     nothing : (b : Bool) → false ≡ (b && false)
@@ -153,24 +160,31 @@ any_filter p n [] = nothing (p n)
     nothing false = refl
 any_filter p n (x ∷ rest) = at (p x) refl (nat_eq n x) refl (any_filter p n rest)
   where
-    at : (b : Bool) → p x ≡ b → (t : Bool) → nat_eq n x ≡ t → list_any (nat_eq n) (filter p rest) ≡ (p n && list_any (nat_eq n) rest)
-        → list_any (nat_eq n) (cond (p x) (x ∷ filter p rest) (filter p rest)) ≡ (p n && (nat_eq n x || list_any (nat_eq n) rest))
+    at : (b : Bool) → p x ≡ b → (t : Bool) → nat_eq n x ≡ t →
+        list_any (nat_eq n) (filter p rest) ≡ (p n && list_any (nat_eq n) rest)
+        → list_any (nat_eq n) (cond (p x) (x ∷ filter p rest) (filter p rest)) ≡
+        (p n && (nat_eq n x || list_any (nat_eq n) rest))
     at true e true h more =
-        ap (λ b. list_any (nat_eq n) (cond b (x ∷ filter p rest) (filter p rest))) e ∙ ap (λ t. t || list_any (nat_eq n) (filter p rest)) h
+        ap (λ b. list_any (nat_eq n) (cond b (x ∷ filter p rest) (filter p rest))) e
+        ∙ ap (λ t. t || list_any (nat_eq n) (filter p rest)) h
         ∙ sym (ap (λ t. p n && (t || list_any (nat_eq n) rest)) h ∙ ap (λ b. b && true) (ap p (eqb-true n x h) ∙ e))
     at true e false h more =
-        ap (λ b. list_any (nat_eq n) (cond b (x ∷ filter p rest) (filter p rest))) e ∙ ap (λ t. t || list_any (nat_eq n) (filter p rest)) h ∙ more
+        ap (λ b. list_any (nat_eq n) (cond b (x ∷ filter p rest) (filter p rest))) e
+        ∙ ap (λ t. t || list_any (nat_eq n) (filter p rest)) h ∙ more
         ∙ sym (ap (λ t. p n && (t || list_any (nat_eq n) rest)) h)
     at false e true h more =
-        ap (λ b. list_any (nat_eq n) (cond b (x ∷ filter p rest) (filter p rest))) e ∙ more ∙ ap (λ b. b && list_any (nat_eq n) rest) (ap p (eqb-true n x h) ∙ e)
+        ap (λ b. list_any (nat_eq n) (cond b (x ∷ filter p rest) (filter p rest))) e ∙ more
+        ∙ ap (λ b. b && list_any (nat_eq n) rest) (ap p (eqb-true n x h) ∙ e)
         ∙ sym (ap (λ b. b && (nat_eq n x || list_any (nat_eq n) rest)) (ap p (eqb-true n x h) ∙ e))
     at false e false h more =
-        ap (λ b. list_any (nat_eq n) (cond b (x ∷ filter p rest) (filter p rest))) e ∙ more ∙ sym (ap (λ t. p n && (t || list_any (nat_eq n) rest)) h)
+        ap (λ b. list_any (nat_eq n) (cond b (x ∷ filter p rest) (filter p rest))) e ∙ more
+        ∙ sym (ap (λ t. p n && (t || list_any (nat_eq n) rest)) h)
 
 pub any_below : (n m : ℕ) → list_any (nat_eq m) (numbers_below n) ≡ nat_lt m n
 any_below zero m = ap (list_any (nat_eq m)) below_none_at ∙ sym (le-ltb m 0 (omega arith))
 any_below (suc n) m =
-    ap (list_any (nat_eq m)) (ap numbers_below (sym (add-one n)) ∙ below_one_more n) ∙ list_any-append (nat_eq m) (numbers_below n) (n ∷ [])
+    ap (list_any (nat_eq m)) (ap numbers_below (sym (add-one n)) ∙ below_one_more n)
+    ∙ list_any-append (nat_eq m) (numbers_below n) (n ∷ [])
     ∙ ap (λ b. b || (nat_eq m n || false)) (any_below n m) ∙ at (nat_lt m n) refl (nat_eq m n) refl
   where
     at : (l : Bool) → nat_lt m n ≡ l → (e : Bool) → nat_eq m n ≡ e → (l || (e || false)) ≡ nat_lt m (suc n)

@@ -1,5 +1,6 @@
 -- Measures where nothing was told, known or said.
-use Rattle.std.proofs.Common.{◌≡◌, ℕ, zero, suc, Bool, true, false, cond, ◌&&◌, not, [], Option, None, get_or, nat_eq, nat_lt, refl, sym, ◌∙◌, ap}
+use Rattle.std.proofs.Common.{◌≡◌, ℕ, zero, suc, Bool, true, false, cond, ◌&&◌, not, [], Option, None, get_or, nat_eq}
+use Rattle.std.proofs.Common.{nat_lt, refl, sym, ◌∙◌, ap}
 use Rattle.std.specs.Prelude.{replicate}
 use Rattle.std.specs.Option.{unwrap_or}
 use Rattle.message_types.specs.declared.measures.Rtt.{Rtt}
@@ -8,7 +9,7 @@ use Rattle.protocol_rules.specs.Words.{best_by}
 use Rattle.suspect_leader.specs.declared.saying.Saying.{Saying}
 use Rattle.suspect_leader.specs.declared.saying.Saying.TheVariants.{Ping, Pong, RoundTrip, Report, Bound, Vote}
 use Rattle.suspect_leader.specs.Sayings.{is_pending, is_among}
-use Rattle.suspect_leader.specs.Kept.{Kept, IsMeasureOf, told_at}
+use Rattle.suspect_leader.specs.MeasureState.{MeasureState, IsMeasureOf, told_at}
 use Rattle.suspect_leader.proofs.Words.{later_trip}
 
 pub no_trip_at : (n j : ℕ) → get_or (replicate n (let none : Option Rtt = None in none)) j None ≡ None
@@ -41,7 +42,9 @@ none_waited : (b : Bool) → let none : ℕ = 0 in cond b none 0 ≡ 0
 none_waited true = refl
 none_waited false = refl
 
-pub start : (g : Group) (me : ℕ) (kept : Kept) → kept.group.n ≡ g.n → kept.group.f ≡ g.f → kept.group.q ≡ g.q → kept.me ≡ me → kept.ticks ≡ 0 → kept.waited ≡ 0 → kept.reports ≡ [] → kept.bounds ≡ [] → ((j : ℕ) → get_or kept.trips j None ≡ None) → kept.pending ≡ [] → kept.said ≡ []
+pub start : (g : Group) (me : ℕ) (kept : MeasureState) → kept.group.n ≡ g.n → kept.group.f ≡ g.f →
+    kept.group.q ≡ g.q → kept.me ≡ me → kept.ticks ≡ 0 → kept.waited ≡ 0 → kept.reports ≡ [] → kept.bounds ≡ [] →
+    ((j : ℕ) → get_or kept.trips j None ≡ None) → kept.pending ≡ [] → kept.said ≡ []
     → IsMeasureOf g me kept [] [] []
 start g me kept n f q own ticks waited reports bounds trips pending said = record {
   masters = n;

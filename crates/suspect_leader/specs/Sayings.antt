@@ -5,7 +5,8 @@ use Rattle.message_types.specs.declared.signed.Signed.{Signed}
 use Rattle.message_types.specs.declared.body.Body.{Body}
 use Rattle.message_types.specs.declared.body.Body.TheVariants as body
 use Rattle.protocol_rules.specs.Group.{Group}
-use Rattle.protocol_rules.specs.Measures.{ping_in, pong_in, pings_said, pongs_said, round_trips_said, tat_reports_said, tat_bounds_said, suspects_said}
+use Rattle.protocol_rules.specs.Measures.{ping_in, pong_in, pings_said, pongs_said, round_trips_said}
+use Rattle.protocol_rules.specs.Measures.{tat_reports_said, tat_bounds_said, suspects_said}
 use Rattle.suspect_leader.specs.declared.heard.Heard.{Heard}
 use Rattle.suspect_leader.specs.declared.heard.Heard.TheVariants as heard
 use Rattle.suspect_leader.specs.declared.saying.Saying.{Saying}
@@ -45,7 +46,14 @@ heard_in word = elim word [
 
 -- the word is a ping, a pong, a round trip, a tatreport or a tatbound
 abbrev pub is_measure : Signed Body → Bool
-is_measure f = elim f.body [ body.Ping b ↦ true | body.Pong b ↦ true | body.Rtt b ↦ true | body.TatReport b ↦ true | body.TatBound b ↦ true | _ ↦ false ]
+is_measure f = elim f.body [
+  | body.Ping b ↦ true
+  | body.Pong b ↦ true
+  | body.Rtt b ↦ true
+  | body.TatReport b ↦ true
+  | body.TatBound b ↦ true
+  | _ ↦ false
+]
 
 -- the ticks of a round trip, else 0
 abbrev pub ticks_of_round_trip : Body → ℕ
@@ -69,7 +77,9 @@ is_among list s = list_any (same_saying s) list
 -- also where its ping isn't said yet.
 abbrev pub is_pending : Group → ℕ → List (Signed Body) → List Body → Saying → Bool
 is_pending g me known said (Pong to number) =
-    nat_lt to g.n && not (nat_eq to me) && list_any (nat_eq number) (filter_map (ping_in to) known) && not (list_any (pongs_said to number) said)
+    nat_lt to g.n && not (nat_eq to me) && list_any (nat_eq number) (filter_map (ping_in to) known)
+    && not (list_any (pongs_said to number) said)
 is_pending g me known said (RoundTrip to number) =
-    nat_lt to g.n && list_any (nat_eq number) (filter_map (pong_in me to) known) && not (list_any (round_trips_said to number) said)
+    nat_lt to g.n && list_any (nat_eq number) (filter_map (pong_in me to) known)
+    && not (list_any (round_trips_said to number) said)
 is_pending g me known said _ = false

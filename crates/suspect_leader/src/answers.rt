@@ -1,26 +1,16 @@
 ghost use Rattle.std.specs.Prelude.{◌≡◌, ◌<◌, ◌++◌, ◌||◌, ◌&&◌, ℕ, true, false, not, OnOk, OnErr};
 ghost use Rattle.std.specs.List.{list_any};
-ghost use Rattle.std.specs.Option.{option_to_list};
 ghost use Rattle.protocol_rules.specs.Measures.{pings_said};
 ghost use Rattle.suspect_leader.specs.declared.saying.Saying.{Saying as Say};
 ghost use Rattle.suspect_leader.specs.declared.saying.Saying.TheVariants.{RoundTrip};
 ghost use Rattle.suspect_leader.specs.Sayings.{says, same_saying, is_among};
-ghost use Rattle.suspect_leader.specs.Kept.{IsMoved};
+ghost use Rattle.suspect_leader.specs.MeasureState.{IsMoved};
 
 use crate::saying::{Saying, saying_of};
 use message_types::Body;
 use plain_lists::Want;
 use std::alloc::Global;
 use std::collections::BTreeSet;
-
-pub(crate) fn push_if(bodies: &mut Vec<Body, Global>, body: Option<Body>) -> Result<(), Want>
-    ensures { OnOk result (bodies.new.items ≡ bodies.old.items ++ option_to_list body) }
-{
-    if let Some(body) = body {
-        bodies.push(body)?;
-    }
-    Ok(())
-}
 
 /// Notes that an answer is owed, unless it was given.
 pub(crate) fn owe(

@@ -4,7 +4,7 @@ ghost use Rattle.suspect_leader.specs.Sayings.{heard_in};
 use message_types::{Body, Ping, Pong, Rtt, TatBound, TatReport};
 
 /// A word that counts for the measures of a leader.
-#[derive(Clone, Copy, Debug)]
+#[derive(Clone, Copy)]
 pub(crate) enum Heard {
     Ping(Ping),
     Pong(Pong),

@@ -1,22 +1,21 @@
-ghost use Rattle.std.specs.Prelude.{◌≡◌, ◌+◌, ◌-◌, ◌*◌, ◌<◌, ◌≤◌, ◌^◌, ℕ, Bool, true, false, List, [], ◌∷◌, ◌++◌, Option, IsOk, OnOk, OnErr, IfOk, option_map, nat_eq, nat_lt, not, if◌then◌else◌};
+ghost use Rattle.std.specs.Prelude.{◌≡◌, ◌+◌, ◌-◌, ◌*◌, ◌<◌, ◌≤◌, ◌^◌, ℕ, Bool, true, false, List, [], ◌++◌, Option, IsOk, OnOk, OnErr, IfOk, option_map, nat_eq, nat_lt, not, if◌then◌else◌};
 ghost use Rattle.std.specs.List.{filter_map, list_all};
 ghost use Rattle.std.specs.Option.{option_to_list};
-ghost use Rattle.message_types.specs.declared.signed.Signed.{Signed as SignedWord};
-ghost use Rattle.message_types.specs.declared.body.Body.{Body as Word};
 ghost use Rattle.message_types.specs.declared.body.Body.TheVariants as body;
-ghost use Rattle.protocol_rules.specs.Group.{Group, group_of, most_view};
-ghost use Rattle.protocol_rules.specs.Measures.{Told, turnaround, acceptable, pings_due};
+ghost use Rattle.protocol_rules.specs.Group.{group_of, most_view};
+ghost use Rattle.protocol_rules.specs.Measures.{turnaround, acceptable, pings_due};
 ghost use Rattle.suspect_leader.specs.Sayings.{is_among, ticks_of_round_trip};
-ghost use Rattle.suspect_leader.specs.Kept.{IsMeasureOf, waited_in, answer_to, measures_due, figure_at, later_of, ticks_in, turnaround_kept, acceptable_kept, bound_kept, report_due_kept, bound_due_kept, vote_due_kept, due_kept, is_word_in_place};
+ghost use Rattle.suspect_leader.specs.MeasureState.{IsMeasureOf, Learns, Says, IsTold, Where, waited_in, answer_to, measures_due, figure_at, later_of, ticks_in, turnaround_kept, acceptable_kept, bound_kept, report_due_kept, bound_due_kept, vote_due_kept, due_kept, is_word_in_place};
 
-use crate::answers::{count, owe, push_if, release, settle};
+use crate::answers::{count, owe, release, settle};
 use crate::heard::{Heard, heard_of};
 use crate::ranked::Ranked;
 use crate::saying::Saying;
 use crate::tables::{Table, keep_first, keep_greatest, told};
 use message_types::{Body, Ping, Pong, Rtt, Suspect, TatBound, TatReport};
-use plain_lists::Want;
-use quorum_sets::Sizes;
+use plain_lists::{Want, extend_option};
+use protocol_rules::{MOST_TICKS, MOST_VIEW};
+use quorum_sets::{MASTER_PLACES, Sizes};
 use std::alloc::Global;
 use std::collections::{BTreeMap, BTreeSet};
 use std::marker::Model;
@@ -26,9 +25,6 @@ const PING_STEP: u64 = 16;
 
 /// A master tells at every so many ticks of waiting how long it has waited.
 const REPORT_STEP: u64 = 8;
-
-/// The last view, whose leader nobody votes against.
-const MOST_VIEW: u64 = 255;
 
 /// What a leader may take where a master has told no bound, in ticks.
 const FIRST_BOUND: u64 = 16;
@@ -43,7 +39,7 @@ pub struct Measure {
     waited: u64,
     reports: Table,
     bounds: Table,
-    trips: [Option<Rtt>; 14],
+    trips: [Option<Rtt>; MASTER_PLACES],
     /// Round trips owed whose pings weren't said yet: no event looks at them.
     early: BTreeSet<Saying, Global>,
     /// The other answers owed, and after want of memory perhaps a round trip whose ping isn't said yet.
@@ -75,15 +71,16 @@ impl Model for Measure {
     ghost use Rattle.std.specs.Prelude.{◌≡◌, ◌≤◌, ℕ, None, true};
     ghost use Rattle.std.specs.List.{slice_index_or};
     ghost use Rattle.protocol_rules.specs.Group.{group_of};
+    ghost use Rattle.protocol_rules.specs.declared.limits.TheConstants.{MOST_TICKS};
     ghost use Rattle.suspect_leader.specs.declared.saying.Saying.{Saying as Say};
     ghost use Rattle.suspect_leader.specs.Sayings.{is_among};
-    ghost use Rattle.suspect_leader.specs.Kept.{Kept, ticks_in, with_all, is_early};
+    ghost use Rattle.suspect_leader.specs.MeasureState.{MeasureState, ticks_in, with_all, is_early};
 
-    ghost Value = { Kept };
+    ghost Value = { MeasureState };
 
     ghost view = { λ m. record { group = group_of m.sizes 0; me = m.me; ticks = m.ticks; view = m.view; waited = m.waited; reports = m.reports.entries; bounds = m.bounds.entries; trips = m.trips; pending = with_all m.pending.keys m.early.keys; said = m.said.keys } };
 
-    ghost invariant = { λ m. (m.ticks ≤ 4294967296) × (m.waited ≤ m.ticks) × ((j : ℕ) → ticks_in (slice_index_or m.trips j None) ≤ 4294967296) × ((s : Say) → is_among m.early.keys s ≡ true → is_early m.sizes.n m.said.keys s ≡ true) };
+    ghost invariant = { λ m. (m.ticks ≤ MOST_TICKS) × (m.waited ≤ m.ticks) × ((j : ℕ) → ticks_in (slice_index_or m.trips j None) ≤ MOST_TICKS) × ((s : Say) → is_among m.early.keys s ≡ true → is_early m.sizes.n m.said.keys s ≡ true) };
 }
 
 impl Measure {
@@ -101,7 +98,7 @@ impl Measure {
             waited: 0,
             reports: BTreeMap::new(alloc),
             bounds: BTreeMap::new(alloc),
-            trips: [None; 14],
+            trips: [None; MASTER_PLACES],
             early: BTreeSet::new(alloc),
             pending: BTreeSet::new(alloc),
             said: BTreeSet::new(alloc),
@@ -120,9 +117,7 @@ impl Measure {
         requires { self.old.ticks < 2 ^ 32 }
         ensures ok { IsOk result }
         ensures ticks { self.new.ticks ≡ self.old.ticks + 1 }
-        ensures told { (g : Group) (me : ℕ) (told : List Told) (known : List (SignedWord Word)) (said : List Word)
-            → IsMeasureOf g me self.old told known said
-            → IsMeasureOf g me self.new (told ++ record { is_tick = true; view = view; waits = waits } ∷ []) known said }
+        ensures told { IsTold self.old self.new record { is_tick = true; view = view; waits = waits } }
     {
         let before = self.waited_in(view);
         self.ticks += 1;
@@ -134,9 +129,7 @@ impl Measure {
     /// Is told of an event that is no tick.
     pub fn still(&mut self, view: u64, waits: bool)
         ensures ticks { self.new.ticks ≡ self.old.ticks }
-        ensures told { (g : Group) (me : ℕ) (told : List Told) (known : List (SignedWord Word)) (said : List Word)
-            → IsMeasureOf g me self.old told known said
-            → IsMeasureOf g me self.new (told ++ record { is_tick = false; view = view; waits = waits } ∷ []) known said }
+        ensures told { IsTold self.old self.new record { is_tick = false; view = view; waits = waits } }
     {
         let before = self.waited_in(view);
         self.view = view;
@@ -146,11 +139,9 @@ impl Measure {
     /// Takes the next word known. Only pings, pongs, round trips, tatreports and tatbounds of masters change anything.
     /// A round trip in its place has at most 2^32 ticks.
     pub fn take(&mut self, signer: u32, body: &Body) -> Result<(), Want>
-        requires { ticks_of_round_trip body.now ≤ 4294967296 }
+        requires { ticks_of_round_trip body.now ≤ MOST_TICKS }
         ensures ticks { self.new.ticks ≡ self.old.ticks }
-        ensures ok { OnOk result ((g : Group) (me : ℕ) (told : List Told) (known : List (SignedWord Word)) (said : List Word) (sig : List ℕ)
-            → IsMeasureOf g me self.old told known said
-            → IsMeasureOf g me self.new told (known ++ record { signer = signer; body = body.now; sig = sig } ∷ []) said) }
+        ensures ok { OnOk result ((sig : List ℕ) → Learns self.old self.new record { signer = signer; body = body.now; sig = sig }) }
         ensures err { OnErr result (self.new ≡ self.old) }
     {
         if signer >= self.sizes.n {
@@ -173,16 +164,14 @@ impl Measure {
 
     /// How long the leader of view `v` takes, in ticks: the `f + 1`st lowest of the masters' greatest reports.
     pub fn leader_turnaround(&self, v: u64) -> u64
-        ensures { (g : Group) (me : ℕ) (told : List Told) (known : List (SignedWord Word)) (said : List Word)
-            → IsMeasureOf g me self.now told known said → result ≡ turnaround g known v }
+        ensures { Where self.now (λ g me told known said. result ≡ turnaround g known v) }
     {
         self.turnaround_told(v)
     }
 
     /// How long it may take, in ticks: the `f + 1`st highest of the masters' first bounds.
     pub fn acceptable(&self, v: u64) -> u64
-        ensures { (g : Group) (me : ℕ) (told : List Told) (known : List (SignedWord Word)) (said : List Word)
-            → IsMeasureOf g me self.now told known said → result ≡ acceptable g known v }
+        ensures { Where self.now (λ g me told known said. result ≡ acceptable g known v) }
     {
         self.acceptable_told(v)
     }
@@ -192,12 +181,11 @@ impl Measure {
     /// count as said. A pong that came before its ping was said stays owed, and is looked at only once the ping was said.
     pub fn due(&mut self, view: u64, at_tick: bool) -> Result<Vec<Body>, Want>
         ensures ticks { self.new.ticks ≡ self.old.ticks }
-        ensures bodies { IfOk result (λ bodies. (g : Group) (me : ℕ) (told : List Told) (known : List (SignedWord Word)) (said : List Word)
-            → IsMeasureOf g me self.old told known said → bodies.items ≡ measures_due g me told known said view at_tick) }
-        ensures counted { IfOk result (λ bodies. (g : Group) (me : ℕ) (told : List Told) (known : List (SignedWord Word)) (said : List Word)
-            → IsMeasureOf g me self.old told known said → IsMeasureOf g me self.new told known (said ++ bodies.items)) }
-        ensures places { IfOk result (λ bodies. (g : Group) (me : ℕ) (told : List Told) (known : List (SignedWord Word)) (said : List Word)
-            → IsMeasureOf g me self.old told known said → me < g.n → view ≤ most_view → list_all (is_word_in_place g me) bodies.items ≡ true) }
+        ensures bodies { IfOk result (λ bodies. Where self.old (λ g me told known said.
+            bodies.items ≡ measures_due g me told known said view at_tick)) }
+        ensures counted { IfOk result (λ bodies. Says self.old self.new bodies.items) }
+        ensures places { IfOk result (λ bodies. Where self.old (λ g me told known said.
+            me < g.n → view ≤ most_view → list_all (is_word_in_place g me) bodies.items ≡ true)) }
         ensures err { OnErr result (self.new ≡ self.old) }
     {
         let mut bodies = Vec::with_capacity(self.alloc, self.pending.len())?;
@@ -217,11 +205,11 @@ impl Measure {
     fn list(&self, bodies: &mut Vec<Body, Global>, view: u64, at_tick: bool) -> Result<(), Want>
         ensures { OnOk result (bodies.new.items ≡ bodies.old.items ++ due_kept self.now view at_tick) }
     {
-        push_if(bodies, self.ping_due(at_tick))?;
+        extend_option(bodies, self.ping_due(at_tick))?;
         self.push_answers(bodies)?;
-        push_if(bodies, self.report_due(view, at_tick))?;
-        push_if(bodies, self.bound_due(view, at_tick))?;
-        push_if(bodies, self.vote_due(view, at_tick))
+        extend_option(bodies, self.report_due(view, at_tick))?;
+        extend_option(bodies, self.bound_due(view, at_tick))?;
+        extend_option(bodies, self.vote_due(view, at_tick))
     }
 
     fn turnaround_told(&self, v: u64) -> u64
@@ -254,9 +242,7 @@ impl Measure {
     fn take_ping(&mut self, signer: u32, word: Ping) -> Result<(), Want>
         requires { signer < self.old.group.n }
         ensures ticks { self.new.ticks ≡ self.old.ticks }
-        ensures ok { OnOk result ((g : Group) (me : ℕ) (told : List Told) (known : List (SignedWord Word)) (said : List Word) (sig : List ℕ)
-            → IsMeasureOf g me self.old told known said
-            → IsMeasureOf g me self.new told (known ++ record { signer = signer; body = body.Ping word; sig = sig } ∷ []) said) }
+        ensures ok { OnOk result ((sig : List ℕ) → Learns self.old self.new record { signer = signer; body = body.Ping word; sig = sig }) }
         ensures err { OnErr result (self.new ≡ self.old) }
     {
         if signer == self.me {
@@ -272,9 +258,7 @@ impl Measure {
     fn take_pong(&mut self, signer: u32, word: Pong) -> Result<(), Want>
         requires { signer < self.old.group.n }
         ensures ticks { self.new.ticks ≡ self.old.ticks }
-        ensures ok { OnOk result ((g : Group) (me : ℕ) (told : List Told) (known : List (SignedWord Word)) (said : List Word) (sig : List ℕ)
-            → IsMeasureOf g me self.old told known said
-            → IsMeasureOf g me self.new told (known ++ record { signer = signer; body = body.Pong word; sig = sig } ∷ []) said) }
+        ensures ok { OnOk result ((sig : List ℕ) → Learns self.old self.new record { signer = signer; body = body.Pong word; sig = sig }) }
         ensures err { OnErr result (self.new ≡ self.old) }
     {
         if word.to != self.me {
@@ -296,11 +280,9 @@ impl Measure {
 
     fn take_round_trip(&mut self, signer: u32, word: Rtt)
         requires signer { signer < self.old.group.n }
-        requires ticks { word.ticks ≤ 4294967296 }
+        requires ticks { word.ticks ≤ MOST_TICKS }
         ensures ticks { self.new.ticks ≡ self.old.ticks }
-        ensures known { (g : Group) (me : ℕ) (told : List Told) (known : List (SignedWord Word)) (said : List Word) (sig : List ℕ)
-            → IsMeasureOf g me self.old told known said
-            → IsMeasureOf g me self.new told (known ++ record { signer = signer; body = body.Rtt word; sig = sig } ∷ []) said }
+        ensures known { (sig : List ℕ) → Learns self.old self.new record { signer = signer; body = body.Rtt word; sig = sig } }
     {
         if word.to != self.me {
             return;
@@ -325,7 +307,7 @@ impl Measure {
         ensures { OnOk result (bodies.new.items ≡ bodies.old.items ++ filter_map (answer_to self.now.ticks self.now.said) self.now.pending) }
     {
         for saying in &self.pending {
-            push_if(bodies, self.answer(saying))?;
+            extend_option(bodies, self.answer(saying))?;
         }
         Ok(())
     }

@@ -4,7 +4,7 @@ ghost use Rattle.suspect_leader.specs.Sayings.{saying_in};
 use message_types::Body;
 
 /// What a master says once at most: a body by what tells it from the others of its kind.
-#[derive(Clone, Copy, Debug, PartialEq, Eq, PartialOrd, Ord)]
+#[derive(Clone, Copy, PartialEq, Eq, PartialOrd, Ord)]
 pub enum Saying {
     Ping { number: u64 },
     Pong { to: u32, number: u64 },

@@ -1,6 +1,6 @@
 ghost use Rattle.std.specs.Prelude.{◌≡◌, ℕ, Some, None, OnOk, OnErr, max, nat_eq, ◌&&◌, unwrap_or, if◌then◌else◌};
 ghost use Rattle.protocol_rules.specs.Words.{or_else};
-ghost use Rattle.suspect_leader.specs.Kept.{told_at};
+ghost use Rattle.suspect_leader.specs.MeasureState.{told_at};
 
 use plain_lists::Want;
 use std::alloc::Global;

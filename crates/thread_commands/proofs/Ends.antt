@@ -17,23 +17,38 @@ loaded-by one other held by before (content ∷ more) (name, due, told, short, r
 comes-by : (one other : List (List ℕ) → Step → Type 0) (held : List ℕ → Option (List ℕ))
     → ((contents : List (List ℕ)) (step : Step) → one contents step → other contents step)
     → (step : Step) → Comes one held [] step → Comes other held [] step
-comes-by one other held by step (more, loaded, last) = (more, loaded-by one other held by [] more loaded, by more step last)
+comes-by one other held by step (more, loaded, last) =
+    (more, loaded-by one other held by [] more loaded, by more step last)
 
 cause-by : (one other : List (List ℕ) → List (List ℕ) → Step → Type 0) (call : Call)
     → ((contents : List (List ℕ)) (step : Step) → one call.words contents step → other call.words contents step)
     → (result : Result (Unit {0}) Refusal) → CauseOf one call result → CauseOf other call result
-cause-by one other call by (Ok done) cause = (cause.0, comes-by (one call.words) (other call.words) call.held by (Gives cause.0) cause.1, cause.2)
-cause-by one other call by (Err refusal.Usage) cause = (comes-by (one call.words) (other call.words) call.held by (Refuses refusal.Usage) cause.0, cause.1)
-cause-by one other call by (Err (refusal.Fault name)) cause = (comes-by (one call.words) (other call.words) call.held by (Load name) cause.0, cause.1, cause.2)
-cause-by one other call by (Err (refusal.TooLong name)) cause = (comes-by (one call.words) (other call.words) call.held by (Load name) cause.0, cause.1, cause.2)
-cause-by one other call by (Err (refusal.Scenario fault)) cause = (comes-by (one call.words) (other call.words) call.held by (Refuses (refusal.Scenario fault)) cause.0, cause.1)
-cause-by one other call by (Err (refusal.Script fault number)) cause = (comes-by (one call.words) (other call.words) call.held by (Refuses (refusal.Script fault number)) cause.0, cause.1)
-cause-by one other call by (Err (refusal.Words fault number)) cause = (comes-by (one call.words) (other call.words) call.held by (Refuses (refusal.Words fault number)) cause.0, cause.1)
-cause-by one other call by (Err (refusal.History fault number)) cause = (comes-by (one call.words) (other call.words) call.held by (Refuses (refusal.History fault number)) cause.0, cause.1)
-cause-by one other call by (Err (refusal.Pieces at)) cause = (comes-by (one call.words) (other call.words) call.held by (Refuses (refusal.Pieces at)) cause.0, cause.1)
-cause-by one other call by (Err refusal.NotVerified) cause = (comes-by (one call.words) (other call.words) call.held by (Refuses refusal.NotVerified) cause.0, cause.1)
-cause-by one other call by (Err (refusal.NoAnswer lack)) cause = (comes-by (one call.words) (other call.words) call.held by (Refuses (refusal.NoAnswer lack)) cause.0, cause.1)
-cause-by one other call by (Err refusal.Output) cause = (cause.0, comes-by (one call.words) (other call.words) call.held by (Gives cause.0) cause.1, cause.2, cause.3)
+cause-by one other call by (Ok done) cause =
+    (cause.0, comes-by (one call.words) (other call.words) call.held by (Gives cause.0) cause.1, cause.2)
+cause-by one other call by (Err refusal.Usage) cause =
+    (comes-by (one call.words) (other call.words) call.held by (Refuses refusal.Usage) cause.0, cause.1)
+cause-by one other call by (Err (refusal.Fault name)) cause =
+    (comes-by (one call.words) (other call.words) call.held by (Load name) cause.0, cause.1, cause.2)
+cause-by one other call by (Err (refusal.TooLong name)) cause =
+    (comes-by (one call.words) (other call.words) call.held by (Load name) cause.0, cause.1, cause.2)
+cause-by one other call by (Err (refusal.Scenario fault)) cause =
+    (comes-by (one call.words) (other call.words) call.held by (Refuses (refusal.Scenario fault)) cause.0, cause.1)
+cause-by one other call by (Err (refusal.Script fault number)) cause =
+    (comes-by (one call.words) (other call.words) call.held by (Refuses (refusal.Script fault number)) cause.0, cause.1)
+cause-by one other call by (Err (refusal.Words fault number)) cause =
+    (comes-by (one call.words) (other call.words) call.held by (Refuses (refusal.Words fault number)) cause.0, cause.1)
+cause-by one other call by (Err (refusal.History fault number)) cause = (
+  comes-by (one call.words) (other call.words) call.held by (Refuses (refusal.History fault number)) cause.0,
+  cause.1,
+)
+cause-by one other call by (Err (refusal.Pieces at)) cause =
+    (comes-by (one call.words) (other call.words) call.held by (Refuses (refusal.Pieces at)) cause.0, cause.1)
+cause-by one other call by (Err refusal.NotVerified) cause =
+    (comes-by (one call.words) (other call.words) call.held by (Refuses refusal.NotVerified) cause.0, cause.1)
+cause-by one other call by (Err (refusal.NoAnswer lack)) cause =
+    (comes-by (one call.words) (other call.words) call.held by (Refuses (refusal.NoAnswer lack)) cause.0, cause.1)
+cause-by one other call by (Err refusal.Output) cause =
+    (cause.0, comes-by (one call.words) (other call.words) call.held by (Gives cause.0) cause.1, cause.2, cause.3)
 cause-by one other call by (Err refusal.Memory) cause = tt
 
 begun-by : (one other : List (List ℕ) → List (List ℕ) → Step → Type 0) (call : Call)

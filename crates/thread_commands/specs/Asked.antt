@@ -12,7 +12,13 @@ pub record WantedRun : Type 0 where
   pub turns : ℕ
 
 abbrev pub wanted_run : RunWords → WantedRun
-wanted_run w = record { scenario = w.scenario.now; script = w.script.now; words = w.words.now; hands = w.hands; turns = w.turns }
+wanted_run w = record {
+  scenario = w.scenario.now;
+  script = w.script.now;
+  words = w.words.now;
+  hands = w.hands;
+  turns = w.turns;
+}
 
 -- an actor has 1 to 4 hands, and makes 1 to 4,000 turns
 abbrev pub are_in_range : ℕ → ℕ → Bool
@@ -20,7 +26,8 @@ are_in_range hands turns = (nat_le 1 hands && nat_le hands 4) && (nat_le 1 turns
 
 abbrev pub run_of : Wanted → Option WantedRun
 run_of (run scenario script words hands turns) =
-    if are_in_range hands turns then Some (record { scenario = scenario; script = script; words = words; hands = hands; turns = turns }) else None
+    if are_in_range hands turns then Some
+    (record { scenario = scenario; script = script; words = words; hands = hands; turns = turns }) else None
 run_of _ = None
 
 abbrev pub run_asked : Bool → Option Wanted → Option WantedRun

@@ -15,11 +15,12 @@ abbrev pub IsAlike : Step → Step → Type 0
 IsAlike (Gives one) (Gives other) = Unit {0}
 IsAlike one other = one ≡ other
 
--- Where nothing is in its way, a call ends with what its words and its files may come to, or for want of memory: with a text
--- where there is to be one, else with the refusal that is due.
+-- Where nothing is in its way, a call ends with what its words and its files may come to, or for want of memory: with a
+-- text where there is to be one, else with the refusal that is due.
 abbrev pub CompletesAlike : (List (List ℕ) → List (List ℕ) → Step → Type 0) → Call → ErrorSink → ℕ → Type 0
 CompletesAlike next call err status =
-    (last : Step) → IsUntroubled next call last → (end : Step) × IsAlike last end × IsUntroubled next call end × IsDueOrWant call err status end
+    (last : Step) → IsUntroubled next call last → (end : Step) × IsAlike last end × IsUntroubled next call end
+    × IsDueOrWant call err status end
 
 -- Every call completes. Of a run in threads the text is that of some history, of all other commands it is determined.
 pub record KeepsComplete (call : Call) (err : ErrorSink) (status : ℕ) : Type 0 where

@@ -24,7 +24,8 @@ use Rattle.thread_commands.specs.Asked.{WantedRun, run_in}
 -- the text of the history of such a run, whichever one the threads make
 abbrev pub RunGives : ℕ → Contents → List Line → List Saying → Step → Type 0
 RunGives turns c lines sayings step =
-    (history : List Entry) × IsHistoryOf c (inputs_given c lines sayings) turns history × (step ≡ Gives (text_of c history))
+    (history : List Entry) × IsHistoryOf c (inputs_given c lines sayings) turns history
+    × (step ≡ Gives (text_of c history))
 
 -- after an answer one of the steps that may come for its value, or the refusal of its fault
 abbrev pub Accepted : {A E : Type 0} → (E → Refusal) → Result A E → (A → Step → Type 0) → Step → Type 0
@@ -39,7 +40,8 @@ RunCourse asked (a ∷ b ∷ d ∷ more) step =
     (λ lines. Accepted words_refusal (words_in (who_of c) d) (RunGives asked.turns c lines))) step
 RunCourse asked contents step = step ≡ play_step whole_runs asked.scenario asked.script asked.words contents
 
--- What may come next, after the contents of the files loaded so far: in a run, or in another command, where it is one step.
+-- What may come next, after the contents of the files loaded so far: in a run, or in another command, where it is one
+-- step.
 abbrev pub StepOf : List (List ℕ) → Option WantedRun → List (List ℕ) → Step → Type 0
 StepOf words (Some asked) contents step = RunCourse asked contents step
 StepOf words None contents step = SingleStep whole_runs words contents step

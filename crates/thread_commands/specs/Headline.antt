@@ -1,8 +1,8 @@
--- THE HEADLINE, as a clause of the program. Whatever the scenario, the words and the schedule of plays and of threads: the
--- text that is put is that of one legal history, one that the files define; and where at most f masters are intruded and the
--- printed audit shows no forged word and no shared digest, what is printed is agreed on, as `Agreed` of `world_rules` has it:
--- of any two correct masters' executions one begins the other, no update stands there twice or was never said by its client,
--- and each proxy's writes begin a correct master's orders.
+-- THE HEADLINE, as a clause of the program. Whatever the scenario, the words and the schedule of plays and of threads:
+-- the text that is put is that of one legal history, one that the files define; and where at most f masters are
+-- intruded and the printed audit shows no forged word and no shared digest, what is printed is agreed on, as `Agreed`
+-- of `world_rules` has it: of any two correct masters' executions one begins the other, no update stands there twice or
+-- was never said by its client, and each proxy's writes begin a correct master's orders.
 use Rattle.std.specs.Prelude.{◌≡◌, ◌||◌, ℕ, true, List, Some, Ok, is_some}
 use Rattle.outside.specs.Piece.{with_piece}
 use Rattle.scenario_file.specs.Reading.{Contents}
@@ -25,13 +25,14 @@ use Rattle.run_commands.specs.Reading.{scenario_at}
 use Rattle.whole_runs.specs.Whole.{whole_runs}
 use Rattle.thread_commands.specs.Asked.{WantedRun, run_in}
 
--- The history of a call: the one that a play's script and words define or a replay's file tells (`IsRun` of `run_commands`),
--- or one of a run in threads, in which each actor's list goes turn by turn for what the script and the words give it, for as
--- many turns as the call's words say.
+-- The history of a call: the one that a play's script and words define or a replay's file tells (`IsRun` of
+-- `run_commands`), or one of a run in threads, in which each actor's list goes turn by turn for what the script and the
+-- words give it, for as many turns as the call's words say.
 pub data IsHistoryOfCall (call : Call) (c : Contents) (history : List Entry) : Type 0 where
   single : IsRun whole_runs call c history → IsHistoryOfCall call c history
   runs : (asked : WantedRun) → run_in call.words ≡ Some asked
-      → (a b d : List ℕ) → IsContent (call.held asked.scenario) a → IsContent (call.held asked.script) b → IsContent (call.held asked.words) d
+      → (a b d : List ℕ) → IsContent (call.held asked.scenario) a → IsContent (call.held asked.script) b →
+      IsContent (call.held asked.words) d
       → (lines : List Line) (sayings : List Saying)
       → scenario_at a ≡ Ok c → script_in (who_of c) b ≡ Ok lines → words_in (who_of c) d ≡ Ok sayings
       → IsHistoryOf c (inputs_given c lines sayings) asked.turns history
@@ -47,4 +48,5 @@ pub record Headline (call : Call) : Type 0 where
 
 -- The headline holds of each play, each replay and each run in threads that ends well.
 abbrev pub KeepsHeadline : Call → ℕ → Type 0
-KeepsHeadline call status = status ≡ 0 → asks_for_run (wanted_in call.words) || is_some (run_in call.words) ≡ true → Headline call
+KeepsHeadline call status = status ≡ 0 → asks_for_run (wanted_in call.words) || is_some (run_in call.words) ≡ true →
+    Headline call

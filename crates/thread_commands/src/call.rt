@@ -11,7 +11,7 @@ ghost use Rattle.thread_commands.specs.Headline.{KeepsHeadline};
 use crate::asking::asked_run;
 use crate::thread_runs::ThreadRuns;
 use command_ends::call::end_call;
-use command_ends::no_words::{NoWords, spire_without_words};
+use command_ends::no_words::{WordsRefusal, spire_without_words};
 use ended_runs::laws::runs_are_legal;
 use outside::{Files, Sink};
 use plain_lists::Want;
@@ -61,6 +61,6 @@ pub fn spire<R: Threads + Wait + Sync, F: Files, O: Sink, E: Sink>(
     match asked_run(alloc, words) {
         Ok(Some(_)) => end_call(alloc, &ThreadRuns { rt }, words, files, out, err),
         Ok(None) => plain(alloc, words, files, out, err),
-        Err(Want) => spire_without_words(alloc, NoWords::Want, err),
+        Err(Want) => spire_without_words(alloc, WordsRefusal::Want, err),
     }
 }

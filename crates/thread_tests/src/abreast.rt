@@ -1,7 +1,7 @@
 //! Actors that make their turns side by side: what they post to one another comes to be executed by all masters, by however many
 //! hands.
 use crate::runs::{run_small, turns_made};
-use crate::waiting::reaches;
+use crate::waiting::Waits;
 use plain_lists::Want;
 use run_hands::Gate;
 use std::alloc::Global;
@@ -17,11 +17,12 @@ const TURNS: u64 = 80;
 struct Abreast {
     /// How many turns each actor has come to.
     made: Vec<AtomicU64>,
+    waits: Waits,
 }
 
 impl Drop for Abreast {
     fn drop(self) {
-        let Abreast { made: _ } = self;
+        let Abreast { made: _, waits: _ } = self;
     }
 }
 
@@ -31,7 +32,10 @@ impl Abreast {
         for _actor in 0..actors {
             made.push(AtomicU64::new(0))?;
         }
-        Ok(Abreast { made })
+        Ok(Abreast {
+            made,
+            waits: Waits::make(),
+        })
     }
 }
 
@@ -42,7 +46,7 @@ impl Gate for Abreast {
         };
         let least = mine.load(Ordering::SeqCst).saturating_sub(1);
         for other in &self.made {
-            reaches(other, least);
+            self.waits.until(other, least);
         }
     }
 

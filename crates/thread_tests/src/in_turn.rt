@@ -1,7 +1,7 @@
 //! Turns that come one after the other, so that the history is known beforehand: whoever is posted a frame takes it at its next
 //! turn, the oldest first.
 use crate::runs::run_small;
-use crate::waiting::reaches;
+use crate::waiting::Waits;
 use kept_lists::Kept;
 use plain_lists::Want;
 use run_hands::Gate;
@@ -19,8 +19,7 @@ struct InTurn {
     begun: Vec<AtomicU64>,
     /// The number of the last turn, from 0.
     last: u64,
-    /// How many waits were given up.
-    given_up: AtomicU64,
+    waits: Waits,
 }
 
 impl Drop for InTurn {
@@ -28,7 +27,7 @@ impl Drop for InTurn {
         let InTurn {
             begun: _,
             last: _,
-            given_up: _,
+            waits: _,
         } = self;
     }
 }
@@ -42,7 +41,7 @@ impl InTurn {
         Ok(InTurn {
             begun,
             last: turns.saturating_sub(1),
-            given_up: AtomicU64::new(0),
+            waits: Waits::make(),
         })
     }
 
@@ -53,10 +52,11 @@ impl InTurn {
                 return false;
             }
         }
-        self.given_up.load(Ordering::SeqCst) == 0
+        !self.waits.are_given_up()
     }
 
-    /// How many turns the actor at this place has begun where one at another place may go on with its turn of this number, from 1.
+    /// How many turns the actor at place `other` is to have begun before the one at `place` goes on with its turn of this number,
+    /// from 1.
     fn wanted(&self, place: usize, other: usize, number: u64) -> u64 {
         if other < place && number <= self.last {
             number.saturating_add(1)
@@ -75,9 +75,8 @@ impl Gate for InTurn {
         let number = turn.saturating_add(1);
         mine.store(number, Ordering::SeqCst);
         for other in 0..self.begun.len() {
-            if !reaches(&self.begun[other], self.wanted(place, other, number)) {
-                self.given_up.fetch_add(1, Ordering::SeqCst);
-            }
+            self.waits
+                .until(&self.begun[other], self.wanted(place, other, number));
         }
     }
 

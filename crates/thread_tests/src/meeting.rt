@@ -1,6 +1,6 @@
 //! Two masters that wait for each other inside their turns. One thread for all hands, or one lock round all actors, can't do that.
 use crate::runs::{run_small, turns_made};
-use crate::waiting::reaches;
+use crate::waiting::Waits;
 use run_hands::Gate;
 use std::sync::Wait;
 use std::sync::atomic::{AtomicU64, Ordering};
@@ -11,8 +11,7 @@ use std::thread::Threads;
 struct Meeting {
     first: AtomicU64,
     second: AtomicU64,
-    /// How many of them saw the other there.
-    met: AtomicU64,
+    waits: Waits,
 }
 
 impl Drop for Meeting {
@@ -20,7 +19,7 @@ impl Drop for Meeting {
         let Meeting {
             first: _,
             second: _,
-            met: _,
+            waits: _,
         } = self;
     }
 }
@@ -30,20 +29,20 @@ impl Meeting {
         Meeting {
             first: AtomicU64::new(0),
             second: AtomicU64::new(0),
-            met: AtomicU64::new(0),
+            waits: Waits::make(),
         }
     }
 
     /// Whether both waited, and neither gave up.
     fn have_met(&self) -> bool {
-        self.met.load(Ordering::SeqCst) == 2
+        self.first.load(Ordering::SeqCst) == 1
+            && self.second.load(Ordering::SeqCst) == 1
+            && !self.waits.are_given_up()
     }
 
     fn meet(&self, mine: &AtomicU64, other: &AtomicU64) {
         mine.store(1, Ordering::SeqCst);
-        if reaches(other, 1) {
-            self.met.fetch_add(1, Ordering::SeqCst);
-        }
+        self.waits.until(other, 1);
     }
 }
 

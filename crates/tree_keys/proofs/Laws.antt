@@ -1,5 +1,6 @@
 -- What a tree signs, its public key verifies (RFC 8554, section 5.4).
-use Rattle.std.proofs.Common.{◌≡◌, ◌≤◌, ◌<◌, ◌^◌, ◌+◌, ◌-◌, ◌*◌, ◌/◌, ◌%◌, ◌==◌, ℕ, zero, suc, List, ◌++◌, length, true, false, refl, sym, ap, ◌∙◌, arith, inl, inr, eq-eqb, length-append}
+use Rattle.std.proofs.Common.{◌≡◌, ◌≤◌, ◌<◌, ◌^◌, ◌+◌, ◌-◌, ◌*◌, ◌/◌, ◌%◌, ◌==◌, ℕ, zero, suc, List, ◌++◌, length}
+use Rattle.std.proofs.Common.{true, false, refl, sym, ap, ◌∙◌, arith, inl, inr, eq-eqb, length-append}
 use Rattle.wire_parts.specs.Fields.{u32_bytes}
 use Rattle.wire_parts.specs.FieldLaws.{length-u32_bytes}
 use Rattle.ots_keys.specs.Parameters.{type_code}

@@ -1,27 +1,20 @@
 -- The nodes of a tree.
-use Rattle.std.proofs.Common.{◌≡◌, ◌≤◌, ◌<◌, ◌^◌, ◌+◌, ◌-◌, ◌*◌, ◌/◌, ℕ, zero, suc, List, [], ◌∷◌, length, refl, sym, ap, ◌∙◌, arith, inl, inr, get_or, length-append, nat_le, true, false, if◌then◌else◌}
-use Rattle.std.proofs.lemmas.Bool.Decides.{nat_tests}
-use Rattle.std.proofs.lemmas.Bool.{cases_lt, le-leb}
+use Rattle.std.proofs.Common.{◌≡◌, ◌≤◌, ◌<◌, ◌^◌, ◌+◌, ◌-◌, ◌*◌, ◌/◌, ℕ, zero, suc, List, [], ◌∷◌, length, refl, sym}
+use Rattle.std.proofs.Common.{ap, ◌∙◌, arith, inl, inr, get_or, length-append, nat_le, true, false, if◌then◌else◌}
+use Rattle.std.proofs.lemmas.Bool.{cases_lt, le-leb, lt-leb}
 use Rattle.std.proofs.Math.Nat.{pow-succ', pow-le-pow_right, one-le-pow, le-div_iff_mul-le}
 use Rattle.std.proofs.lemmas.List.{get_or_append_left}
 use Rattle.std.proofs.Math.Seq.{get_or-append_seam}
 use Rattle.ots_keys.proofs.Laws.{length-hash_under}
 use Rattle.tree_keys.specs.Nodes.{TreeSeed, node, node_within, leaf_of, inner_hash, stored}
 
--- the test of a leaf
-is_leaf : (leaves r : ℕ) → leaves ≤ r → nat_le leaves r ≡ true
-is_leaf leaves r h = le-leb leaves r h
-
-is_inner : (leaves r : ℕ) → r < leaves → nat_le leaves r ≡ false
-is_inner leaves r h = grind (arith, nat_tests)
-
 node_within-leaf : (tree : TreeSeed) (n r : ℕ) → 2 ^ tree.height ≤ r → node_within tree n r ≡ leaf_of tree r
 node_within-leaf tree zero r h = refl
-node_within-leaf tree (suc n) r h = rw (is_leaf (2 ^ tree.height) r h) refl
+node_within-leaf tree (suc n) r h = rw (le-leb (2 ^ tree.height) r h) refl
 
 node_within-inner : (tree : TreeSeed) (n r : ℕ) → r < 2 ^ tree.height
     → node_within tree (suc n) r ≡ inner_hash tree.id r (node_within tree n (2 * r)) (node_within tree n (2 * r + 1))
-node_within-inner tree n r h = rw (is_inner (2 ^ tree.height) r h) refl
+node_within-inner tree n r h = rw (lt-leb (2 ^ tree.height) r h) refl
 
 double_left : (r p : ℕ) → r * (2 * p) ≡ 2 * r * p
 double_left r p = grind arith
@@ -30,7 +23,8 @@ more_left : (r p : ℕ) → r * p ≤ (r + 1) * p
 more_left r p = grind arith
 
 -- where n levels are enough, so are n + 1
-node_within-more : (tree : TreeSeed) (n r : ℕ) → 2 ^ tree.height ≤ r * 2 ^ n → node_within tree n r ≡ node_within tree (suc n) r
+node_within-more : (tree : TreeSeed) (n r : ℕ) → 2 ^ tree.height ≤ r * 2 ^ n →
+    node_within tree n r ≡ node_within tree (suc n) r
 node_within-more tree zero r h = sym (node_within-leaf tree 1 r (omega arith))
 node_within-more tree (suc n) r h = elim (cases_lt r (2 ^ tree.height)) [
   | inl inner ↦
@@ -51,7 +45,8 @@ more_leaves r p h = grind arith
 length-node_within : (tree : TreeSeed) (n r : ℕ) → length (node_within tree n r) ≡ 32
 length-node_within tree zero r = length-hash_under _ _ _ _
 length-node_within tree (suc n) r = elim (nat_le (2 ^ tree.height) r) as (λ b.
-    length (if b then leaf_of tree r else inner_hash tree.id r (node_within tree n (2 * r)) (node_within tree n (2 * r + 1))) ≡ 32) [
+    length (if b then leaf_of tree r else inner_hash tree.id r (node_within tree n (2 * r))
+    (node_within tree n (2 * r + 1))) ≡ 32) [
       | true ↦ length-hash_under _ _ _ _
       | false ↦ length-hash_under _ _ _ _
     ]
@@ -77,14 +72,17 @@ length-node tree r = length-node_within tree tree.height r
 -- what stands among the stored nodes
 pub length-stored : (tree : TreeSeed) (n : ℕ) → length (stored tree n) ≡ n
 length-stored tree zero = refl
-length-stored tree (suc n) = let before = length-stored tree n in omega (arith, before, length-append (stored tree n) (node tree (2 * 2 ^ tree.height - 1 - n) ∷ []))
+length-stored tree (suc n) = let before = length-stored tree n in
+    omega (arith, before, length-append (stored tree n) (node tree (2 * 2 ^ tree.height - 1 - n) ∷ []))
 
-pub stored-at : (tree : TreeSeed) (n i : ℕ) (d : List ℕ) → i < n → get_or (stored tree n) i d ≡ node tree (2 * 2 ^ tree.height - 1 - i)
+pub stored-at : (tree : TreeSeed) (n i : ℕ) (d : List ℕ) → i < n →
+    get_or (stored tree n) i d ≡ node tree (2 * 2 ^ tree.height - 1 - i)
 stored-at tree zero i d h = absurd (omega arith)
 stored-at tree (suc n) i d h =
     let len = length-stored tree n in
     elim (cases_lt i n) [
-      | inl before ↦ get_or_append_left (stored tree n) (node tree (2 * 2 ^ tree.height - 1 - n) ∷ []) d i (omega arith) ∙ stored-at tree n i d before
+      | inl before ↦ get_or_append_left (stored tree n) (node tree (2 * 2 ^ tree.height - 1 - n) ∷ []) d i
+          (omega arith) ∙ stored-at tree n i d before
       | inr last ↦
           let e : i ≡ length (stored tree n) = omega arith in
           let k : n ≡ i = omega arith in

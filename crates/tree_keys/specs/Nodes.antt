@@ -1,6 +1,7 @@
 -- The hashes of a tree (RFC 8554, section 5.3). Node 1 is the root, and below node r stand the nodes
 -- 2 * r and 2 * r + 1; the leaves of a tree of height h are the nodes from 2 ^ h on.
-use Rattle.std.specs.Prelude.{◌==◌, ℕ, zero, suc, ◌+◌, ◌*◌, ◌/◌, ◌%◌, ◌-◌, ◌^◌, nat_le, if◌then◌else◌, List, [], ◌∷◌, ◌++◌, take, drop}
+use Rattle.std.specs.Prelude.{◌==◌, ℕ, zero, suc, ◌+◌, ◌*◌, ◌/◌, ◌%◌, ◌-◌, ◌^◌, nat_le, if◌then◌else◌, List, [], ◌∷◌}
+use Rattle.std.specs.Prelude.{◌++◌, take, drop}
 use Rattle.ots_keys.specs.declared.parameters.Ots.{Ots}
 use Rattle.ots_keys.specs.Hash.{hash_under}
 use Rattle.ots_keys.specs.Keys.{public_key}

@@ -21,4 +21,5 @@ path_node tree q i = node tree (sibling ((2 ^ tree.height + q) / 2 ^ i))
 -- the signature of a message with leaf q (section 5.4.1)
 unfoldable pub tree_signature : TreeSeed → ℕ → List ℕ → List ℕ
 tree_signature tree q message =
-    signature_bytes tree.height q (signature tree.ots tree.id q tree.seed message) (joined (path_node tree q) tree.height)
+    signature_bytes tree.height q (signature tree.ots tree.id q tree.seed message)
+    (joined (path_node tree q) tree.height)

@@ -8,7 +8,7 @@ use ots_keys::{Ots, ots_candidate};
 
 /// An LMS public key: the height of its tree, the type of its one-time keys, its identifier I and
 /// the hash of its root.
-#[derive(Clone, Copy, Debug, PartialEq, Eq)]
+#[derive(Clone, Copy, PartialEq, Eq)]
 pub struct PublicKey {
     pub height: u32,
     pub ots: Ots,

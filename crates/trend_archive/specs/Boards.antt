@@ -1,6 +1,7 @@
--- Which of the masters' answers is shown: the first that more than f different masters gave, since then a master that isn't
--- intruded did. (In the manner of Spire, whose screens act on f + 1 matching words of its masters.)
-use Rattle.std.specs.Prelude.{◌≡◌, ◌<◌, ℕ, Bool, true, false, ◌&&◌, List, [], ◌∷◌, ◌++◌, Option, Some, None, nat_eq, nat_lt, length, slice_get, IsSomeAnd, if◌then◌else◌}
+-- Which of the masters' answers is shown: the first that more than f different masters gave, since then a master that
+-- isn't intruded did. (In the manner of Spire, whose screens act on f + 1 matching words of its masters.)
+use Rattle.std.specs.Prelude.{◌≡◌, ◌<◌, ℕ, Bool, true, false, ◌&&◌, List, [], ◌∷◌, ◌++◌, Option, Some, None, nat_eq}
+use Rattle.std.specs.Prelude.{nat_lt, length, slice_get, IsSomeAnd, if◌then◌else◌}
 use Rattle.std.specs.List.{list_any}
 use Rattle.std.specs.Ordering.{int_eq}
 use Rattle.quorum_sets.specs.Masters.{voters}
@@ -17,7 +18,8 @@ same_items (x ∷ xs) (y ∷ ys) = nat_eq x.number y.number && int_eq x.value y.
 
 -- whether two answers are one and the same
 abbrev pub same_changes : Changes → Changes → Bool
-same_changes a b = nat_eq a.point b.point && nat_eq a.first b.first && nat_eq a.last b.last && same_items a.items b.items
+same_changes a b = nat_eq a.point b.point && nat_eq a.first b.first && nat_eq a.last b.last
+    && same_items a.items b.items
 
 -- whether a vote is this master's, for this answer
 abbrev pub is_vote : Changes → ℕ → Vote → Bool
@@ -43,7 +45,8 @@ or_else (Some a) other = Some a
 -- the answer of the first vote, in the order in which they came, that settles one (`seen` came before)
 abbrev pub shown_after : (n f : ℕ) → List Vote → List Vote → Option Changes
 shown_after n f seen [] = None
-shown_after n f seen (vote ∷ rest) = or_else (settled_by n f (seen ++ vote ∷ []) vote) (shown_after n f (seen ++ vote ∷ []) rest)
+shown_after n f seen (vote ∷ rest) = or_else (settled_by n f (seen ++ vote ∷ []) vote)
+    (shown_after n f (seen ++ vote ∷ []) rest)
 
 -- the answer that is shown after these votes
 unfoldable pub shown : (n f : ℕ) → List Vote → Option Changes
@@ -62,8 +65,10 @@ pub record Tally : Type 0 where
 
 -- Where more than f masters gave an answer, one is shown.
 abbrev pub ShownWhereSupported : Type 0
-ShownWhereSupported = (n f : ℕ) (votes : List Vote) (a : Changes) → f < length (supporters n votes a) → shown n f votes ≡ None → ⊥
+ShownWhereSupported = (n f : ℕ) (votes : List Vote) (a : Changes) → f < length (supporters n votes a) →
+    shown n f votes ≡ None → ⊥
 
 -- What is shown is an answer of more than f masters.
 abbrev pub ShownIsSupported : Type 0
-ShownIsSupported = (n f : ℕ) (votes : List Vote) (a : Changes) → shown n f votes ≡ Some a → f < length (supporters n votes a)
+ShownIsSupported = (n f : ℕ) (votes : List Vote) (a : Changes) → shown n f votes ≡ Some a →
+    f < length (supporters n votes a)

@@ -1,5 +1,7 @@
 -- The changes of one point over the executed updates. (This project's own.)
-use Rattle.std.specs.Prelude.{◌≡◌, ℕ, zero, suc, ◌+◌, ◌<◌, ◌≤◌, Bool, false, ◌&&◌, ◌||◌, not, if◌then◌else◌, List, [], ◌∷◌, ◌++◌, Option, Some, None, ℤ, nat_eq, nat_lt, nat_le, filter, length, slice_get, slice_set}
+use Rattle.std.specs.Prelude.{◌≡◌, ℕ, zero, suc, ◌+◌, ◌<◌, ◌≤◌, Bool, false, ◌&&◌, ◌||◌, not, if◌then◌else◌, List, []}
+use Rattle.std.specs.Prelude.{◌∷◌, ◌++◌, Option, Some, None, ℤ, nat_eq, nat_lt, nat_le, filter, length, slice_get}
+use Rattle.std.specs.Prelude.{slice_set}
 use Rattle.std.specs.Ordering.{int_eq}
 use Rattle.message_types.specs.declared.updates.Op.{Op}
 use Rattle.message_types.specs.declared.updates.Op.TheVariants as op
@@ -18,11 +20,12 @@ abbrev pub has_value : ℤ → Option ℤ → Bool
 has_value v None = false
 has_value v (Some w) = int_eq w v
 
--- The reading by which an update changes a point: by the point's own proxy, within the point's bounds, of another value than
--- the point had before.
+-- The reading by which an update changes a point: by the point's own proxy, within the point's bounds, of another value
+-- than the point had before.
 abbrev pub news : List Point → List ℤ → ℕ → Op → Option Reading
 news points values client (op.Reading p v) =
-    if is_own_within client v (slice_get points p) && not (has_value v (slice_get values p)) then Some (record { point = p; value = v }) else None
+    if is_own_within client v (slice_get points p) && not (has_value v (slice_get values p)) then Some
+    (record { point = p; value = v }) else None
 news points values client (op.Set p v) = None
 news points values client (op.Ack a) = None
 
@@ -35,7 +38,8 @@ told p x (Some r) = if nat_eq r.point p then record { number = x; value = r.valu
 abbrev pub changes_from : Site → ℕ → ℕ → State → List Update → List Changed
 changes_from site p x s [] = []
 changes_from site p x s (u ∷ us) =
-    told p x (news s.table.points s.table.values u.client u.op) ++ changes_from site p (suc x) (settled (effect site s u).step s) us
+    told p x (news s.table.points s.table.values u.client u.op) ++ changes_from site p (suc x)
+    (settled (effect site s u).step s) us
 
 -- the changes of point p by executed updates, which are numbered from 1
 abbrev pub all_changes : Plant → (screens p : ℕ) → List Update → List Changed
@@ -89,4 +93,5 @@ pub record IsTrend (plant : Plant) (screens : ℕ) (us : List Update) (t : Archi
 
 -- what is executed later changes no answer
 abbrev pub EarlierStays : Type 0
-EarlierStays = (plant : Plant) (screens p first last : ℕ) (us more : List Update) → last ≤ length us → changes plant screens p first last (us ++ more) ≡ changes plant screens p first last us
+EarlierStays = (plant : Plant) (screens p first last : ℕ) (us more : List Update) → last ≤ length us →
+    changes plant screens p first last (us ++ more) ≡ changes plant screens p first last us

@@ -10,7 +10,7 @@ pub struct Changed {
 }
 
 /// A reading that changes a point.
-#[derive(Clone, Copy, Debug, PartialEq, Eq)]
+#[derive(Clone, Copy, PartialEq, Eq)]
 pub struct Reading {
     pub point: u32,
     pub value: i64,
@@ -23,12 +23,6 @@ pub struct Changes {
     pub first: u64,
     pub last: u64,
     pub items: Items<Changed>,
-}
-
-impl Copied for Changed {
-    fn copy(&self) -> Result<Self, Want> {
-        Ok(*self)
-    }
 }
 
 impl Same for Changed {

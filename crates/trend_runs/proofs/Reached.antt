@@ -1,5 +1,6 @@
 -- The q-th greatest of some numbers, by how many of them reach a number.
-use Rattle.std.proofs.Common.{◌≡◌, ℕ, ◌≤◌, true, List, [], ◌∷◌, nat_le, filter, length, refl, sym, ◌∙◌, ap, subst, inl, inr, arith}
+use Rattle.std.proofs.Common.{◌≡◌, ℕ, ◌≤◌, true, List, [], ◌∷◌, nat_le, filter, length, refl, sym, ◌∙◌, ap, subst}
+use Rattle.std.proofs.Common.{inl, inr, arith}
 use Rattle.std.proofs.lemmas.Bool.{cases_lt, le-leb, leb-true}
 use Rattle.history_rules.specs.Audit.{IsIn, here, there}
 use Rattle.agreement.proofs.Lists.{in_cons_cases, in_filter, in_filter_from, none_in}
@@ -34,8 +35,20 @@ least x (z ∷ zs) = by (least z zs)
   where
     by : least_in (z ∷ zs) → least_in (x ∷ z ∷ zs)
     by l = elim (cases_lt l.0 x) [
-      | inl less ↦ (l.0, there x (z ∷ zs) l.1, λ y h. elim (in_cons_cases h) [ inl is ↦ omega arith | inr behind ↦ l.2 y behind ])
-      | inr more ↦ (x, here (z ∷ zs), λ y h. elim (in_cons_cases h) [ inl is ↦ omega arith | inr behind ↦ let far = l.2 y behind in omega arith ])
+      | inl less ↦ (
+        l.0,
+        there x (z ∷ zs) l.1,
+        λ y h. elim (in_cons_cases h) [ inl is ↦ omega arith | inr behind ↦ l.2 y behind ],
+      )
+      | inr more ↦ (
+        x,
+        here (z ∷ zs),
+        λ y h. elim (in_cons_cases h) [
+          | inl is ↦ omega arith
+          | inr behind ↦ let far =
+              l.2 y behind in omega arith
+        ],
+      )
     ]
 
 -- where the q-th greatest reaches a number above 0, q of them do
@@ -56,14 +69,16 @@ abbrev reached_of : ℕ → List ℕ → List ℕ
 reached_of q numbers = filter (λ z. nat_le q (how_many z numbers)) numbers
 
 -- the least of those that reach a number is reached by as many
-by_least : (q x : ℕ) (numbers far : List ℕ) → filter (λ y. nat_le x y) numbers ≡ far → q ≤ how_many x numbers → least_in far → x ≤ greatest_of (reached_of q numbers)
+by_least : (q x : ℕ) (numbers far : List ℕ) → filter (λ y. nat_le x y) numbers ≡ far → q ≤ how_many x numbers →
+    least_in far → x ≤ greatest_of (reached_of q numbers)
 by_least q x numbers far e many l =
     let from = in_filter_from (λ y. nat_le x y) numbers (subst (IsIn l.0) (sym e) l.1) in
     let low : x ≤ l.0 = leb-true x l.0 from.1 in
     let fewer : how_many x numbers ≤ how_many l.0 numbers =
     filter_fewer (λ y. nat_le x y) (λ y. nat_le l.0 y) numbers
     (λ y k reaches. le-leb l.0 y (l.2 y (subst (IsIn y) e (in_filter (λ t. nat_le x t) k reaches)))) in
-    let taken : IsIn l.0 (reached_of q numbers) = in_filter (λ z. nat_le q (how_many z numbers)) from.0 (le-leb q (how_many l.0 numbers) (omega arith)) in
+    let taken : IsIn l.0 (reached_of q numbers) = in_filter (λ z. nat_le q (how_many z numbers)) from.0
+    (le-leb q (how_many l.0 numbers) (omega arith)) in
     let above : l.0 ≤ greatest_of (reached_of q numbers) = greatest_above l.0 (reached_of q numbers) taken in
     omega arith
 
@@ -77,7 +92,9 @@ reached-down q x numbers some many = by (filter (λ y. nat_le x y) numbers) refl
     by (z ∷ zs) e = by_least q x numbers (z ∷ zs) e many (least z zs)
 
 -- of the same numbers
-pub reached-by : (q : ℕ) (given numbers : List ℕ) (r : ℕ) → r ≡ greatest_of (filter (λ x. nat_le q (length (filter (λ y. nat_le x y) given))) given) → given ≡ numbers
+pub reached-by : (q : ℕ) (given numbers : List ℕ) (r : ℕ) →
+    r ≡ greatest_of (filter (λ x. nat_le q (length (filter (λ y. nat_le x y) given))) given) → given ≡ numbers
     → r ≡ greatest_reached q numbers
 unfolding greatest_reached
-reached-by q given numbers r is same = is ∙ (λ i. greatest_of (filter (λ x. nat_le q (length (filter (λ y. nat_le x y) (same i)))) (same i)))
+reached-by q given numbers r is same =
+    is ∙ (λ i. greatest_of (filter (λ x. nat_le q (length (filter (λ y. nat_le x y) (same i)))) (same i)))

@@ -1,6 +1,7 @@
--- What the correct masters of a history answer, asked for a point's changes by the updates of some numbers, and which of
--- these answers is shown: the first of more than f of them. (This project's own, in the manner of Spire's screens.)
-use Rattle.std.specs.Prelude.{◌≡◌, ℕ, ◌+◌, List, Option, Some, None, Result, Ok, Err, filter, length, map, nat_le, if◌then◌else◌}
+-- What the correct masters of a history answer, asked for a point's changes by the updates of some numbers, and which
+-- of these answers is shown: the first of more than f of them. (This project's own, in the manner of Spire's screens.)
+use Rattle.std.specs.Prelude.{◌≡◌, ℕ, ◌+◌, List, Option, Some, None, Result, Ok, Err, filter, length, map, nat_le}
+use Rattle.std.specs.Prelude.{if◌then◌else◌}
 use Rattle.std.specs.declared.vec.Vec.{Vec}
 use Rattle.std.specs.declared.alloc.Global.{Global}
 use Rattle.message_types.specs.declared.updates.Update.{Update}
@@ -18,8 +19,8 @@ use Rattle.trend_archive.specs.declared.board.Vote.{Vote}
 use Rattle.trend_archive.specs.declared.change.Changes.{Changes}
 use Rattle.trend_archive.specs.Boards.{shown}
 use Rattle.trend_archive.specs.Trends.{changes, refusal}
-use Rattle.trend_runs.specs.declared.fault.TrendFault.{TrendFault}
-use Rattle.trend_runs.specs.declared.fault.TrendFault.TheVariants as fault
+use Rattle.trend_runs.specs.declared.fault.TrendRefusal.{TrendRefusal}
+use Rattle.trend_runs.specs.declared.fault.TrendRefusal.TheVariants as fault
 use Rattle.trend_runs.specs.Text.{changes_text}
 
 -- the correct masters, rising
@@ -40,7 +41,8 @@ reaching w history last = filter (λ i. nat_le last (length (executions w histor
 
 -- a point's changes by updates number `first` to `last`, in a master's executions
 abbrev pub changes_of : Contents → (p first last : ℕ) → List Update → Changes
-changes_of c p first last us = record { point = p; first = first; last = last; items = changes c.plant c.settings.screens p first last us }
+changes_of c p first last us =
+    record { point = p; first = first; last = last; items = changes c.plant c.settings.screens p first last us }
 
 -- what a correct master of the history answers
 abbrev pub changes_by : Contents → List Entry → (p first last : ℕ) → ℕ → Changes
@@ -55,19 +57,19 @@ unfoldable pub votes_in : Contents → List Entry → (p first last : ℕ) → L
 votes_in c history p first last = map (vote_by c history p first last) (reaching (setup_of c) history last)
 
 -- a refusal as the command tells it
-abbrev pub fault_of : TrendAnswer → TrendFault
+abbrev pub fault_of : TrendAnswer → TrendRefusal
 fault_of answer.NoPoint = fault.NoPoint
 fault_of answer.BadRange = fault.BadRange
 fault_of (answer.NotReached executed) = fault.NotReached executed
 fault_of answer.Want = fault.Want
 
 -- the text of the answer that is shown, or that there is none
-abbrev pub printed : Option Changes → Result (List ℕ) TrendFault
+abbrev pub printed : Option Changes → Result (List ℕ) TrendRefusal
 printed None = Err fault.NoMatch
 printed (Some a) = Ok (changes_text a)
 
 -- the refusal, or else what is printed
-abbrev pub unless_refused : Option TrendAnswer → Result (List ℕ) TrendFault → Result (List ℕ) TrendFault
+abbrev pub unless_refused : Option TrendAnswer → Result (List ℕ) TrendRefusal → Result (List ℕ) TrendRefusal
 unless_refused None told = told
 unless_refused (Some why) told = Err (fault_of why)
 
@@ -75,15 +77,15 @@ unless_refused (Some why) told = Err (fault_of why)
 abbrev pub executed_by_more : Contents → List Entry → ℕ
 executed_by_more c history = greatest_reached (c.settings.f + 1) (counts_in (setup_of c) history)
 
--- What the command prints of a history, or why it prints nothing: the question is refused as a trend of as many updates as
--- more than f correct masters executed refuses it; then no answer may be one of more than f.
-unfoldable pub trend_in : Contents → List Entry → (p first last : ℕ) → Result (List ℕ) TrendFault
+-- What the command prints of a history, or why it prints nothing: the question is refused as a trend of as many updates
+-- as more than f correct masters executed refuses it; then no answer may be one of more than f.
+unfoldable pub trend_in : Contents → List Entry → (p first last : ℕ) → Result (List ℕ) TrendRefusal
 trend_in c history p first last =
     unless_refused (refusal (length c.plant.points) (executed_by_more c history) p first last)
     (printed (shown (masters_in c) c.settings.f (votes_in c history p first last)))
 
 -- The result is this, or memory was wanting.
-abbrev pub Gives : Result (List ℕ) TrendFault → Result (Vec ℕ Global) TrendFault → Type 0
+abbrev pub Gives : Result (List ℕ) TrendRefusal → Result (Vec ℕ Global) TrendRefusal → Type 0
 Gives told (Ok text) = told ≡ Ok text.items
 Gives told (Err fault.Want) = Unit {0}
 Gives told (Err other) = told ≡ Err other

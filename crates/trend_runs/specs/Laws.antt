@@ -1,5 +1,5 @@
--- What holds of the trends of every history. (This project's own, in the manner of Spire, whose screens act on f + 1 matching
--- words.)
+-- What holds of the trends of every history. (This project's own, in the manner of Spire, whose screens act on f + 1
+-- matching words.)
 use Rattle.std.specs.Prelude.{◌≡◌, ◌↔◌, ℕ, ◌<◌, ◌≤◌, true, List, Ok, Err, length}
 use Rattle.scenario_file.specs.Reading.{Contents}
 use Rattle.scenario_file.specs.Valid.{IsScenario}
@@ -8,7 +8,7 @@ use Rattle.history_rules.specs.Setup.{is_correct_master}
 use Rattle.history_rules.specs.Legal.{IsLegal, executions}
 use Rattle.world_rules.specs.Headline.{Premises}
 use Rattle.world_rules.specs.Scenarios.{setup_of}
-use Rattle.trend_runs.specs.declared.fault.TrendFault.TheVariants as fault
+use Rattle.trend_runs.specs.declared.fault.TrendRefusal.TheVariants as fault
 use Rattle.trend_runs.specs.Asked.{reaching, changes_by, trend_in}
 use Rattle.trend_runs.specs.Text.{changes_text}
 
@@ -32,17 +32,20 @@ PrintsTheChangesOfOne =
 -- Where the headline's premises hold, they are those in the executions of every correct master that reach so far.
 abbrev pub PrintsTheChangesOfAll : Type 0
 PrintsTheChangesOfAll =
-    (c : Contents) (history : List Entry) (p first last : ℕ) (text : List ℕ) → IsHeadlined c history → trend_in c history p first last ≡ Ok text
+    (c : Contents) (history : List Entry) (p first last : ℕ) (text : List ℕ) → IsHeadlined c history →
+    trend_in c history p first last ≡ Ok text
     → (i : ℕ) → Reaches c history last i → text ≡ changes_text (changes_by c history p first last i)
 
 -- There more than f answers are always equal.
 abbrev pub AlwaysMatches : Type 0
 AlwaysMatches =
-    (c : Contents) (history : List Entry) (p first last : ℕ) → IsHeadlined c history → trend_in c history p first last ≡ Err fault.NoMatch → ⊥
+    (c : Contents) (history : List Entry) (p first last : ℕ) → IsHeadlined c history →
+    trend_in c history p first last ≡ Err fault.NoMatch → ⊥
 
--- Of a point that is there and a range, it isn't reached exactly where no more than f correct masters executed up to the last
--- number.
+-- Of a point that is there and a range, it isn't reached exactly where no more than f correct masters executed up to
+-- the last number.
 abbrev pub IsNotReachedWhereFew : Type 0
 IsNotReachedWhereFew =
     (c : Contents) (history : List Entry) (p first last : ℕ) → p < length c.plant.points → 1 ≤ first → first ≤ last
-    → (length (reaching (setup_of c) history last) ≤ c.settings.f) ↔ ((executed : ℕ) × (trend_in c history p first last ≡ Err (fault.NotReached executed)))
+    → (length (reaching (setup_of c) history last) ≤ c.settings.f) ↔
+    ((executed : ℕ) × (trend_in c history p first last ≡ Err (fault.NotReached executed)))

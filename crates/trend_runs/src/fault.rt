@@ -7,7 +7,7 @@ use trend_archive::TrendAnswer;
 
 /// Why nothing is printed of a point's changes, tried in this order.
 #[derive(Clone, Copy, Debug, PartialEq, Eq, Error)]
-pub enum TrendFault {
+pub enum TrendRefusal {
     /// The plant has no point of that number.
     #[error("NoPoint")]
     NoPoint,
@@ -25,29 +25,29 @@ pub enum TrendFault {
     Want,
 }
 
-impl From<Want> for TrendFault {
+impl From<Want> for TrendRefusal {
     ghost use Rattle.std.specs.Prelude.{◌≡◌};
-    ghost use Rattle.trend_runs.specs.declared.fault.TrendFault.TheVariants.{Want as WantFault};
+    ghost use Rattle.trend_runs.specs.declared.fault.TrendRefusal.TheVariants.{Want as WantFault};
 
     ghost from_gives = { λ _ fault. fault ≡ WantFault };
 
-    fn from(_refused: Want) -> TrendFault {
-        TrendFault::Want
+    fn from(_refused: Want) -> TrendRefusal {
+        TrendRefusal::Want
     }
 }
 
-impl From<TrendAnswer> for TrendFault {
+impl From<TrendAnswer> for TrendRefusal {
     ghost use Rattle.std.specs.Prelude.{◌≡◌};
     ghost use Rattle.trend_runs.specs.Asked.{fault_of};
 
     ghost from_gives = { λ answer fault. fault ≡ fault_of answer };
 
-    fn from(answer: TrendAnswer) -> TrendFault {
+    fn from(answer: TrendAnswer) -> TrendRefusal {
         match answer {
-            TrendAnswer::NoPoint => TrendFault::NoPoint,
-            TrendAnswer::BadRange => TrendFault::BadRange,
-            TrendAnswer::NotReached { executed } => TrendFault::NotReached { executed },
-            TrendAnswer::Want => TrendFault::Want,
+            TrendAnswer::NoPoint => TrendRefusal::NoPoint,
+            TrendAnswer::BadRange => TrendRefusal::BadRange,
+            TrendAnswer::NotReached { executed } => TrendRefusal::NotReached { executed },
+            TrendAnswer::Want => TrendRefusal::Want,
         }
     }
 }

@@ -10,5 +10,5 @@ mod text;
 mod trend;
 mod votes;
 
-pub use fault::TrendFault;
+pub use fault::TrendRefusal;
 pub use trend::trend_text;

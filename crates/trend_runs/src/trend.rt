@@ -8,7 +8,7 @@ ghost use Rattle.trend_archive.specs.Boards.{shown};
 ghost use Rattle.trend_runs.specs.Asked.{Gives, printed, trend_in};
 
 use crate::counting::executed_by_more;
-use crate::fault::TrendFault;
+use crate::fault::TrendRefusal;
 use crate::question::Question;
 use crate::text::changes_text;
 use crate::votes::board_of;
@@ -27,7 +27,7 @@ pub fn trend_text(
     point: u32,
     first: u64,
     last: u64,
-) -> Result<Vec<u8>, TrendFault>
+) -> Result<Vec<u8>, TrendRefusal>
     requires valid { IsScenario (contents scenario.now) }
     requires benches { (history : List Entry) × AreBenches (contents scenario.now) history benches.now }
     ensures { (history : List Entry) → AreBenches (contents scenario.now) history benches.now → Gives (trend_in (contents scenario.now) history point first last) result }
@@ -35,7 +35,7 @@ pub fn trend_text(
     let executed = executed_by_more(alloc, scenario, benches)?;
     let points = scenario.plant.points.len();
     if let Some(answer) = refusal(points, executed, point, first, last) {
-        return Err(TrendFault::from(answer));
+        return Err(TrendRefusal::from(answer));
     }
     let question = Question { point, first, last };
     let board = board_of(alloc, scenario, benches, question)?;
@@ -43,11 +43,11 @@ pub fn trend_text(
 }
 
 /// The text of the answer that a board shows.
-fn shown_text(alloc: Global, board: &TrendBoard) -> Result<Vec<u8>, TrendFault>
+fn shown_text(alloc: Global, board: &TrendBoard) -> Result<Vec<u8>, TrendRefusal>
     ensures { Gives (printed (shown board.now.n board.now.f board.now.votes)) result }
 {
     match board.shown() {
         Some(changes) => Ok(changes_text(alloc, changes)?),
-        None => Err(TrendFault::NoMatch),
+        None => Err(TrendRefusal::NoMatch),
     }
 }

@@ -1,2 +1,2 @@
 pub mod Planning
-pub mod Kept
+pub mod ViewState

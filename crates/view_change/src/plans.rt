@@ -8,8 +8,7 @@ ghost use Rattle.protocol_rules.specs.Plans.{base_of, last_of, no_rows};
 ghost use Rattle.protocol_rules.specs.Plans as rules;
 ghost use Rattle.view_change.specs.Planning.{is_for, is_spelled, are_spelled, best_with};
 
-use message_digests::rows_digest;
-use message_types::{Certificate, NewView, Plan, Report, Rows, Signed};
+use message_types::{Certificate, NewView, Plan, Report, Rows, Signed, rows_digest};
 use plain_lists::{Copied, Items, Want};
 use quorum_sets::Sizes;
 use std::alloc::Global;

@@ -1,28 +1,28 @@
-ghost use Rattle.std.specs.Prelude.{◌≡◌, ◌≢◌, ◌++◌, ◌∷◌, ◌≤◌, ◌<◌, ℕ, false, List, [], IsTrue, OnOk, OnErr, IfOk, length, map, max, is_some, unwrap_or, option_copied, slice_set, take, ◌||◌, if◌then◌else◌};
+ghost use Rattle.std.specs.Prelude.{◌≡◌, ◌≢◌, ◌++◌, ◌≤◌, ◌<◌, ℕ, false, List, [], IsTrue, OnOk, OnErr, IfOk, length, map, max, is_some, unwrap_or, option_copied, slice_set, take, ◌||◌, if◌then◌else◌};
 ghost use Rattle.std.specs.Option.{option_to_list, option_map};
 ghost use Rattle.std.specs.List.{slice_index_or};
 ghost use Rattle.message_types.specs.declared.signed.Signed.{Signed as SignedWord};
-ghost use Rattle.message_types.specs.declared.body.Body.{Body as Word};
 ghost use Rattle.message_types.specs.declared.views.Report.{Report as ReportWord};
 ghost use Rattle.message_types.specs.declared.body.Body.TheVariants as body;
 ghost use Rattle.message_types.specs.Parts.{as_frame};
-ghost use Rattle.protocol_rules.specs.Group.{Group, group_of, most_view};
+ghost use Rattle.protocol_rules.specs.Group.{group_of, most_view};
 ghost use Rattle.protocol_rules.specs.Views as rules;
 ghost use Rattle.protocol_rules.specs.Facts.{facts_of};
 ghost use Rattle.protocol_rules.specs.Order.{plan_known};
 ghost use Rattle.view_change.specs.Planning.{are_spelled};
-ghost use Rattle.view_change.specs.Kept.{AreViewsOf, at_view, first_new_view, plan_in_new_view, present_reports, is_report_owed, is_report_due, is_new_view_owed};
+ghost use Rattle.view_change.specs.ViewState.{AreViewsOf, Learns, Says, Where, at_view, first_new_view, plan_in_new_view, present_reports, is_report_owed, is_report_due, is_new_view_owed};
 
 use crate::plans::plan_of_new_view;
 use message_types::{Body, Certificate, Mark, NewView, Plan, Report, Signed};
 use plain_lists::{Copied, Items, Want};
+use protocol_rules::MOST_VIEW;
 use quorum_sets::{Sizes, VoterSet};
 use std::alloc::Global;
 use std::collections::BTreeMap;
 use std::marker::Model;
 
-/// Views go from 0 to this.
-const MOST_VIEW: u64 = 255;
+// The length of a table with a place for each view.
+const VIEW_PLACES: usize = MOST_VIEW as usize + 1;
 
 /// Which view a master is in, and what it knows and said of changes of view.
 pub struct Views {
@@ -34,8 +34,8 @@ pub struct Views {
     suspects: BTreeMap<u64, VoterSet, Global>,
     reports: BTreeMap<(u64, u32), Signed<Report>, Global>,
     plans: BTreeMap<u64, Plan, Global>,
-    reported: [bool; 256],
-    opened: [bool; 256],
+    reported: [bool; VIEW_PLACES],
+    opened: [bool; VIEW_PLACES],
 }
 
 // Taken apart here once, so that no crate above proves it again.
@@ -60,13 +60,14 @@ impl Model for Views {
     ghost use Rattle.std.specs.Prelude.{◌≡◌, ◌≤◌};
     ghost use Rattle.protocol_rules.specs.Group.{group_of};
     ghost use Rattle.protocol_rules.specs.Plans.{first_plan};
-    ghost use Rattle.view_change.specs.Kept.{Kept};
+    ghost use Rattle.protocol_rules.specs.declared.limits.TheConstants.{MOST_VIEW};
+    ghost use Rattle.view_change.specs.ViewState.{ViewState};
 
-    ghost Value = { Kept };
+    ghost Value = { ViewState };
 
     ghost view = { λ a. record { group = group_of a.sizes 0; me = a.me; view = a.view; suspects = a.suspects.entries; reports = a.reports.entries; plans = a.plans.entries; reported = a.reported; opened = a.opened } };
 
-    ghost invariant = { λ a. (a.view ≤ 255) × (a.first ≡ first_plan) };
+    ghost invariant = { λ a. (a.view ≤ MOST_VIEW) × (a.first ≡ first_plan) };
 }
 
 impl Views {
@@ -87,17 +88,16 @@ impl Views {
             suspects: BTreeMap::new(alloc),
             reports: BTreeMap::new(alloc),
             plans: BTreeMap::new(alloc),
-            reported: [false; 256],
-            opened: [false; 256],
+            reported: [false; VIEW_PLACES],
+            opened: [false; VIEW_PLACES],
         }
     }
 
     /// Takes the next word known, a vote of `signer` against the leader of view `v`. Two votes of one master
     /// count once. One against the leader of a view that none follows is passed over.
     pub fn take_suspect(&mut self, signer: u32, v: u64) -> Result<(), Want>
-        ensures ok { OnOk result (v < most_view → (g : Group) (me : ℕ) (known : List (SignedWord Word)) (said : List Word) (sig : List ℕ)
-            → AreViewsOf g me self.old known said
-            → AreViewsOf g me self.new (known ++ record { signer = signer; body = body.Suspect record { v = v }; sig = sig } ∷ []) said) }
+        ensures ok { OnOk result (v < most_view → (sig : List ℕ)
+            → Learns self.old self.new record { signer = signer; body = body.Suspect record { v = v }; sig = sig }) }
         ensures passed { OnOk result (most_view ≤ v → self.new ≡ self.old) }
         ensures err { OnErr result (self.new ≡ self.old) }
     {
@@ -114,8 +114,7 @@ impl Views {
 
     /// Takes the next word known, a report. The first of a master for a view counts.
     pub fn take_report(&mut self, frame: &Signed<Report>) -> Result<(), Want>
-        ensures ok { OnOk result ((g : Group) (me : ℕ) (known : List (SignedWord Word)) (said : List Word)
-            → AreViewsOf g me self.old known said → AreViewsOf g me self.new (known ++ as_frame body.Report frame.now ∷ []) said) }
+        ensures ok { OnOk result (Learns self.old self.new (as_frame body.Report frame.now)) }
         ensures err { OnErr result (self.new ≡ self.old) }
     {
         let place = (frame.body.v, frame.signer);
@@ -131,8 +130,7 @@ impl Views {
     /// there isn't is passed over.
     pub fn take_new_view(&mut self, frame: &Signed<NewView>) -> Result<(), Want>
         requires { IsTrue (are_spelled (map (λ r. r.body) frame.now.body.reports)) }
-        ensures ok { OnOk result (frame.now.body.v ≤ most_view → (g : Group) (me : ℕ) (known : List (SignedWord Word)) (said : List Word)
-            → AreViewsOf g me self.old known said → AreViewsOf g me self.new (known ++ as_frame body.NewView frame.now ∷ []) said) }
+        ensures ok { OnOk result (frame.now.body.v ≤ most_view → Learns self.old self.new (as_frame body.NewView frame.now)) }
         ensures passed { OnOk result (most_view < frame.now.body.v → self.new ≡ self.old) }
         ensures err { OnErr result (self.new ≡ self.old) }
     {
@@ -148,16 +146,14 @@ impl Views {
 
     /// The present view.
     pub fn view(&self) -> u64
-        ensures { (g : Group) (me : ℕ) (known : List (SignedWord Word)) (said : List Word)
-            → AreViewsOf g me self.now known said → result ≡ rules.view g known }
+        ensures { Where self.now (λ g me known said. result ≡ rules.view g known) }
     {
         self.view
     }
 
     /// Whether the present view is open: view 0 is, and each that a new view is known of.
     pub fn is_open(&self) -> bool
-        ensures { (g : Group) (me : ℕ) (known : List (SignedWord Word)) (said : List Word)
-            → AreViewsOf g me self.now known said → result ≡ rules.is_open g known }
+        ensures { Where self.now (λ g me known said. result ≡ rules.is_open g known) }
     {
         self.view == 0 || self.plans.contains_key(&self.view)
     }
@@ -165,10 +161,8 @@ impl Views {
     /// What view `v` offers first: the plan of the first new view known of it, that of view 0 being empty. None
     /// exactly where `v` isn't 0 and no new view of it is known.
     pub fn plan(&self, v: u64) -> Option<&Plan>
-        ensures known { (g : Group) (me : ℕ) (known : List (SignedWord Word)) (said : List Word)
-            → AreViewsOf g me self.now known said → option_copied result ≡ plan_known (facts_of g known) v }
-        ensures first { (g : Group) (me : ℕ) (known : List (SignedWord Word)) (said : List Word)
-            → AreViewsOf g me self.now known said → v ≢ 0 → option_copied result ≡ option_map (plan_in_new_view g) (first_new_view known v) }
+        ensures known { Where self.now (λ g me known said. option_copied result ≡ plan_known (facts_of g known) v) }
+        ensures first { Where self.now (λ g me known said. v ≢ 0 → option_copied result ≡ option_map (plan_in_new_view g) (first_new_view known v)) }
     {
         if v == 0 {
             return Some(&self.first);
@@ -178,8 +172,7 @@ impl Views {
 
     /// Whether a report of the present view is due, so that nobody need gather what it brings along where none is.
     pub fn owes_report(&self) -> bool
-        ensures { (g : Group) (me : ℕ) (known : List (SignedWord Word)) (said : List Word)
-            → AreViewsOf g me self.now known said → result ≡ is_report_due g known said }
+        ensures { Where self.now (λ g me known said. result ≡ is_report_due g known said) }
     {
         self.is_report_owed()
     }
@@ -192,11 +185,9 @@ impl Views {
         marks: &[Signed<Mark>],
         certificates: &[Certificate],
     ) -> Result<Vec<Body>, Want>
-        ensures bodies { IfOk result (λ bodies. (g : Group) (me : ℕ) (known : List (SignedWord Word)) (said : List Word)
-            → AreViewsOf g me self.old known said
-            → bodies.items ≡ rules.report_due g known said base marks.now certificates.now ++ rules.new_view_due g me known said) }
-        ensures counted { IfOk result (λ bodies. (g : Group) (me : ℕ) (known : List (SignedWord Word)) (said : List Word)
-            → AreViewsOf g me self.old known said → AreViewsOf g me self.new known (said ++ bodies.items)) }
+        ensures bodies { IfOk result (λ bodies. Where self.old (λ g me known said.
+            bodies.items ≡ rules.report_due g known said base marks.now certificates.now ++ rules.new_view_due g me known said)) }
+        ensures counted { IfOk result (λ bodies. Says self.old self.new bodies.items) }
         ensures err { OnErr result (self.new ≡ self.old) }
     {
         let report = self.report_due(base, marks, certificates)?;
@@ -215,8 +206,7 @@ impl Views {
         marks: &[Signed<Mark>],
         certificates: &[Certificate],
     ) -> Result<Option<Body>, Want>
-        ensures { IfOk result (λ due. (g : Group) (me : ℕ) (known : List (SignedWord Word)) (said : List Word)
-            → AreViewsOf g me self.now known said → option_to_list due ≡ rules.report_due g known said base marks.now certificates.now) }
+        ensures { IfOk result (λ due. Where self.now (λ g me known said. option_to_list due ≡ rules.report_due g known said base marks.now certificates.now)) }
     {
         if !self.is_report_owed() {
             return Ok(None);
@@ -224,14 +214,13 @@ impl Views {
         Ok(Some(Body::Report(Report {
             v: self.view,
             base,
-            marks: copied(self.alloc, marks)?,
-            certificates: copied(self.alloc, certificates)?,
+            marks: Items::from_slice(self.alloc, marks)?,
+            certificates: Items::from_slice(self.alloc, certificates)?,
         })))
     }
 
     fn new_view_due(&self) -> Result<Option<Body>, Want>
-        ensures { IfOk result (λ due. (g : Group) (me : ℕ) (known : List (SignedWord Word)) (said : List Word)
-            → AreViewsOf g me self.now known said → option_to_list due ≡ rules.new_view_due g me known said) }
+        ensures { IfOk result (λ due. Where self.now (λ g me known said. option_to_list due ≡ rules.new_view_due g me known said)) }
     {
         if !self.owes_new_view() {
             return Ok(None);
@@ -340,22 +329,11 @@ fn push_if(bodies: &mut Vec<Body, Global>, body: Option<Body>) -> Result<bool, W
 }
 
 /// Notes whether a body of view `v` was said.
-fn mark(marks: &mut [bool; 256], v: u64, said: bool)
-    requires { v ≤ 255 }
+fn mark(marks: &mut [bool; VIEW_PLACES], v: u64, said: bool)
+    requires { v ≤ MOST_VIEW }
     ensures { marks.new ≡ slice_set marks.old v (slice_index_or marks.old v false || said) }
 {
     let place = v as usize;
     let was = marks[place];
     marks[place] = was || said;
-}
-
-/// Copies of what a slice holds.
-fn copied<T: Copied>(alloc: Global, items: &[T]) -> Result<Items<T>, Want>
-    ensures { IfOk result (λ copies. copies ≡ items.now) }
-{
-    let mut copies = Items::new(alloc);
-    for item in items {
-        copies.push(item.copy()?)?;
-    }
-    Ok(copies)
 }

@@ -29,7 +29,8 @@ abbrev pub with_signer : ℕ → List ℕ → ℕ → List ℕ
 with_signer n masters signer = if nat_lt signer n then with_master masters signer else masters
 
 -- the maps have each order's supporters and each number's order, and so many orders are done
-pub record IsTally (n f : ℕ) (votes : List Vote) (masters : BTreeMap (List ℕ) (List ℕ)) (settled : BTreeMap ℕ Order) (count : ℕ) : Type 0 where
+pub record IsTally (n f : ℕ) (votes : List Vote) (masters : BTreeMap (List ℕ) (List ℕ)) (settled : BTreeMap ℕ Order)
+    (count : ℕ) : Type 0 where
   pub supporters_are : (x : ℕ) (o : Order) → masters_at masters (ballot x o) ≡ supporters n votes x o
   pub orders_are : (x : ℕ) → get nat_cmp settled x ≡ chosen n f votes x
   pub count_is : count ≡ length (done n f votes)

@@ -1,7 +1,7 @@
 use message_types::Voucher;
 
 /// A voucher with the master that signed it.
-#[derive(Clone, Copy, Debug, PartialEq, Eq)]
+#[derive(Clone, Copy, PartialEq, Eq)]
 pub struct Vote {
     pub signer: u32,
     pub voucher: Voucher,

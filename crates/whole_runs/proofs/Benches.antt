@@ -1,6 +1,6 @@
 -- The benches of a play as those of its history: what they merge to, and that each stamp is there once.
-use Rattle.std.proofs.Common.{◌≡◌, ℕ, zero, suc, ◌+◌, ◌<◌, ◌≤◌, ◌^◌, List, [], ◌∷◌, ◌++◌, Result, length, map, refl, sym, ◌∙◌, ap, subst, append_assoc, arith}
-use Rattle.std.proofs.lemmas.List.{append-nil}
+use Rattle.std.proofs.Common.{◌≡◌, ℕ, zero, suc, ◌+◌, ◌<◌, ◌≤◌, ◌^◌, List, [], ◌∷◌, Result, length, map, refl, sym}
+use Rattle.std.proofs.Common.{◌∙◌, ap, subst, arith}
 use Rattle.std.proofs.lemmas.Result.{IfOk-weaker}
 use Rattle.std.specs.Result.{IfOk}
 use Rattle.std.specs.declared.vec.Vec.{Vec}
@@ -18,7 +18,6 @@ use Rattle.protocol_rules.specs.Group.{Group}
 use Rattle.world_rules.specs.Scenarios.{setup_of, group_in}
 use Rattle.world_rules.proofs.Fields.{group_is}
 use Rattle.world_history.specs.State.{BenchState}
-use Rattle.history_audit.proofs.Loops.{map_map}
 use Rattle.printed_run.specs.Printed.{text_of}
 use Rattle.history_benches.specs.Benches.{actors_in, bench_in, benches_of, unsigned, AreBenches, lists_of}
 use Rattle.kept_lists.specs.State.{KeptState}
@@ -28,42 +27,53 @@ use Rattle.script_plays.specs.Playing.{ArePlayed}
 use Rattle.script_plays.specs.Laws.{IsPlayed}
 use Rattle.whole_runs.specs.Whole.{AreAfter}
 use Rattle.whole_runs.proofs.Stamps.{each_stamp_once}
+use Rattle.plain_lists.proofs.Lists.{map_map}
 
 -- words that were signed change no list
 lists_unsigned : (benches : List BenchState) → lists_of benches ≡ lists_of (map unsigned benches)
 lists_unsigned [] = refl
 lists_unsigned (b ∷ benches) = ap (λ (ls : List (List Entry)). b.list ∷ ls) (lists_unsigned benches)
 
-own_lists : (c : Contents) (history : List Entry) (benches : List BenchState) → AreBenches c history benches → lists_of benches ≡ map (own history) (numbers_below (actors_in c))
+own_lists : (c : Contents) (history : List Entry) (benches : List BenchState) → AreBenches c history benches →
+    lists_of benches ≡ map (own history) (numbers_below (actors_in c))
 own_lists c history benches are =
-    lists_unsigned benches ∙ ap lists_of are ∙ map_map (λ (b : BenchState). b.list) (bench_in c history) (numbers_below (actors_in c))
+    lists_unsigned benches ∙ ap lists_of are ∙ map_map (λ (b : BenchState). b.list) (bench_in c history)
+    (numbers_below (actors_in c))
 
 -- the same, as many as the setup's group has
 lists_by_setup : (c : Contents) (history : List Entry) (benches : List BenchState) → AreBenches c history benches
     → lists_of benches ≡ map (own history) (numbers_below ((setup_of c).group.n + (setup_of c).group.clients))
 lists_by_setup c history benches are =
-    own_lists c history benches are ∙ ap (λ (g : Group). map (own history) (numbers_below (g.n + g.clients))) (sym (group_is c))
+    own_lists c history benches are ∙ ap (λ (g : Group). map (own history) (numbers_below (g.n + g.clients)))
+    (sym (group_is c))
 
-pub stamped_once : (c : Contents) (history : List Entry) (benches : List BenchState) → AreAfter c history benches → HasEachStampOnce (lists_of benches)
+pub stamped_once : (c : Contents) (history : List Entry) (benches : List BenchState) → AreAfter c history benches →
+    HasEachStampOnce (lists_of benches)
 stamped_once c history benches after =
-    subst HasEachStampOnce (sym (lists_by_setup c history benches after.are_benches)) (each_stamp_once (setup_of c) history after.legal)
+    subst HasEachStampOnce (sym (lists_by_setup c history benches after.are_benches))
+    (each_stamp_once (setup_of c) history after.legal)
 
-pub merged_after : (c : Contents) (history : List Entry) (benches : List BenchState) → AreAfter c history benches → merged (lists_of benches) ≡ history
+pub merged_after : (c : Contents) (history : List Entry) (benches : List BenchState) → AreAfter c history benches →
+    merged (lists_of benches) ≡ history
 merged_after c history benches after =
     ap merged (lists_by_setup c history benches after.are_benches) ∙ merged_whole (setup_of c) history after.legal
 
 -- the same benches in other words
-pub after_same : (c : Contents) (history : List Entry) (old new : List BenchState) → new ≡ old → AreAfter c history old → AreAfter c history new
+pub after_same : (c : Contents) (history : List Entry) (old new : List BenchState) → new ≡ old →
+    AreAfter c history old → AreAfter c history new
 after_same c history old new same after = subst (AreAfter c history) (sym same) after
 
 -- what was merged is the history
-pub merged_is : (c : Contents) (history made : List Entry) (benches : List BenchState) → AreAfter c history benches → made ≡ merged (lists_of benches) → made ≡ history
+pub merged_is : (c : Contents) (history made : List Entry) (benches : List BenchState) → AreAfter c history benches →
+    made ≡ merged (lists_of benches) → made ≡ history
 merged_is c history made benches after is = is ∙ merged_after c history benches after
 
-pub legal_merged : (c : Contents) (history made : List Entry) → made ≡ history → IsLegal (setup_of c) history → IsLegal (setup_of c) made
+pub legal_merged : (c : Contents) (history made : List Entry) → made ≡ history → IsLegal (setup_of c) history →
+    IsLegal (setup_of c) made
 legal_merged c history made same legal = subst (IsLegal (setup_of c)) (sym same) legal
 
-pub benches_merged : (c : Contents) (history made : List Entry) (benches : List BenchState) → made ≡ history → AreBenches c history benches → AreBenches c made benches
+pub benches_merged : (c : Contents) (history made : List Entry) (benches : List BenchState) → made ≡ history →
+    AreBenches c history benches → AreBenches c made benches
 benches_merged c history made benches same are = subst (λ (h : List Entry). AreBenches c h benches) (sym same) are
 
 -- an actor's bench after a play, but for the words that it signed
@@ -73,7 +83,8 @@ unfolding bench_at
 bench_unsigned c sayings history actor = refl
 
 each_unsigned : (c : Contents) (sayings : List Saying) (history : List Entry) (actors : List ℕ)
-    → map unsigned (map (bench_at (record { scenario = c; sayings = sayings }) history) actors) ≡ map (bench_in c history) actors
+    → map unsigned (map (bench_at (record { scenario = c; sayings = sayings }) history) actors) ≡ map
+    (bench_in c history) actors
 each_unsigned c sayings history [] = refl
 each_unsigned c sayings history (a ∷ actors) =
     λ i. bench_unsigned c sayings history a i ∷ each_unsigned c sayings history actors i
@@ -83,7 +94,8 @@ unfolding most_entries
 few n least = omega arith
 
 -- The actors of a play are those after its history.
-pub are_after : (c : Contents) (sayings : List Saying) (history : List Entry) (kept : List KeptState) → IsPlayed (record { scenario = c; sayings = sayings }) history
+pub are_after : (c : Contents) (sayings : List Saying) (history : List Entry) (kept : List KeptState) →
+    IsPlayed (record { scenario = c; sayings = sayings }) history
     → ArePlayed (record { scenario = c; sayings = sayings }) history kept → AreAfter c history (map (λ k. k.bench) kept)
 are_after c sayings history kept is are = record {
   legal = is.legal;
@@ -98,24 +110,14 @@ abbrev IsTextAfter : Contents → List BenchState → Vec ℕ Global → Type 0
 IsTextAfter c benches text = (history : List Entry) → AreAfter c history benches → text.items ≡ text_of c history
 
 -- The text of what was merged is that of the history.
-pub text_after : (c : Contents) (made : List Entry) (benches : List BenchState) (result : Result (Vec ℕ Global) Want) → made ≡ merged (lists_of benches)
+pub text_after : (c : Contents) (made : List Entry) (benches : List BenchState) (result : Result (Vec ℕ Global) Want)
+    → made ≡ merged (lists_of benches)
     → IfOk result (λ text. text.items ≡ text_of c made) → IfOk result (IsTextAfter c benches)
 text_after c made benches result is told =
     IfOk-weaker result (λ text. text.items ≡ text_of c made) (IsTextAfter c benches)
     (λ text same history after. same ∙ ap (text_of c) (merged_is c history made benches after is)) told
 
 -- the same of the same benches in other words
-pub text_same : (c : Contents) (old new : List BenchState) (result : Result (Vec ℕ Global) Want) → new ≡ old → IfOk result (IsTextAfter c new) → IfOk result (IsTextAfter c old)
+pub text_same : (c : Contents) (old new : List BenchState) (result : Result (Vec ℕ Global) Want) → new ≡ old →
+    IfOk result (IsTextAfter c new) → IfOk result (IsTextAfter c old)
 text_same c old new result same told = subst (λ (bs : List BenchState). IfOk result (IsTextAfter c bs)) same told
-
--- actors whose benches are taken out one by one
-pub one_taken : (benches grown : List BenchState) (b : BenchState) (k : KeptState) (was rest : List KeptState) (all : List BenchState) → was ≡ k ∷ rest → grown ≡ benches ++ b ∷ []
-    → b ≡ k.bench → benches ++ map (λ k. k.bench) was ≡ all → grown ++ map (λ k. k.bench) rest ≡ all
-one_taken benches grown b k was rest all next put is before =
-    ap (λ (bs : List BenchState). bs ++ map (λ (k : KeptState). k.bench) rest) (put ∙ ap (λ (x : BenchState). benches ++ x ∷ []) is)
-    ∙ append_assoc benches (k.bench ∷ []) (map (λ (k : KeptState). k.bench) rest)
-    ∙ ap (λ (ks : List KeptState). benches ++ map (λ (k : KeptState). k.bench) ks) (sym next) ∙ before
-
-pub all_taken : (benches : List BenchState) (rest : List KeptState) (all : List BenchState) → length rest ≡ 0 → benches ++ map (λ k. k.bench) rest ≡ all → benches ≡ all
-all_taken benches [] all none is = sym (append-nil benches) ∙ is
-all_taken benches (k ∷ rest) all none is = absurd (omega arith)

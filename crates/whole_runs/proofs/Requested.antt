@@ -6,7 +6,7 @@ use Rattle.parity_parts.specs.Rebuilding.{wrong_masters}
 use Rattle.part_lines.specs.Laws.{EnoughLinesRebuild, IsRebuilt}
 use Rattle.part_lines.specs.Rebuilding.{told_for, rebuilt_in}
 use Rattle.part_lines.specs.Texts.{rebuilt_lines}
-use Rattle.part_lines.specs.declared.fault.RebuildFault.{RebuildFault}
+use Rattle.part_lines.specs.declared.fault.RebuildRefusal.{RebuildRefusal}
 use Rattle.part_lines.specs.declared.told.Told.{Told}
 use Rattle.part_runs.specs.Laws.{PartsArePrinted, PrintedLinesRebuild}
 use Rattle.part_runs.specs.Parts.{parts_in}
@@ -25,7 +25,8 @@ certified_of : (told : Option (List ℕ)) (text : List ℕ) → certified_or_lac
 certified_of (Some made) text is = let same : made ≡ text = cc in ap Some same
 certified_of None text is = absurd (cc)
 
-prints : PartsArePrinted → PrintedLinesRebuild → (call : Call) (j k : ℕ) → Answered whole_runs call (question.Parts j k) → PrintsParts call j k
+prints : PartsArePrinted → PrintedLinesRebuild → (call : Call) (j k : ℕ) →
+    Answered whole_runs call (question.Parts j k) → PrintsParts call j k
 prints law from_lines call j k a =
     let defined = certified_of (parts_in a.scenario a.history j k) a.text a.answered in
     record {
@@ -36,32 +37,38 @@ prints law from_lines call j k a =
       put = a.put;
       defined = defined;
       are_parts = law a.scenario a.history j k a.text a.spells.valid.group defined;
-      rebuild = λ premises bytes told tells has. from_lines a.scenario a.history j k a.text bytes told a.spells.valid a.spells.legal premises defined tells has;
+      rebuild = λ premises bytes told tells has. from_lines a.scenario a.history j k a.text bytes told a.spells.valid
+          a.spells.legal premises defined tells has;
     }
 
 -- which parts each call of `parts` puts that ends well
-pub keeps_parts : PartsArePrinted → PrintedLinesRebuild → (call : Call) (err : ErrorSink) (status : ℕ) → KeepsAnswers whole_runs call err status → KeepsParts call status
-keeps_parts law from_lines call err status keeps zero j k asked = prints law from_lines call j k (keeps.answers zero (question.Parts j k) asked)
+pub keeps_parts : PartsArePrinted → PrintedLinesRebuild → (call : Call) (err : ErrorSink) (status : ℕ) →
+    KeepsAnswers whole_runs call err status → KeepsParts call status
+keeps_parts law from_lines call err status keeps zero j k asked =
+    prints law from_lines call j k (keeps.answers zero (question.Parts j k) asked)
 
 -- ---- A request from its parts.
 
-request_of : (told : Result (List ℕ) RebuildFault) (text : List ℕ) → request_or_lack told ≡ Ok text → told ≡ Ok text
+request_of : (told : Result (List ℕ) RebuildRefusal) (text : List ℕ) → request_or_lack told ≡ Ok text → told ≡ Ok text
 request_of (Ok made) text is = let same : made ≡ text = cc in ap Ok same
 request_of (Err why) text is = absurd (cc)
 
-none_of : (told : Result (List ℕ) RebuildFault) → request_or_lack told ≡ Err NoRequest.NoText → (text : List ℕ) → told ≡ Ok text → ⊥
+none_of : (told : Result (List ℕ) RebuildRefusal) → request_or_lack told ≡ Err NoRequest.NoText →
+    (text : List ℕ) → told ≡ Ok text → ⊥
 none_of (Ok made) is text gives = absurd (cc)
 none_of (Err why) is text gives = absurd (cc)
 
-same_request : (a b : List ℕ) (told : Result (List ℕ) RebuildFault) → told ≡ Ok a → told ≡ Ok b → a ≡ b
+same_request : (a b : List ℕ) (told : Result (List ℕ) RebuildRefusal) → told ≡ Ok a → told ≡ Ok b → a ≡ b
 same_request a b told one other = cc
 
-rebuilt_from : EnoughLinesRebuild → (c : Contents) (lines : List ℕ) → IsScenario c → (told : Told) → told_for c lines ≡ Ok told → (text : List ℕ)
+rebuilt_from : EnoughLinesRebuild → (c : Contents) (lines : List ℕ) → IsScenario c → (told : Told) →
+    told_for c lines ≡ Ok told → (text : List ℕ)
     → HasEnough c lines told.digest text → IsRebuilt c lines told
 rebuilt_from law c lines valid told tells text has =
     law c lines text told valid.group tells has.bytes has.some has.fits has.of_digest has.enough
 
-rebuilds : EnoughLinesRebuild → (call : Call) (scenario pieces : List ℕ) → Rebuilt whole_runs call scenario pieces → Rebuilds call scenario pieces
+rebuilds : EnoughLinesRebuild → (call : Call) (scenario pieces : List ℕ) → Rebuilt whole_runs call scenario pieces →
+    Rebuilds call scenario pieces
 rebuilds law call scenario pieces made = record {
   contents = made.contents;
   lines = made.lines;
@@ -73,7 +80,9 @@ rebuilds law call scenario pieces made = record {
       record {
         text = is.text;
         of_digest = is.digest;
-        is = same_request made.text (rebuilt_lines is.text (wrong_masters made.contents.settings.f is.text told.parts)) (rebuilt_in made.contents made.lines)
+        is = same_request made.text
+            (rebuilt_lines is.text (wrong_masters made.contents.settings.f is.text told.parts))
+            (rebuilt_in made.contents made.lines)
             (request_of (rebuilt_in made.contents made.lines) made.text made.rebuilt) is.printed;
       };
 }
@@ -86,12 +95,16 @@ rebuilds_none law call err status scenario pieces made = record {
   has = made.has;
   too_few = λ told tells text has.
       let is = rebuilt_from law made.contents made.lines made.has.valid told tells text has in
-      none_of (rebuilt_in made.contents made.lines) made.rebuilt (rebuilt_lines is.text (wrong_masters made.contents.settings.f is.text told.parts)) is.printed;
+      none_of (rebuilt_in made.contents made.lines) made.rebuilt
+      (rebuilt_lines is.text (wrong_masters made.contents.settings.f is.text told.parts)) is.printed;
 }
 
 -- which request each call of `rebuild` puts, or why none
-pub keeps_rebuild : EnoughLinesRebuild → (call : Call) (err : ErrorSink) (status : ℕ) → KeepsRequests whole_runs call err status → KeepsRebuild call status
+pub keeps_rebuild : EnoughLinesRebuild → (call : Call) (err : ErrorSink) (status : ℕ) →
+    KeepsRequests whole_runs call err status → KeepsRebuild call status
 keeps_rebuild law call err status keeps = record {
-  rebuilds = λ zero scenario pieces asked. rebuilds law call scenario pieces (keeps.rebuilds zero scenario pieces asked);
-  lacks = λ nine scenario pieces asked. rebuilds_none law call err status scenario pieces (keeps.lacks nine scenario pieces asked);
+  rebuilds = λ zero scenario pieces asked. rebuilds law call scenario pieces
+      (keeps.rebuilds zero scenario pieces asked);
+  lacks = λ nine scenario pieces asked. rebuilds_none law call err status scenario pieces
+      (keeps.lacks nine scenario pieces asked);
 }

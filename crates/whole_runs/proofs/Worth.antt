@@ -10,8 +10,8 @@ use Rattle.blame_runs.specs.Printed.{blame_text}
 use Rattle.trend_runs.specs.Asked.{trend_in, changes_by}
 use Rattle.trend_runs.specs.Laws.{IsHeadlined, PrintsTheChangesOfOne, PrintsTheChangesOfAll, AlwaysMatches}
 use Rattle.trend_runs.specs.Text.{changes_text}
-use Rattle.trend_runs.specs.declared.fault.TrendFault.{TrendFault}
-use Rattle.trend_runs.specs.declared.fault.TrendFault.TheVariants as trend
+use Rattle.trend_runs.specs.declared.fault.TrendRefusal.{TrendRefusal}
+use Rattle.trend_runs.specs.declared.fault.TrendRefusal.TheVariants as trend
 use Rattle.command_ends.specs.Calls.{Call}
 use Rattle.command_ends.specs.Ended.{ErrorSink}
 use Rattle.command_ends.specs.declared.refusal.NoAnswer.{NoAnswer}
@@ -27,7 +27,8 @@ use Rattle.whole_runs.specs.Whole.{whole_runs}
 same_text : (a b : List ℕ) → (let one : Result (List ℕ) NoAnswer = Ok a in one ≡ Ok b) → b ≡ a
 same_text a b is = cc
 
-blames : BlamedAreProved → QuorumsAreBlamed → CorrectAreNotBlamed → (call : Call) → Answered whole_runs call question.Blame → Blames call
+blames : BlamedAreProved → QuorumsAreBlamed → CorrectAreNotBlamed → (call : Call) →
+    Answered whole_runs call question.Blame → Blames call
 blames proved many intruded call a = record {
   scenario = a.scenario;
   history = a.history;
@@ -39,31 +40,35 @@ blames proved many intruded call a = record {
 }
 
 -- whom each call of `blame` names that ends well
-pub keeps_blame : BlamedAreProved → QuorumsAreBlamed → CorrectAreNotBlamed → (call : Call) (err : ErrorSink) (status : ℕ)
+pub keeps_blame : BlamedAreProved → QuorumsAreBlamed → CorrectAreNotBlamed →
+    (call : Call) (err : ErrorSink) (status : ℕ)
     → KeepsAnswers whole_runs call err status → KeepsBlame call status
-keeps_blame proved many intruded call err status keeps zero asked = blames proved many intruded call (keeps.answers zero question.Blame asked)
+keeps_blame proved many intruded call err status keeps zero asked =
+    blames proved many intruded call (keeps.answers zero question.Blame asked)
 
-trend_of : (told : Result (List ℕ) TrendFault) (text : List ℕ) → trend_or_lack told ≡ Ok text → told ≡ Ok text
+trend_of : (told : Result (List ℕ) TrendRefusal) (text : List ℕ) → trend_or_lack told ≡ Ok text → told ≡ Ok text
 trend_of (Ok made) text is = let same : made ≡ text = cc in ap Ok same
 trend_of (Err why) text is = absurd (cc)
 
-unmatched : (why : TrendFault) → trend_lack why ≡ none.NoMatch → why ≡ trend.NoMatch
+unmatched : (why : TrendRefusal) → trend_lack why ≡ none.NoMatch → why ≡ trend.NoMatch
 unmatched trend.NoMatch is = refl
 unmatched trend.NoPoint is = absurd (cc)
 unmatched trend.BadRange is = absurd (cc)
 unmatched (trend.NotReached executed) is = absurd (cc)
 unmatched trend.Want is = absurd (cc)
 
-unmatched_of : (told : Result (List ℕ) TrendFault) → trend_or_lack told ≡ Err none.NoMatch → told ≡ Err trend.NoMatch
+unmatched_of : (told : Result (List ℕ) TrendRefusal) → trend_or_lack told ≡ Err none.NoMatch → told ≡ Err trend.NoMatch
 unmatched_of (Ok made) is = absurd (cc)
 unmatched_of (Err why) is = let same : trend_lack why ≡ none.NoMatch = cc in ap Err (unmatched why same)
 
-shows : PrintsTheChangesOfOne → PrintsTheChangesOfAll → (call : Call) (point first last : ℕ) → Answered whole_runs call (question.Trend point first last)
+shows : PrintsTheChangesOfOne → PrintsTheChangesOfAll → (call : Call) (point first last : ℕ) →
+    Answered whole_runs call (question.Trend point first last)
     → ShowsTrend call point first last
 shows one all call point first last a =
     let c : Contents = a.scenario in
     let history : List Entry = a.history in
-    let is : trend_in c history point first last ≡ Ok a.text = trend_of (trend_in c history point first last) a.text a.answered in
+    let is : trend_in c history point first last ≡ Ok a.text =
+    trend_of (trend_in c history point first last) a.text a.answered in
     let by = one c history point first last a.text is in
     record {
       scenario = c;
@@ -73,10 +78,12 @@ shows one all call point first last a =
       reaches = by.1;
       put = a.put ∙ ap (with_piece call.put_before) by.2;
       is_of_all = λ premises other reaches. a.put ∙ ap (with_piece call.put_before)
-          (all c history point first last a.text (record { scenario = a.spells.valid; legal = a.spells.legal; premises = premises }) is other reaches);
+          (all c history point first last a.text
+          (record { scenario = a.spells.valid; legal = a.spells.legal; premises = premises }) is other reaches);
     }
 
-lacks : AlwaysMatches → (call : Call) (err : ErrorSink) (status point first last : ℕ) → Unanswered whole_runs call err status (question.Trend point first last)
+lacks : AlwaysMatches → (call : Call) (err : ErrorSink) (status point first last : ℕ) →
+    Unanswered whole_runs call err status (question.Trend point first last)
     → ShowsNoTrend call err status point first last
 lacks matches call err status point first last u = record {
   scenario = u.scenario;
@@ -90,9 +97,12 @@ lacks matches call err status point first last u = record {
 }
 
 -- which trend each call of `trend` shows, or why none
-pub keeps_trend : PrintsTheChangesOfOne → PrintsTheChangesOfAll → AlwaysMatches → (call : Call) (err : ErrorSink) (status : ℕ)
+pub keeps_trend : PrintsTheChangesOfOne → PrintsTheChangesOfAll → AlwaysMatches →
+    (call : Call) (err : ErrorSink) (status : ℕ)
     → KeepsAnswers whole_runs call err status → KeepsTrend call err status
 keeps_trend one all matches call err status keeps = record {
-  shows = λ zero point first last asked. shows one all call point first last (keeps.answers zero (question.Trend point first last) asked);
-  lacks = λ nine point first last asked. lacks matches call err status point first last (keeps.lacks nine (question.Trend point first last) asked);
+  shows = λ zero point first last asked. shows one all call point first last
+      (keeps.answers zero (question.Trend point first last) asked);
+  lacks = λ nine point first last asked. lacks matches call err status point first last
+      (keeps.lacks nine (question.Trend point first last) asked);
 }

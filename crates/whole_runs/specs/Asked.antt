@@ -1,19 +1,20 @@
--- What is asked over a history is answered by these definitions, and requests are rebuilt by this one. (This project's own.)
+-- What is asked over a history is answered by these definitions, and requests are rebuilt by this one. (This project's
+-- own.)
 use Rattle.std.specs.Prelude.{◌≡◌, ℕ, List, Option, None, Some, Result, Ok, Err}
 use Rattle.std.specs.declared.vec.Vec.{Vec}
 use Rattle.std.specs.declared.alloc.Global.{Global}
 use Rattle.scenario_file.specs.Reading.{Contents}
 use Rattle.history_rules.specs.Events.{Entry}
 use Rattle.blame_runs.specs.Printed.{blame_text}
-use Rattle.part_lines.specs.declared.fault.RebuildFault.{RebuildFault}
-use Rattle.part_lines.specs.declared.fault.RebuildFault.TheVariants as rebuild
+use Rattle.part_lines.specs.declared.fault.RebuildRefusal.{RebuildRefusal}
+use Rattle.part_lines.specs.declared.fault.RebuildRefusal.TheVariants as rebuild
 use Rattle.part_lines.specs.Rebuilding.{rebuilt_in}
 use Rattle.part_runs.specs.Parts.{parts_in}
-use Rattle.part_runs.specs.declared.parts.PartsFault.{PartsFault}
-use Rattle.part_runs.specs.declared.parts.PartsFault.TheVariants as parts
+use Rattle.part_runs.specs.declared.parts.PartsRefusal.{PartsRefusal}
+use Rattle.part_runs.specs.declared.parts.PartsRefusal.TheVariants as parts
 use Rattle.trend_runs.specs.Asked.{trend_in}
-use Rattle.trend_runs.specs.declared.fault.TrendFault.{TrendFault}
-use Rattle.trend_runs.specs.declared.fault.TrendFault.TheVariants as trend
+use Rattle.trend_runs.specs.declared.fault.TrendRefusal.{TrendRefusal}
+use Rattle.trend_runs.specs.declared.fault.TrendRefusal.TheVariants as trend
 use Rattle.command_ends.specs.declared.refusal.NoAnswer.{NoAnswer}
 use Rattle.command_ends.specs.declared.refusal.NoAnswer.TheVariants as none
 use Rattle.command_ends.specs.declared.refusal.Refusal.{Refusal}
@@ -23,14 +24,14 @@ use Rattle.run_commands.specs.declared.questions.Question.TheVariants as questio
 use Rattle.run_commands.specs.Readers.{NoRequest}
 
 -- Why there is no trend. No trend is defined to want memory, so that case may be told as any.
-abbrev pub trend_lack : TrendFault → NoAnswer
+abbrev pub trend_lack : TrendRefusal → NoAnswer
 trend_lack trend.NoPoint = none.NoPoint
 trend_lack trend.BadRange = none.BadRange
 trend_lack (trend.NotReached executed) = none.NotReached executed
 trend_lack trend.NoMatch = none.NoMatch
 trend_lack trend.Want = none.NoPoint
 
-abbrev pub trend_or_lack : Result (List ℕ) TrendFault → Result (List ℕ) NoAnswer
+abbrev pub trend_or_lack : Result (List ℕ) TrendRefusal → Result (List ℕ) NoAnswer
 trend_or_lack (Ok text) = Ok text
 trend_or_lack (Err why) = Err (trend_lack why)
 
@@ -45,12 +46,12 @@ answered c history question.Blame = Ok (blame_text c history)
 answered c history (question.Trend point first last) = trend_or_lack (trend_in c history point first last)
 
 -- Why parts rebuild no request. None is defined to want memory, so that case may be told as either.
-abbrev pub no_request : RebuildFault → NoRequest
+abbrev pub no_request : RebuildRefusal → NoRequest
 no_request (rebuild.BadLine number) = NoRequest.BadLine number
 no_request rebuild.NoText = NoRequest.NoText
 no_request rebuild.Want = NoRequest.NoText
 
-abbrev pub request_or_lack : Result (List ℕ) RebuildFault → Result (List ℕ) NoRequest
+abbrev pub request_or_lack : Result (List ℕ) RebuildRefusal → Result (List ℕ) NoRequest
 request_or_lack (Ok text) = Ok text
 request_or_lack (Err why) = Err (no_request why)
 
@@ -66,15 +67,15 @@ Answers c history asked (Err refusal.Memory) = Unit {0}
 Answers c history asked (Err _) = ⊥
 
 -- what a trend, parts or a rebuilt request answer that there are none of, as a refusal
-abbrev pub trend_refusal : TrendFault → Refusal
+abbrev pub trend_refusal : TrendRefusal → Refusal
 trend_refusal trend.Want = refusal.Memory
 trend_refusal other = refusal.NoAnswer (trend_lack other)
 
-abbrev pub parts_refusal : PartsFault → Refusal
+abbrev pub parts_refusal : PartsRefusal → Refusal
 parts_refusal parts.NotCertified = refusal.NoAnswer none.NotCertified
 parts_refusal parts.Want = refusal.Memory
 
-abbrev pub request_refusal : RebuildFault → Refusal
+abbrev pub request_refusal : RebuildRefusal → Refusal
 request_refusal (rebuild.BadLine number) = refusal.Pieces number
 request_refusal rebuild.NoText = refusal.NoAnswer none.NoText
 request_refusal rebuild.Want = refusal.Memory

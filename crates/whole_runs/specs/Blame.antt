@@ -1,5 +1,6 @@
--- What a call of `blame` puts that ends well: whom one legal history blames, with evidence. Where two digests were committed as
--- one number of a view, more than f masters are named; where nothing is forged, none that is named is correct.
+-- What a call of `blame` puts that ends well: whom one legal history blames, with evidence. Where two digests were
+-- committed as one number of a view, more than f masters are named; where nothing is forged, none that is named is
+-- correct.
 use Rattle.std.specs.Prelude.{◌≡◌, ℕ, ◌+◌, ◌≤◌, true, List, Some, length}
 use Rattle.outside.specs.Piece.{with_piece}
 use Rattle.quorum_sets.specs.Masters.{has_master}
@@ -26,7 +27,8 @@ pub record Blames (call : Call) : Type 0 where
   pub two_quorums_name_many : (v s : ℕ) (a b : List ℕ) → (a ≡ b → ⊥) → IsCommitted scenario history v s a
       → IsCommitted scenario history v s b → scenario.settings.f + 1 ≤ length (blamed (setup_of scenario) history)
   pub none_correct_unless_forged : forged (setup_of scenario) history ≡ 0
-      → (pair : Named) → IsIn pair (blamed (setup_of scenario) history) → has_master scenario.settings.intruded pair.master ≡ true
+      → (pair : Named) → IsIn pair (blamed (setup_of scenario) history) →
+      has_master scenario.settings.intruded pair.master ≡ true
 
 -- Each call of `blame` that ends well.
 abbrev pub KeepsBlame : Call → ℕ → Type 0

@@ -1,8 +1,8 @@
 -- Why there is no run, as the program tells it. (This project's own.)
 use Rattle.std.specs.Prelude.{◌≡◌, ℕ, List, Result, Ok, Err}
 use Rattle.history_rules.specs.Events.{Entry}
-use Rattle.script_plays.specs.declared.answer.Stop.{Stop}
-use Rattle.script_plays.specs.declared.answer.Stop.TheVariants as stop
+use Rattle.script_plays.specs.declared.answer.StepRefusal.{StepRefusal}
+use Rattle.script_plays.specs.declared.answer.StepRefusal.TheVariants as stop
 use Rattle.script_plays.specs.declared.answer.PlayAnswer.{PlayAnswer}
 use Rattle.script_plays.specs.declared.answer.PlayAnswer.TheVariants as answer
 use Rattle.run_lines.specs.declared.refusal.HistoryRefusal.{HistoryRefusal}
@@ -25,13 +25,13 @@ history_refusal (history.NotLegal stamp) = refusal.History line.NotLegal stamp
 history_refusal history.Want = refusal.Memory
 
 -- Why a play stops at a line. No play is defined to want memory, so that case may be told as either.
-abbrev pub stop_fault : Stop → LineFault
+abbrev pub stop_fault : StepRefusal → LineFault
 stop_fault stop.NoFrame = line.NoFrame
 stop_fault stop.TooMany = line.TooMany
 stop_fault stop.Want = line.TooMany
 
 -- the history of a play, or the fault at a line of its script
-abbrev pub played_or_fault : Result (List Entry) (ℕ × Stop) → Result (List Entry) (LineFault × ℕ)
+abbrev pub played_or_fault : Result (List Entry) (ℕ × StepRefusal) → Result (List Entry) (LineFault × ℕ)
 played_or_fault (Ok history) = Ok history
 played_or_fault (Err at) = Err (stop_fault at.1, at.0)
 

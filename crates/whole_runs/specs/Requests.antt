@@ -1,8 +1,8 @@
--- What a call of `parts` puts that ends well: the digest of an update that a correct master has certified in one legal history,
--- and masters' parts of texts of that digest, in the form that `rebuild` reads. Where the headline's premises hold, any f + 1 of
--- these lines rebuild a text of the digest, whatever the other lines are. Of lines with parts of one text of the digest, f + 1
--- suffice for a call of `rebuild` without any premise: it puts a text of the digest and names exactly the masters whose parts
--- aren't that text's, and never ends for want of one.
+-- What a call of `parts` puts that ends well: the digest of an update that a correct master has certified in one legal
+-- history, and masters' parts of texts of that digest, in the form that `rebuild` reads. Where the headline's premises
+-- hold, any f + 1 of these lines rebuild a text of the digest, whatever the other lines are. Of lines with parts of one
+-- text of the digest, f + 1 suffice for a call of `rebuild` without any premise: it puts a text of the digest and names
+-- exactly the masters whose parts aren't that text's, and never ends for want of one.
 use Rattle.std.specs.Prelude.{◌≡◌, ◌≤◌, ℕ, List, Option, Some, Ok, length}
 use Rattle.outside.specs.Piece.{with_piece}
 use Rattle.sha2.specs.Sha256.{sha256}
@@ -32,13 +32,15 @@ pub record PrintsParts (call : Call) (originator number : ℕ) : Type 0 where
   pub put : call.put_after ≡ with_piece call.put_before printed
   pub defined : parts_in scenario history originator number ≡ Some printed
   pub are_parts : ArePrinted scenario printed
-  pub rebuild : Premises (setup_of scenario) history → (bytes : List ℕ) (told : Told) → told_for scenario bytes ≡ Ok told
+  pub rebuild : Premises (setup_of scenario) history → (bytes : List ℕ) (told : Told) →
+      told_for scenario bytes ≡ Ok told
       → HasPrintedLines scenario printed bytes → IsRebuilt scenario bytes told
 
 -- Each call of `parts` that ends well.
 abbrev pub KeepsParts : Call → ℕ → Type 0
 KeepsParts call status =
-    status ≡ 0 → (originator number : ℕ) → asked_by call.words ≡ Some (question.Parts originator number) → PrintsParts call originator number
+    status ≡ 0 → (originator number : ℕ) → asked_by call.words ≡ Some (question.Parts originator number) →
+    PrintsParts call originator number
 
 -- a text of the digest that has parts, at least f + 1 of which are lines of a text of parts
 pub record HasEnough (c : Contents) (lines digest text : List ℕ) : Type 0 where
@@ -60,7 +62,8 @@ pub record Rebuilds (call : Call) (scenario pieces : List ℕ) : Type 0 where
   pub has : HasPieces call scenario pieces contents lines
   pub printed : List ℕ
   pub put : call.put_after ≡ with_piece call.put_before printed
-  pub from_enough : (told : Told) → told_for contents lines ≡ Ok told → (text : List ℕ) → HasEnough contents lines told.digest text
+  pub from_enough : (told : Told) → told_for contents lines ≡ Ok told → (text : List ℕ) →
+      HasEnough contents lines told.digest text
       → IsRequest contents told printed
 
 -- no text is rebuilt, and so the lines aren't enough
@@ -68,9 +71,12 @@ pub record RebuildsNone (call : Call) (scenario pieces : List ℕ) : Type 0 wher
   pub contents : Contents
   pub lines : List ℕ
   pub has : HasPieces call scenario pieces contents lines
-  pub too_few : (told : Told) → told_for contents lines ≡ Ok told → (text : List ℕ) → HasEnough contents lines told.digest text → ⊥
+  pub too_few : (told : Told) → told_for contents lines ≡ Ok told → (text : List ℕ) →
+      HasEnough contents lines told.digest text → ⊥
 
 -- Each call of `rebuild` that ends well, and each with status 9.
 pub record KeepsRebuild (call : Call) (status : ℕ) : Type 0 where
-  pub rebuilds : status ≡ 0 → (scenario pieces : List ℕ) → wanted_in call.words ≡ Some (rebuild scenario pieces) → Rebuilds call scenario pieces
-  pub lacks : status ≡ 9 → (scenario pieces : List ℕ) → wanted_in call.words ≡ Some (rebuild scenario pieces) → RebuildsNone call scenario pieces
+  pub rebuilds : status ≡ 0 → (scenario pieces : List ℕ) → wanted_in call.words ≡ Some (rebuild scenario pieces) →
+      Rebuilds call scenario pieces
+  pub lacks : status ≡ 9 → (scenario pieces : List ℕ) → wanted_in call.words ≡ Some (rebuild scenario pieces) →
+      RebuildsNone call scenario pieces

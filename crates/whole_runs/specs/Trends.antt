@@ -1,6 +1,6 @@
--- What a call of `trend` puts that ends well: a point's changes in a correct master's executions, of one legal history. Where
--- the headline's premises hold, they are those in the executions of every correct master that reach so far, and it never comes
--- that too few answers are equal.
+-- What a call of `trend` puts that ends well: a point's changes in a correct master's executions, of one legal history.
+-- Where the headline's premises hold, they are those in the executions of every correct master that reach so far, and
+-- it never comes that too few answers are equal.
 use Rattle.std.specs.Prelude.{◌≡◌, ℕ, List, Option, Some, Ok, Err}
 use Rattle.outside.specs.Piece.{with_piece}
 use Rattle.scenario_file.specs.Reading.{Contents}
@@ -26,7 +26,8 @@ pub record ShowsTrend (call : Call) (point first last : ℕ) : Type 0 where
   pub spells : Spells whole_runs call (question.Trend point first last) scenario history
   pub master : ℕ
   pub reaches : Reaches scenario history last master
-  pub put : call.put_after ≡ with_piece call.put_before (changes_text (changes_by scenario history point first last master))
+  pub put : call.put_after ≡ with_piece call.put_before
+      (changes_text (changes_by scenario history point first last master))
   pub is_of_all : Premises (setup_of scenario) history → (other : ℕ) → Reaches scenario history last other
       → call.put_after ≡ with_piece call.put_before (changes_text (changes_by scenario history point first last other))
 
@@ -41,6 +42,7 @@ pub record ShowsNoTrend (call : Call) (err : ErrorSink) (status point first last
 
 -- Each call of `trend` that ends well, and each with status 9.
 pub record KeepsTrend (call : Call) (err : ErrorSink) (status : ℕ) : Type 0 where
-  pub shows : status ≡ 0 → (point first last : ℕ) → asked_by call.words ≡ Some (question.Trend point first last) → ShowsTrend call point first last
+  pub shows : status ≡ 0 → (point first last : ℕ) → asked_by call.words ≡ Some (question.Trend point first last) →
+      ShowsTrend call point first last
   pub lacks : status ≡ 9 → (point first last : ℕ) → asked_by call.words ≡ Some (question.Trend point first last)
       → ShowsNoTrend call err status point first last

@@ -1,5 +1,5 @@
--- The definitions that the program goes by: the one history of a script and words, the history that a printed text tells, the
--- text of a history, what is answered over one, and the request that parts rebuild. (This project's own.)
+-- The definitions that the program goes by: the one history of a script and words, the history that a printed text
+-- tells, the text of a history, what is answered over one, and the request that parts rebuild. (This project's own.)
 use Rattle.std.specs.Prelude.{◌<◌, ◌^◌, ℕ, List, length}
 use Rattle.scenario_file.specs.Reading.{Contents}
 use Rattle.history_rules.specs.Events.{Entry}

@@ -4,11 +4,11 @@ ghost use Rattle.whole_runs.specs.Asked.{parts_refusal, request_refusal, trend_r
 ghost use Rattle.whole_runs.specs.Faults.{play_refusal, history_refusal};
 
 use command_ends::{LineFault, NoAnswer, Refusal};
-use part_lines::RebuildFault;
-use part_runs::PartsFault;
+use part_lines::RebuildRefusal;
+use part_runs::PartsRefusal;
 use printed_history::HistoryRefusal;
 use script_plays::PlayAnswer;
-use trend_runs::TrendFault;
+use trend_runs::TrendRefusal;
 
 /// A play that stops counts as its script's fault.
 pub(crate) fn play_refusal(answer: PlayAnswer) -> Refusal
@@ -43,38 +43,38 @@ pub(crate) fn history_refusal(refusal: HistoryRefusal) -> Refusal
     }
 }
 
-pub(crate) fn trend_refusal(fault: TrendFault) -> Refusal
+pub(crate) fn trend_refusal(fault: TrendRefusal) -> Refusal
     ensures { result ≡ trend_refusal fault }
 {
     let why = match fault {
-        TrendFault::NoPoint => NoAnswer::NoPoint,
-        TrendFault::BadRange => NoAnswer::BadRange,
-        TrendFault::NotReached { executed } => NoAnswer::NotReached { executed },
-        TrendFault::NoMatch => NoAnswer::NoMatch,
-        TrendFault::Want => return Refusal::Memory,
+        TrendRefusal::NoPoint => NoAnswer::NoPoint,
+        TrendRefusal::BadRange => NoAnswer::BadRange,
+        TrendRefusal::NotReached { executed } => NoAnswer::NotReached { executed },
+        TrendRefusal::NoMatch => NoAnswer::NoMatch,
+        TrendRefusal::Want => return Refusal::Memory,
     };
     Refusal::NoAnswer { why }
 }
 
-pub(crate) fn parts_refusal(fault: PartsFault) -> Refusal
+pub(crate) fn parts_refusal(fault: PartsRefusal) -> Refusal
     ensures { result ≡ parts_refusal fault }
 {
     match fault {
-        PartsFault::NotCertified => Refusal::NoAnswer {
+        PartsRefusal::NotCertified => Refusal::NoAnswer {
             why: NoAnswer::NotCertified,
         },
-        PartsFault::Want => Refusal::Memory,
+        PartsRefusal::Want => Refusal::Memory,
     }
 }
 
-pub(crate) fn request_refusal(fault: RebuildFault) -> Refusal
+pub(crate) fn request_refusal(fault: RebuildRefusal) -> Refusal
     ensures { result ≡ request_refusal fault }
 {
     match fault {
-        RebuildFault::BadLine { line } => Refusal::Pieces { line },
-        RebuildFault::NoText => Refusal::NoAnswer {
+        RebuildRefusal::BadLine { line } => Refusal::Pieces { line },
+        RebuildRefusal::NoText => Refusal::NoAnswer {
             why: NoAnswer::NoText,
         },
-        RebuildFault::Want => Refusal::Memory,
+        RebuildRefusal::Want => Refusal::Memory,
     }
 }

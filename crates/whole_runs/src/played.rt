@@ -11,7 +11,7 @@ ghost use Rattle.whole_runs.specs.Whole.{whole_runs, AreAfter};
 use crate::faults::play_refusal;
 use command_ends::Refusal;
 use history_benches::merge;
-use kept_lists::Kept;
+use kept_lists::{Kept, benches_of};
 use plain_lists::Want;
 use printed_run::write_run_of;
 use scenario_file::Scenario;
@@ -63,14 +63,4 @@ fn text_of_benches(alloc: Global, scenario: &Scenario, benches: &[Bench]) -> Res
 {
     let history = merge(alloc, benches)?;
     write_run_of(alloc, scenario, &history, benches)
-}
-
-fn benches_of(alloc: Global, kept: Vec<Kept>) -> Result<Vec<Bench>, Want>
-    ensures { IfOk result (λ benches. benches.items ≡ map (λ k. k.bench) kept.items) }
-{
-    let mut benches = Vec::with_capacity(alloc, kept.len())?;
-    for actor in kept {
-        benches.push(actor.into_bench())?;
-    }
-    Ok(benches)
 }

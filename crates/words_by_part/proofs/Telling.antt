@@ -1,28 +1,34 @@
 -- Tests that pass words of some kinds alone.
-use Rattle.std.proofs.Common.{◌≡◌, ℕ, Bool, true, false, cond, ◌||◌, List, [], ◌∷◌, Option, Some, None, filter, true≢false, refl, sym, ◌∙◌, ap}
+use Rattle.std.proofs.Common.{◌≡◌, ℕ, Bool, true, false, cond, ◌||◌, List, [], ◌∷◌, Option, Some, None, filter}
+use Rattle.std.proofs.Common.{true≢false, refl, sym, ◌∙◌, ap}
 use Rattle.std.specs.List.{list_any, filter_map, cons_option}
 use Rattle.message_types.specs.declared.body.Body.{Body}
 use Rattle.message_types.specs.declared.body.Body.TheVariants as body
 use Rattle.protocol_rules.specs.Views.{reports_said, new_views_said}
-use Rattle.protocol_rules.specs.Measures.{pings_said, pongs_said, round_trips_said, tat_reports_said, tat_bounds_said, suspects_said}
+use Rattle.protocol_rules.specs.Measures.{pings_said, pongs_said, round_trips_said, tat_reports_said, tat_bounds_said}
+use Rattle.protocol_rules.specs.Measures.{suspects_said}
 use Rattle.protocol_rules.specs.Reconcile.{updates_asked, orders_asked, updates_given, orders_given}
 use Rattle.protocol_rules.specs.Master.{summary_in, offered_number, vouchers_said}
 use Rattle.words_by_part.specs.Kinds.{is_of, summing, offering, measuring, changing_views, asking, giving, vouching}
 use Rattle.words_by_part.specs.Laws.{OwnWordsTell}
 
-any_kept : (t own : Body → Bool) → ((w : Body) → own w ≡ false → t w ≡ false) → (words : List Body) → list_any t (filter own words) ≡ list_any t words
+any_kept : (t own : Body → Bool) → ((w : Body) → own w ≡ false → t w ≡ false) → (words : List Body) →
+    list_any t (filter own words) ≡ list_any t words
 any_kept t own passes [] = refl
 any_kept t own passes (w ∷ rest) = by (own w) refl (any_kept t own passes rest)
   where
-    by : (b : Bool) → own w ≡ b → list_any t (filter own rest) ≡ list_any t rest → list_any t (cond b (w ∷ filter own rest) (filter own rest)) ≡ (t w || list_any t rest)
+    by : (b : Bool) → own w ≡ b → list_any t (filter own rest) ≡ list_any t rest →
+        list_any t (cond b (w ∷ filter own rest) (filter own rest)) ≡ (t w || list_any t rest)
     by true e later = ap (λ b. t w || b) later
     by false e later = later ∙ ap (λ b. b || list_any t rest) (sym (passes w e))
 
-some_kept : {X : Type 0} (t : Body → Option X) (own : Body → Bool) → ((w : Body) → own w ≡ false → t w ≡ None) → (words : List Body) → filter_map t (filter own words) ≡ filter_map t words
+some_kept : {X : Type 0} (t : Body → Option X) (own : Body → Bool) → ((w : Body) → own w ≡ false → t w ≡ None) →
+    (words : List Body) → filter_map t (filter own words) ≡ filter_map t words
 some_kept t own passes [] = refl
 some_kept {X} t own passes (w ∷ rest) = by (own w) refl (some_kept t own passes rest)
   where
-    by : (b : Bool) → own w ≡ b → filter_map t (filter own rest) ≡ filter_map t rest → filter_map t (cond b (w ∷ filter own rest) (filter own rest)) ≡ cons_option (t w) (filter_map t rest)
+    by : (b : Bool) → own w ≡ b → filter_map t (filter own rest) ≡ filter_map t rest →
+        filter_map t (cond b (w ∷ filter own rest) (filter own rest)) ≡ cons_option (t w) (filter_map t rest)
     by true e later = ap (cons_option (t w)) later
     by false e later = later ∙ ap (λ (o : Option X). cons_option o (filter_map t rest)) (sym (passes w e))
 
@@ -92,7 +98,8 @@ own_words_tell words = record {
   offers = λ v. some_kept (offered_number v) (is_of offering) (offers_passed v) words;
   pings = λ number. any_kept (pings_said number) (is_of measuring) (pings_passed number) words;
   pongs = λ to number. any_kept (pongs_said to number) (is_of measuring) (pongs_passed to number) words;
-  round_trips = λ to number. any_kept (round_trips_said to number) (is_of measuring) (round_trips_passed to number) words;
+  round_trips = λ to number. any_kept (round_trips_said to number) (is_of measuring)
+      (round_trips_passed to number) words;
   tat_reports = λ v ticks. any_kept (tat_reports_said v ticks) (is_of measuring) (tat_reports_passed v ticks) words;
   tat_bounds = λ v. any_kept (tat_bounds_said v) (is_of measuring) (tat_bounds_passed v) words;
   suspicions = λ v. any_kept (suspects_said v) (is_of measuring) (suspicions_passed v) words;

@@ -1,36 +1,12 @@
--- The kinds of words by their numbers, which stand in their texts too, and which part of a master says which. (This
--- project's own numbers.)
+-- Which part of a master says words of which kinds, by the kinds' numbers.
 use Rattle.std.specs.Prelude.{ℕ, Bool, List, [], ◌∷◌, nat_eq}
 use Rattle.std.specs.List.{list_any}
 use Rattle.message_types.specs.declared.body.Body.{Body}
-use Rattle.message_types.specs.declared.body.Body.TheVariants as body
-
-abbrev pub kind : Body → ℕ
-kind (body.Update b) = 1
-kind (body.PoRequest b) = 2
-kind (body.PoAck b) = 3
-kind (body.PoSummary b) = 4
-kind (body.PrePrepare b) = 5
-kind (body.Prepare b) = 6
-kind (body.Commit b) = 7
-kind (body.Ping b) = 8
-kind (body.Pong b) = 9
-kind (body.Rtt b) = 10
-kind (body.TatReport b) = 11
-kind (body.TatBound b) = 12
-kind (body.Suspect b) = 13
-kind (body.Report b) = 14
-kind (body.NewView b) = 15
-kind (body.AskUpdate b) = 16
-kind (body.Give b) = 17
-kind (body.AskOrder b) = 18
-kind (body.GiveOrdered b) = 19
-kind (body.Voucher b) = 20
-kind (body.Mark b) = 21
+use Rattle.message_types.specs.Kinds.{kind_number}
 
 -- the word is of one of these kinds
 abbrev pub is_of : List ℕ → Body → Bool
-is_of kinds word = list_any (nat_eq (kind word)) kinds
+is_of kinds word = list_any (nat_eq (kind_number word)) kinds
 
 -- requests and acknowledgements
 abbrev pub preordering : List ℕ

@@ -9,6 +9,7 @@ pub on_ok : {A E P Q : Type 0} (r : Result A E) → OnOk r P → (P → Q) → O
 on_ok (Ok x) p f = f p
 on_ok (Err e) p f = tt
 
-pub both_on_ok : {A E R : Type 0} {P Q : A → Type 0} (r : Result A E) → IfOk r P → IfOk r Q → ((x : A) → P x → Q x → R) → OnOk r R
+pub both_on_ok : {A E R : Type 0} {P Q : A → Type 0} (r : Result A E) → IfOk r P → IfOk r Q →
+    ((x : A) → P x → Q x → R) → OnOk r R
 both_on_ok (Ok x) p q f = f x p q
 both_on_ok (Err e) p q f = tt

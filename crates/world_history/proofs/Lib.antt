@@ -10,3 +10,4 @@ pub mod Starting
 pub mod Showing
 pub mod Saying
 pub mod Ringing
+pub mod Signing

@@ -13,13 +13,16 @@ use Rattle.bench_rules.specs.Lists.{ring_in}
 pub ring_seen : (s : Scenario) (clients : ℕ) → clients ≡ length s.plant.devices + s.screens
     → ring_of (group_of s.sizes clients) (public_keys s.seed s.heights (s.sizes.n + clients)) ≡ ring_in (contents s)
 ring_seen s clients are =
-    λ i. ring_of (record { n = s.sizes.all i; f = s.sizes.f; k = s.sizes.k; q = s.sizes.quorum i; clients = are i }) (public_keys s.seed s.heights (s.sizes.all i + are i))
+    λ i. ring_of (record { n = s.sizes.all i; f = s.sizes.f; k = s.sizes.k; q = s.sizes.quorum i; clients = are i })
+    (public_keys s.seed s.heights (s.sizes.all i + are i))
 
 -- as many clients as a scenario has, and few actors
-pub clients_are : (s : Scenario) (cast : Cast) → cast ≡ cast_of (contents s).settings s.plant → cast.proxies + cast.screens ≡ length s.plant.devices + s.screens
+pub clients_are : (s : Scenario) (cast : Cast) → cast ≡ cast_of (contents s).settings s.plant →
+    cast.proxies + cast.screens ≡ length s.plant.devices + s.screens
 clients_are s cast is = ap (λ (x : Cast). x.proxies + x.screens) is
 
-pub actors_are_few : (s : Scenario) (clients : ℕ) → IsScenario (contents s) → clients ≡ length s.plant.devices + s.screens → s.sizes.n + clients < 2 ^ 32
+pub actors_are_few : (s : Scenario) (clients : ℕ) → IsScenario (contents s) →
+    clients ≡ length s.plant.devices + s.screens → s.sizes.n + clients < 2 ^ 32
 actors_are_few s clients is are =
     let masters = s.sizes.all in
     let intruded = is.group.at_most_three_intruded in
@@ -28,8 +31,11 @@ actors_are_few s clients is are =
     let screens = is.at_most_four_screens in
     omega arith
 
-pub ring_told : (s : Scenario) (clients : ℕ) (heights : List ℕ) (r : Result Ring Want) → heights ≡ s.heights → clients ≡ length s.plant.devices + s.screens
-    → IfOk r (λ ring. ring ≡ ring_of (group_of s.sizes clients) (public_keys s.seed heights (s.sizes.n + clients))) → IfOk r (λ ring. ring ≡ ring_in (contents s))
+pub ring_told : (s : Scenario) (clients : ℕ) (heights : List ℕ) (r : Result Ring Want) → heights ≡ s.heights →
+    clients ≡ length s.plant.devices + s.screens
+    → IfOk r (λ ring. ring ≡ ring_of (group_of s.sizes clients) (public_keys s.seed heights (s.sizes.n + clients))) →
+    IfOk r (λ ring. ring ≡ ring_in (contents s))
 ring_told s clients heights (Ok ring) same are made =
-    made ∙ ap (λ (hs : List ℕ). ring_of (group_of s.sizes clients) (public_keys s.seed hs (s.sizes.n + clients))) same ∙ ring_seen s clients are
+    made ∙ ap (λ (hs : List ℕ). ring_of (group_of s.sizes clients) (public_keys s.seed hs (s.sizes.n + clients))) same
+    ∙ ring_seen s clients are
 ring_told s clients heights (Err e) same are made = tt

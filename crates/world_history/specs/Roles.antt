@@ -1,5 +1,6 @@
 -- What an actor's role keeps after its own entries. (This project's own.)
-use Rattle.std.specs.Prelude.{◌≡◌, ℕ, ◌+◌, ◌^◌, ◌<◌, ◌≤◌, Bool, true, false, if◌then◌else◌, List, [], ◌∷◌, ◌++◌, Option, Some, None, length}
+use Rattle.std.specs.Prelude.{◌≡◌, ℕ, ◌+◌, ◌^◌, ◌<◌, ◌≤◌, Bool, true, false, if◌then◌else◌, List, [], ◌∷◌, ◌++◌}
+use Rattle.std.specs.Prelude.{Option, Some, None, length}
 use Rattle.message_types.specs.declared.signed.Signed.{Signed}
 use Rattle.message_types.specs.declared.body.Body.{Body}
 use Rattle.message_forms.specs.declared.refusal.FormRefusal.{FormRefusal}
@@ -50,9 +51,11 @@ abbrev pub IsRole : Contents → ℕ → List Entry → Role → Type 0
 IsRole c actor own (role.Master node) = IsMaster (setup_of c) actor own node
 IsRole c actor own (role.Intruded known) = IsIntruded (setup_of c) actor own known
 IsRole c actor own (role.Proxy front) =
-    (client : ℕ) × (actor ≡ masters_in c + client) × (client < proxies_in c) × (front ≡ front_of (masters_in c) c.settings.f c.plant client own)
+    (client : ℕ) × (actor ≡ masters_in c + client) × (client < proxies_in c)
+    × (front ≡ front_of (masters_in c) c.settings.f c.plant client own)
 IsRole c actor own (role.Screen desk) =
-    (client : ℕ) × (actor ≡ masters_in c + client) × (proxies_in c ≤ client) × (desk ≡ desk_of (masters_in c) c.settings.f client own)
+    (client : ℕ) × (actor ≡ masters_in c + client) × (proxies_in c ≤ client)
+    × (desk ≡ desk_of (masters_in c) c.settings.f client own)
 
 -- what a master says at an event of whatever kind
 abbrev pub says_event : Charge → List Heard → Event → List Body
@@ -67,7 +70,8 @@ pub record HasAnswered (c : Charge) (before : List Heard) (event : Event) (node 
 -- The role's state once it answered the event of an entry: a master waits for its frames, all others have gone on.
 abbrev pub IsReady : Contents → ℕ → List Entry → Entry → Role → Type 0
 IsReady c actor own e (role.Master node) =
-    (is_correct_master (setup_of c) actor ≡ true) × HasAnswered (charge_of (setup_of c) actor) (heard_in (setup_of c) actor own) e.event node
+    (is_correct_master (setup_of c) actor ≡ true) × HasAnswered (charge_of (setup_of c) actor)
+    (heard_in (setup_of c) actor own) e.event node
 IsReady c actor own e other = IsRole c actor (own ++ e ∷ []) other
 
 -- each part of the frame that an event takes is in its place

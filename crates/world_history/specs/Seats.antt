@@ -26,7 +26,8 @@ pub record AllStand (frames : List (Signed Body)) : Type 0 where
 -- the frames of each entry of an actor's list, one list an entry
 abbrev pub frames_of_each : Setup → ℕ → List Entry → List Entry → List (List (Signed Body))
 frames_of_each w actor before [] = []
-frames_of_each w actor before (e ∷ rest) = frames_after w actor before e ∷ frames_of_each w actor (before ++ e ∷ []) rest
+frames_of_each w actor before (e ∷ rest) =
+    frames_after w actor before e ∷ frames_of_each w actor (before ++ e ∷ []) rest
 
 abbrev pub world_in : Seat → Contents
 world_in s = contents s.scenario
@@ -41,15 +42,22 @@ state_of s = record { world = world_in s; actor = s.actor; list = list_in s; sig
 -- the entry that an event at a stamp makes
 abbrev pub entry_of_seat : Seat → ℕ → Event → Entry
 entry_of_seat s stamp event =
-    record { stamp = stamp; actor = s.actor; event = event; said = says_in (setup_of (world_in s)) s.actor (list_in s) event }
+    record {
+      stamp = stamp;
+      actor = s.actor;
+      event = event;
+      said =
+          says_in (setup_of (world_in s)) s.actor (list_in s) event;
+    }
 
 -- the same actor of the same scenario, of whom as many words are signed outside its list
 abbrev pub GoesByTheSame : Seat → Seat → Type 0
 GoesByTheSame old new = (world_in new ≡ world_in old) × (new.actor ≡ old.actor) × (new.signed ≡ old.signed)
 
--- An actor's role, key and frames are what its list makes of them, where it signed so many words that aren't in its list. Only
--- an intruded master signs such words.
-pub record IsReplay (c : Contents) (actor : ℕ) (list : List Entry) (signed : ℕ) (r : Role) (k : KeyUse) (made : List (List (Signed Body))) : Type 0 where
+-- An actor's role, key and frames are what its list makes of them, where it signed so many words that aren't in its
+-- list. Only an intruded master signs such words.
+pub record IsReplay (c : Contents) (actor : ℕ) (list : List Entry) (signed : ℕ) (r : Role) (k : KeyUse)
+    (made : List (List (Signed Body))) : Type 0 where
   pub scenario : IsScenario c
   pub there : actor < (group_in c).n + (group_in c).clients
   pub entries : IsBenchList (setup_of c) actor list

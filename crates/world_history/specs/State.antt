@@ -1,5 +1,6 @@
 -- What contracts see of a bench: one actor of a scenario with all that it did. (This project's own.)
-use Rattle.std.specs.Prelude.{ℕ, ◌+◌, ◌-◌, Bool, false, ◌&&◌, ◌||◌, not, if◌then◌else◌, List, [], ◌∷◌, ◌++◌, Option, Some, None, nat_lt, nat_eq}
+use Rattle.std.specs.Prelude.{ℕ, ◌+◌, ◌-◌, Bool, false, ◌&&◌, ◌||◌, not, if◌then◌else◌, List, [], ◌∷◌, ◌++◌, Option}
+use Rattle.std.specs.Prelude.{Some, None, nat_lt, nat_eq}
 use Rattle.std.specs.Option.{option_map}
 use Rattle.message_types.specs.declared.signed.Signed.{Signed}
 use Rattle.message_types.specs.declared.body.Body.{Body}
@@ -33,7 +34,13 @@ setup_in b = setup_of b.world
 
 -- the entry that an event at a stamp makes
 unfoldable pub entry_at : BenchState → ℕ → Event → Entry
-entry_at b stamp event = record { stamp = stamp; actor = b.actor; event = event; said = says_in (setup_in b) b.actor b.list event }
+entry_at b stamp event = record {
+  stamp = stamp;
+  actor = b.actor;
+  event = event;
+  said =
+      says_in (setup_in b) b.actor b.list event;
+}
 
 abbrev pub with_entry : BenchState → ℕ → Event → BenchState
 with_entry b stamp event = record b { list = b.list ++ entry_at b stamp event ∷ [] }
@@ -48,14 +55,16 @@ executions_shown b = if is_correct_master (setup_in b) b.actor then executions_i
 
 -- the same as an audit asks for it: nothing of a bench that is spent, nor of one that isn't a correct master's
 abbrev pub executed_if : BenchState → Option (List Update)
-executed_if b = if b.is_spent || not (is_correct_master (setup_in b) b.actor) then None else Some (executions_in (setup_in b) b.actor b.list)
+executed_if b = if b.is_spent || not (is_correct_master (setup_in b) b.actor) then None else Some
+    (executions_in (setup_in b) b.actor b.list)
 
 abbrev pub view_shown : BenchState → ℕ
 view_shown b = if is_correct_master (setup_in b) b.actor then view_in (setup_in b) b.actor b.list else 0
 
 -- the update that is certified at a correct master as request k of master j
 abbrev pub certified_shown : BenchState → ℕ → ℕ → Option Update
-certified_shown b j k = if is_correct_master (setup_in b) b.actor then certified (setup_in b).group (known_of (heard_in (setup_in b) b.actor b.list)) j k else None
+certified_shown b j k = if is_correct_master (setup_in b) b.actor then certified (setup_in b).group
+    (known_of (heard_in (setup_in b) b.actor b.list)) j k else None
 
 -- the actor is a proxy, or a screen
 abbrev pub is_proxy : Contents → ℕ → Bool
@@ -67,12 +76,15 @@ is_screen c actor = if nat_lt actor (masters_in c) then false else not (nat_lt (
 -- what a proxy wrote; of others nothing
 abbrev pub writes_shown : BenchState → List Write
 writes_shown b =
-    if is_proxy b.world b.actor then (front_of (masters_in b.world) b.world.settings.f b.world.plant (b.actor - masters_in b.world) b.list).writes else []
+    if is_proxy b.world b.actor then
+    (front_of (masters_in b.world) b.world.settings.f b.world.plant (b.actor - masters_in b.world) b.list).writes
+    else []
 
 -- what a screen shows; of others nothing
 abbrev pub board_shown : BenchState → List Notice
 board_shown b =
-    if is_screen b.world b.actor then board_of (desk_of (masters_in b.world) b.world.settings.f (b.actor - masters_in b.world) b.list) else []
+    if is_screen b.world b.actor then board_of
+    (desk_of (masters_in b.world) b.world.settings.f (b.actor - masters_in b.world) b.list) else []
 
 -- the leaves that the actor has left
 abbrev pub leaves_left : BenchState → ℕ
@@ -82,8 +94,8 @@ leaves_left b = (setup_in b).leaves - (leaves_used (setup_in b) b.list + b.signe
 abbrev pub is_intruded_master : BenchState → Bool
 is_intruded_master b = nat_lt b.actor (masters_in b.world) && (setup_in b).intruded b.actor
 
--- the body that a word is, by what the actor knows: none for a raw word, where the actor knows too little for the body, and
--- where it has no leaf left to sign it with
+-- the body that a word is, by what the actor knows: none for a raw word, where the actor knows too little for the body,
+-- and where it has no leaf left to sign it with
 abbrev pub word_body : BenchState → Word → Option Body
 word_body b w = if nat_eq (leaves_left b) 0 then None else body_of (setup_in b).group (overheard b.list) w
 

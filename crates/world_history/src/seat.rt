@@ -18,6 +18,7 @@ use actor_keys::actor_key;
 use checked_frames::Checked;
 use client_roles::laws::event_carries_well;
 use hash_signatures::KeyState;
+use history_rules::MOST_SHARING;
 use message_types::Frame;
 use plain_lists::{Copied, Items, Want};
 use scenario_file::Scenario;
@@ -44,7 +45,11 @@ fn room_for(shared: bool, leaves: u64) -> u64
     requires { leaves ≤ 2 ^ 30 }
     ensures { result ≡ room_of shared leaves }
 {
-    if shared { 32 * leaves } else { leaves }
+    if shared {
+        MOST_SHARING as u64 * leaves
+    } else {
+        leaves
+    }
 }
 
 impl Seat {

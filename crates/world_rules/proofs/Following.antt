@@ -32,18 +32,21 @@ WrittenBy c history proxy g =
     × Begins (map numbered_order (front_of g.n g.f c.plant proxy (own history (g.n + proxy))).writes)
     (enumerate_from 1 (orders c.plant c.settings.screens (executions (setup_of c) history i) proxy))
 
-written_by : (c : Contents) (history : List Entry) (proxy : ℕ) → IsSound (setup_of c) history → WrittenBy c history proxy (setup_of c).group
+written_by : (c : Contents) (history : List Entry) (proxy : ℕ) → IsSound (setup_of c) history →
+    WrittenBy c history proxy (setup_of c).group
 unfolding front_of
 written_by c history proxy sound =
     let own_list = own history ((setup_of c).group.n + proxy) in
-    writes_follow (setup_of c) c.plant c.settings.screens history proxy (device_of c.plant proxy) (flat_map happenings_of own_list) sound
+    writes_follow (setup_of c) c.plant c.settings.screens history proxy (device_of c.plant proxy)
+    (flat_map happenings_of own_list) sound
     (orders_go_by_plant c) (votes_taken_so own_list)
 
 pub headline_of_legal : HeadlineHolds
 headline_of_legal c history is legal premises = record {
   prefixes = prefixes;
   once = λ i first between last u v. none_executed_twice w history i first between last u v;
-  said = λ i ci u h. subst (λ (g : Group). (came : FirstTaking w history i u) × HasSaid came.before (g.n + u.client) (body.Update u)) (group_is c)
+  said = λ i ci u h. subst (λ (g : Group). (came : FirstTaking w history i u) × HasSaid came.before (g.n + u.client)
+      (body.Update u)) (group_is c)
       (executed_were_said w history i legal sizes sound.unforged ci u h);
   written = λ proxy low. subst (WrittenBy c history proxy) (group_is c) (written_by c history proxy sound);
   yes = agrees_where_prefixes w history prefixes;
@@ -59,5 +62,7 @@ headline_of_legal c history is legal premises = record {
     sound = sound_by_counts w history legal sizes premises.few premises.unforged premises.unlike
 
     prefixes : (i j : ℕ) → is_correct_master w i ≡ true → is_correct_master w j ≡ true
-        → Begins (executions w history i) (executions w history j) ⊎ Begins (executions w history j) (executions w history i)
-    prefixes i j ci cj = executions_agree w history history history i j sound (begins_self history) (begins_self history) ci cj
+        → Begins (executions w history i) (executions w history j)
+        ⊎ Begins (executions w history j) (executions w history i)
+    prefixes i j ci cj = executions_agree w history history history i j sound (begins_self history)
+        (begins_self history) ci cj

@@ -3,3 +3,4 @@ pub mod Votes
 pub mod Signed
 pub mod Agreeing
 pub mod Following
+pub mod Clients

@@ -16,30 +16,35 @@ use Rattle.history_rules.specs.Audit.{parts_taken}
 use Rattle.world_rules.specs.Clients.{happenings_of}
 use Rattle.world_rules.specs.Laws.{NoVoteInside}
 
-votes_in-append : (xs ys : List (Signed Body)) → votes_in (xs ++ ys) ≡ votes_in xs ++ votes_in ys
+pub votes_in-append : (xs ys : List (Signed Body)) → votes_in (xs ++ ys) ≡ votes_in xs ++ votes_in ys
 unfolding votes_in
 votes_in-append xs ys = flat_map-append _ xs ys
 
 none_both : (xs ys : List (Signed Body)) → votes_in xs ≡ [] → votes_in ys ≡ [] → votes_in (xs ++ ys) ≡ []
 none_both xs ys x y = votes_in-append xs ys ∙ ap (λ (vs : List Vote). vs ++ votes_in ys) x ∙ y
 
-none_in_all : {X : Type 0} (frames : X → List (Signed Body)) → ((x : X) → votes_in (frames x) ≡ []) → (xs : List X) → votes_in (flat_map frames xs) ≡ []
+none_in_all : {X : Type 0} (frames : X → List (Signed Body)) → ((x : X) → votes_in (frames x) ≡ []) → (xs : List X) →
+    votes_in (flat_map frames xs) ≡ []
 unfolding votes_in
 none_in_all frames none [] = refl
 none_in_all frames none (x ∷ xs) = none_both (frames x) (flat_map frames xs) (none x) (none_in_all frames none xs)
 
 -- frames of a kind that isn't the vouchers'
-none_of_kind : {B : Type 0} (kind : B → Body) → ((f : Signed B) → votes_in (as_frame kind f ∷ []) ≡ []) → (fs : List (Signed B)) → votes_in (frames_of kind fs) ≡ []
+none_of_kind : {B : Type 0} (kind : B → Body) → ((f : Signed B) → votes_in (as_frame kind f ∷ []) ≡ []) →
+    (fs : List (Signed B)) → votes_in (frames_of kind fs) ≡ []
 unfolding votes_in
 none_of_kind kind none [] = refl
-none_of_kind kind none (f ∷ fs) = none_both (as_frame kind f ∷ []) (frames_of kind fs) (none f) (none_of_kind kind none fs)
+none_of_kind kind none (f ∷ fs) = none_both (as_frame kind f ∷ []) (frames_of kind fs) (none f)
+    (none_of_kind kind none fs)
 
 none_in_report : (b : Report) → votes_in (inside_report b) ≡ []
 unfolding votes_in
 none_in_report b =
-    none_both (frames_of body.Mark b.marks) (flat_map (λ (c : Certificate). frames_of body.Prepare c.prepares) b.certificates)
+    none_both (frames_of body.Mark b.marks)
+    (flat_map (λ (c : Certificate). frames_of body.Prepare c.prepares) b.certificates)
     (none_of_kind body.Mark (λ f. refl) b.marks)
-    (none_in_all (λ (c : Certificate). frames_of body.Prepare c.prepares) (λ c. none_of_kind body.Prepare (λ f. refl) c.prepares) b.certificates)
+    (none_in_all (λ (c : Certificate). frames_of body.Prepare c.prepares)
+    (λ c. none_of_kind body.Prepare (λ f. refl) c.prepares) b.certificates)
 
 none_inside : (b : Body) → votes_in (inside b) ≡ []
 unfolding votes_in
@@ -83,7 +88,8 @@ by_event stamp actor Skip said = refl
 by_event stamp actor Restart said = refl
 
 -- the votes among what entries are to a proxy are those of the frames taken
-pub votes_taken_so : (entries : List Entry) → votes_of (flat_map happenings_of entries) ≡ votes_in (flat_map parts_taken entries)
+pub votes_taken_so : (entries : List Entry) → votes_of (flat_map happenings_of entries) ≡ votes_in
+    (flat_map parts_taken entries)
 unfolding votes_in
 votes_taken_so [] = refl
 votes_taken_so (e ∷ rest) =

@@ -1,5 +1,5 @@
--- The clients of a plant as functions of their own entries alone: a proxy before its device, and a screen. (After Spire,
--- whose proxies and screens act on f + 1 equal words of its masters; what they say is this project's own.)
+-- The clients of a plant as functions of their own entries alone: a proxy before its device, and a screen. (After
+-- Spire, whose proxies and screens act on f + 1 equal words of its masters; what they say is this project's own.)
 use Rattle.std.specs.Prelude.{ℕ, ◌+◌, List, [], ◌∷◌, length, map, unwrap_or, slice_get}
 use Rattle.std.specs.List.{flat_map}
 use Rattle.message_types.specs.declared.body.Body.{Body}
@@ -16,8 +16,8 @@ use Rattle.operator_screen.specs.Board.{Desk, is_notice, notices}
 use Rattle.history_rules.specs.Events.{Event, Took, Tick, Command, Field, Poll, Cry, Skip, Restart, Entry}
 use Rattle.history_rules.specs.Audit.{parts_taken}
 
--- What an entry is to a proxy: a change in its field, a poll, the voucher that it took. A poll had room for just what was
--- said at it.
+-- What an entry is to a proxy: a change in its field, a poll, the voucher that it took. A poll had room for just what
+-- was said at it.
 abbrev pub happenings_of : Entry → List Happening
 happenings_of e = elim e.event [
   | Took stamp place frame ↦ map Vouched (votes_in (parts_taken e))
@@ -35,7 +35,8 @@ device_of plant client = unwrap_or (slice_get plant.devices client) no_device
 
 -- the proxy of a client after its own entries
 unfoldable pub front_of : (n f : ℕ) → Plant → ℕ → List Entry → Front
-front_of n f plant client own = front_after (fresh client n f plant.points (device_of plant client)) (flat_map happenings_of own)
+front_of n f plant client own = front_after (fresh client n f plant.points (device_of plant client))
+    (flat_map happenings_of own)
 
 -- a screen after its own entries: it counts the commands that it said, and keeps the votes for its notices
 unfoldable pub desk_of : (n f : ℕ) → ℕ → List Entry → Desk

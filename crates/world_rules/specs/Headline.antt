@@ -1,5 +1,5 @@
--- The headline: what holds of every legal history of every scenario while at most f masters are intruded, no word is forged
--- and no digest is shared. (Prime's and PBFT's agreement, and Spire's plant, as this project states them.)
+-- The headline: what holds of every legal history of every scenario while at most f masters are intruded, no word is
+-- forged and no digest is shared. (Prime's and PBFT's agreement, and Spire's plant, as this project states them.)
 use Rattle.std.specs.Prelude.{◌≡◌, ◌≤◌, ◌<◌, ◌⊎◌, ℕ, ◌+◌, Bool, true, ◌||◌, List, ◌∷◌, ◌++◌, filter, map}
 use Rattle.std.specs.List.{list_all, starts_with, enumerate_from}
 use Rattle.message_types.specs.declared.updates.Update.{Update}
@@ -59,7 +59,8 @@ pub record Agreed (c : Contents) (history : List Entry) : Type 0 where
   pub once : (i : ℕ) (first between last : List Update) (u v : Update)
       → executions (setup_of c) history i ≡ (first ++ u ∷ between) ++ v ∷ last → u.client ≡ v.client → u.t ≡ v.t → ⊥
   -- each update there came to its master in a frame taken, and its client said it at an entry before the first such
-  pub said : (i : ℕ) → is_correct_master (setup_of c) i ≡ true → (u : Update) → IsIn u (executions (setup_of c) history i)
+  pub said : (i : ℕ) → is_correct_master (setup_of c) i ≡ true → (u : Update) →
+      IsIn u (executions (setup_of c) history i)
       → (came : FirstTaking (setup_of c) history i u) × HasSaid came.before ((group_in c).n + u.client) (body.Update u)
   -- each proxy's writes, with their numbers, begin some correct master's orders for it
   pub written : (proxy : ℕ) → proxy < proxies_in c → WritesBegin c history proxy
@@ -69,4 +70,5 @@ pub record Agreed (c : Contents) (history : List Entry) : Type 0 where
 -- The headline, of every legal history of every scenario.
 abbrev pub HeadlineHolds : Type 0
 HeadlineHolds =
-    (c : Contents) (history : List Entry) → IsScenario c → IsLegal (setup_of c) history → Premises (setup_of c) history → Agreed c history
+    (c : Contents) (history : List Entry) → IsScenario c → IsLegal (setup_of c) history →
+    Premises (setup_of c) history → Agreed c history

@@ -14,7 +14,7 @@ use Rattle.history_rules.specs.Events.{Event, Entry}
 use Rattle.history_rules.specs.Setup.{Setup}
 use Rattle.agreement.specs.Laws.{HasSizes}
 use Rattle.plant_agreement.specs.Laws.{GoesByPlant}
-use Rattle.own_words.specs.Signing.{SignsWell}
+use Rattle.words_in_place.specs.Signing.{SignsWell}
 use Rattle.world_rules.specs.Scenarios.{group_in, key_in, shares_leaves, signature_in, client_in, fits_in, setup_of}
 
 -- the setup's group has the sizes of a group
@@ -29,7 +29,8 @@ OrdersGoByPlant = (c : Contents) → GoesByPlant (setup_of c) c.plant c.settings
 abbrev pub LeavesOfAll : Type 0
 LeavesOfAll = (c : Contents) (actor : ℕ) → (setup_of c).leaves ≡ all_leaves (key_in c actor)
 
--- Its signatures sign: what an actor signs with leaves that it has, its key bears out, and each signature is within the limits.
+-- Its signatures sign: what an actor signs with leaves that it has, its key bears out, and each signature is within the
+-- limits.
 abbrev pub SignaturesSign : Type 0
 SignaturesSign = (c : Contents) → IsScenario c → SignsWell (setup_of c)
 
@@ -41,10 +42,13 @@ NoVoteInside = (frame : Signed Body) → votes_in (parts frame) ≡ votes_in (fr
 pub record GoesBy (w : Setup) (c : Contents) : Type 0 where
   pub group : w.group ≡ group_in c
   pub intruded : (master : ℕ) → w.intruded master ≡ has_master c.settings.intruded master
-  pub clients : (actor : ℕ) (own : List Entry) (event : Event) → w.client_says actor own event ≡ client_in c actor own event
+  pub clients : (actor : ℕ) (own : List Entry) (event : Event) →
+      w.client_says actor own event ≡ client_in c actor own event
   pub fits : (actor : ℕ) (event : Event) → w.fits actor event ≡ fits_in c actor event
-  pub signature : (actor used : ℕ) (said : List Body) (place : ℕ) → w.signature actor used said place ≡ signature_in c actor used said place
-  pub signs : (actor : ℕ) (text sig : List ℕ) → w.signs actor text sig ≡ signing.signs (key_public (key_in c actor)) text sig
+  pub signature : (actor used : ℕ) (said : List Body) (place : ℕ) →
+      w.signature actor used said place ≡ signature_in c actor used said place
+  pub signs : (actor : ℕ) (text sig : List ℕ) →
+      w.signs actor text sig ≡ signing.signs (key_public (key_in c actor)) text sig
   pub shared_leaves : w.shared_leaves ≡ shares_leaves c
   pub failing : (actor : ℕ) → w.failing actor ≡ slice_index_or c.failing actor []
 

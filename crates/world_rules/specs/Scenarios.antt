@@ -1,6 +1,6 @@
--- What the histories of a scenario go by: its group, its intruded masters, the orders of its plant, its clients, the events
--- that each actor may have, and its actors' keys, leaves and keepers. (RFC 8554 for the keys; which key an actor has, and
--- the rest, is this project's own.)
+-- What the histories of a scenario go by: its group, its intruded masters, the orders of its plant, its clients, the
+-- events that each actor may have, and its actors' keys, leaves and keepers. (RFC 8554 for the keys; which key an actor
+-- has, and the rest, is this project's own.)
 use Rattle.std.specs.Prelude.{ℕ, ◌+◌, ◌-◌, Bool, true, false, List, [], length, map, nat_eq, nat_lt, if◌then◌else◌}
 use Rattle.std.specs.List.{slice_index_or}
 use Rattle.quorum_sets.specs.Quorum.{group_size, quorum_size}
@@ -38,7 +38,7 @@ group_in c = record {
 unfoldable pub key_in : Contents → ℕ → Key
 key_in c actor = key_of c.settings.seed c.settings.heights actor
 
--- whether up to 32 bodies of an entry share a leaf, and so how many do at most
+-- whether bodies of an entry share a leaf, and so how many do at most
 abbrev pub shares_leaves : Contents → Bool
 shares_leaves c = nat_eq c.settings.frames 2
 

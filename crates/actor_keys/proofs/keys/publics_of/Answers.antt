@@ -1,3 +1,5 @@
+-- Each turn adds the public key of the next actor, so the list so far is always the definition's list for the
+-- actors before it.
 use Rattle.std.proofs.Common.{◌++◌, ◌∷◌, [], sym, ap, ◌∙◌}
 use Rattle.hash_signatures.specs.Signatures.{key_public}
 use Rattle.hash_signatures.specs.State.{KeyUse}

@@ -4,4 +4,5 @@ use Rattle.actor_keys.proofs.keys.ring_of.Goals as goal
 
 pub make-requires : goal.make-requires
 make-requires c =
-    ap length (c.deref.ensures.value ∙ c.in_ok-publics.ensures) ∙ one_each c.args.seed.now c.args.heights.now (c.args.sizes.n + c.args.clients)
+    ap length (c.deref.ensures.value ∙ c.in_ok-publics.ensures) ∙ one_each c.args.seed.now c.args.heights.now
+    (c.args.sizes.n + c.args.clients)

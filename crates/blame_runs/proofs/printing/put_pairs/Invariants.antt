@@ -6,4 +6,5 @@ use Rattle.blame_runs.proofs.printing.put_pairs.Given as goal
 
 -- the pairs so far have their lines
 abbrev pub invariant-loop-pair : goal.invariant-loop-pair
-invariant-loop-pair l = string_bytes l.text ≡ string_bytes l.initial.text ++ flat_map named_text (take l.pair-index l.pairs)
+invariant-loop-pair l = string_bytes l.text ≡ string_bytes l.initial.text
+    ++ flat_map named_text (take l.pair-index l.pairs)

@@ -1,3 +1,4 @@
+-- After each entry what is kept is right for the words taken so far; after the last one that is all of them.
 use Rattle.std.proofs.Common.{arith}
 use Rattle.blame_runs.proofs.OneMore.{entry_more, entries_all}
 use Rattle.blame_runs.proofs.taking.blame_of.Goals as goal
@@ -7,8 +8,10 @@ loop-entry-init c = c.make-blame.ensures
 
 pub loop-entry-preserved : goal.loop-entry-preserved
 loop-entry-preserved c =
-    entry_more c.args.sizes.n c.args.entries.now c.loop-entry.entry-index c.entry-item.result c.loop-entry.blame c.take_entry.new.blame
+    entry_more c.args.sizes.n c.args.entries.now c.loop-entry.entry-index c.entry-item.result
+    c.loop-entry.blame c.take_entry.new.blame
     c.loop-entry-test.true c.entry-item.is c.loop-entry.invariant c.in_ok-take_entry.ensures
 
 pub returns : goal.returns
-returns c = entries_all c.args.sizes.n c.args.entries.now c.loop-entry.entry-index c.loop-entry.blame (omega (arith, c.loop-entry-test.false)) c.loop-entry.invariant
+returns c = entries_all c.args.sizes.n c.args.entries.now c.loop-entry.entry-index c.loop-entry.blame
+    (omega (arith, c.loop-entry-test.false)) c.loop-entry.invariant

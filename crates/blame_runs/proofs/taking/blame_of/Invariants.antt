@@ -1,6 +1,6 @@
 use Rattle.std.proofs.Common.{map, take}
 use Rattle.world_entries.specs.Entries.{entry_of}
-use Rattle.blame_check.specs.Kept.{HasTaken}
+use Rattle.blame_check.specs.Slots.{HasTaken}
 use Rattle.blame_check.specs.Laws.{words_taken}
 use Rattle.blame_runs.proofs.taking.blame_of.Given as goal
 

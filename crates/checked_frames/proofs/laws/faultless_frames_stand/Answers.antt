@@ -2,4 +2,7 @@ use Rattle.checked_frames.proofs.StandingLaws.{faultless_stands, stands_faultles
 use Rattle.checked_frames.proofs.laws.faultless_frames_stand.Goals as goal
 
 pub returns : goal.returns
-returns c = λ ring frame. ((λ e. (stands_spelled ring frame e, stands_faultless ring frame e)), (λ both. faultless_stands ring frame both.0 both.1))
+returns c = λ ring frame. (
+  (λ e. (stands_spelled ring frame e, stands_faultless ring frame e)),
+  (λ both. faultless_stands ring frame both.0 both.1),
+)

@@ -1,6 +1,6 @@
 use Rattle.std.proofs.Common.{◌≤◌, arith}
 use Rattle.protocol_rules.specs.Group.{group_of}
-use Rattle.checked_frames.proofs.RowLaws.{rows_in_place_fit}
+use Rattle.protocol_rules.proofs.PlacedRows.{rows_in_place_fit}
 use Rattle.checked_frames.proofs.places.is_ordered.Goals as goal
 
 pub rows_digest-digest-requires : goal.rows_digest-digest-requires

@@ -1,6 +1,6 @@
 use Rattle.std.proofs.Common.{◌≡◌, map}
 use Rattle.quorum_sets.specs.Masters.{numbers_below}
-use Rattle.checked_frames.specs.Kept.{head_through}
+use Rattle.checked_frames.specs.Heads.{head_through}
 use Rattle.checked_frames.proofs.signing.heads_of.Given as goal
 
 abbrev pub invariant-loop-place : goal.invariant-loop-place

@@ -8,5 +8,6 @@ use Rattle.checked_frames.proofs.signing.tree_over.Goals as goal
 
 pub unreachable-requires : goal.unreachable-requires
 unreachable-requires c =
-    let some = subst (λ (xs : List (List ℕ)). 1 ≤ length xs) (sym c.in_ok-top.ensures.top) (raised_some 5 c.args.leaves c.requires) in
+    let some = subst (λ (xs : List (List ℕ)). 1 ≤ length xs) (sym c.in_ok-top.ensures.top)
+    (raised_some 5 c.args.leaves c.requires) in
     first_is_there c.in_ok-top.top some (sym (ap option_copied c.in_default.is) ∙ c.get.ensures)

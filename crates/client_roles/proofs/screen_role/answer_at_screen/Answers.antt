@@ -1,23 +1,30 @@
+-- A command is said and counted where there is room, else nothing happens; a frame only adds the vote in it; at
+-- any other event the screen says nothing and stays.
 use Rattle.std.proofs.Common.{◌∙◌}
 use Rattle.client_roles.proofs.Answering.{commanded, idle, took, unmoved, wordless}
 use Rattle.client_roles.proofs.screen_role.answer_at_screen.Goals as goal
 
 pub returns-then-no_room-clause-after : goal.returns-then-no_room-clause-after
-returns-then-no_room-clause-after c = idle c.args.screen.now c.args.event.now c.in-Command.op c.new.result.items c.in-Command.is c.new.ensures.items
+returns-then-no_room-clause-after c = idle c.args.screen.now c.args.event.now c.in-Command.op c.new.result.items
+    c.in-Command.is c.new.ensures.items
 
 pub returns-else-no_room-clause-after : goal.returns-else-no_room-clause-after
 returns-else-no_room-clause-after c =
-    commanded c.say_command.result (λ said. said.items) c.args.screen.now c.say_command.new.screen c.args.event.now c.in-Command.op c.in-Command.is
+    commanded c.say_command.result (λ said. said.items) c.args.screen.now c.say_command.new.screen c.args.event.now
+    c.in-Command.op c.in-Command.is
     c.say_command.ensures.said c.say_command.ensures.counted
 
 pub returns-in_ok-hear-in-Took-clause-after : goal.returns-in_ok-hear-in-Took-clause-after
 returns-in_ok-hear-in-Took-clause-after c =
-    took c.args.screen.now c.hear.new.screen c.args.event.now c.new-in-Took.result.items c.in-Took.stamp c.in-Took.place c.in-Took.frame c.frame.result.now
+    took c.args.screen.now c.hear.new.screen c.args.event.now c.new-in-Took.result.items c.in-Took.stamp
+    c.in-Took.place c.in-Took.frame c.frame.result.now
     c.in-Took.is c.frame.ensures.frame c.new-in-Took.ensures.items c.in_ok-hear-in-Took.ensures.ok
 
 pub returns-in_default : goal.returns-in_default
 returns-in_default c = record {
-  said = c.new-in_default.ensures.items ∙ wordless c.args.screen.now c.args.event.now c.args.room c.in_default.not-Command;
-  after = unmoved c.args.screen.now c.args.event.now c.new-in_default.result.items c.in_default.not-Took c.new-in_default.ensures.items;
+  said = c.new-in_default.ensures.items
+      ∙ wordless c.args.screen.now c.args.event.now c.args.room c.in_default.not-Command;
+  after = unmoved c.args.screen.now c.args.event.now c.new-in_default.result.items c.in_default.not-Took
+      c.new-in_default.ensures.items;
   err = tt;
 }

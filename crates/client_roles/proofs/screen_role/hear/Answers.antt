@@ -1,3 +1,5 @@
+-- A voucher is the one vote in its frame and any other body holds none: so the screen counts exactly the votes
+-- in the frame that are notices for it.
 use Rattle.std.proofs.Common.{◌≡◌, ◌++◌, List, OnOk, sym, subst}
 use Rattle.vouched_orders.specs.declared.vote.Vote.{Vote}
 use Rattle.vouched_orders.specs.Vouching.{counted}
@@ -9,7 +11,11 @@ use Rattle.client_roles.proofs.screen_role.hear.Goals as goal
 pub returns-in-Voucher-clause-ok : goal.returns-in-Voucher-clause-ok
 returns-in-Voucher-clause-ok c =
     let vote = one_vote c.args.frame.now c.in-Voucher.voucher c.in-Voucher.is in
-    subst (λ (votes : List Vote). OnOk c.take_voucher.result (c.take_voucher.new.self ≡ record c.args.screen.now { votes = c.args.screen.now.votes ++ counted is_notice c.args.screen.now.client votes }))
+    subst (λ (votes : List Vote). OnOk c.take_voucher.result
+    (c.take_voucher.new.self ≡ record c.args.screen.now {
+      votes = c.args.screen.now.votes
+          ++ counted is_notice c.args.screen.now.client votes;
+    }))
     (sym vote) c.take_voucher.ensures.ok
 
 pub returns-in_default : goal.returns-in_default

@@ -1,3 +1,5 @@
+-- The text put is the one that the command gave for these words and files: so where memory ends while it is
+-- put, a beginning of that text was put.
 use Rattle.std.proofs.Common.{[], map, string_bytes, sym, subst}
 use Rattle.command_ends.specs.Steps.Step.{Gives}
 use Rattle.command_ends.specs.Calls.{Call, Comes}
@@ -17,5 +19,6 @@ returns-in-Ok-clause-memory g c =
       put_after = g.O.Sink.told c.put.new.out;
     } in
     let comes : Comes (g.C.Commands.next call.words) call.held [] (Gives c.as_slice.result.now) =
-    subst (λ text. Comes (g.C.Commands.next call.words) call.held [] (Gives text)) (sym c.as_slice.ensures.value) c.in-Ok.ensures.cause in
+    subst (λ text. Comes (g.C.Commands.next call.words) call.held [] (Gives text)) (sym c.as_slice.ensures.value)
+    c.in-Ok.ensures.cause in
     puts_in_memory g.C.Commands.next call c.as_slice.result.now c.put.result comes c.put.ensures.cause

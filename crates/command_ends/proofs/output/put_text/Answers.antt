@@ -1,3 +1,5 @@
+-- What was put so far and the rest make up the text, and no fault has come yet: so a refusal is of the next
+-- piece, after what was put whole. A piece is never empty, so the rest gets shorter.
 use Rattle.std.proofs.Common.{◌≡◌, ◌++◌, length, sym, ◌∙◌, ap, append_assoc, take, arith}
 use Rattle.std.proofs.lemmas.List.{take-append-drop, length-drop}
 use Rattle.outside.specs.Piece.{with_piece}
@@ -30,7 +32,8 @@ loop-rest-preserved g c =
     }
 
 pub returns-in-Err-clause-counted : goal.returns-in-Err-clause-counted
-returns-in-Err-clause-counted g c = counts-after _ _ _ c.in-Err.answer c.loop-rest.invariant.none c.in-Err.ensures.counted
+returns-in-Err-clause-counted g c =
+    counts-after _ _ _ c.in-Err.answer c.loop-rest.invariant.none c.in-Err.ensures.counted
 
 pub returns-in-Err-clause-bytes : goal.returns-in-Err-clause-bytes
 returns-in-Err-clause-bytes g c =

@@ -1,8 +1,9 @@
+-- The pieces put so far and the rest make up the text, and the output's count of faults hasn't risen. Each turn
+-- takes a piece that isn't empty off the rest, which ends the loop.
 use Rattle.std.proofs.Common.{◌≡◌, ◌++◌, ℕ, List, length}
 use Rattle.outside.specs.Piece.{with_piece}
 use Rattle.command_ends.proofs.output.put_text.Given as goal
 
--- the text is what was put so far and the rest, and no fault came
 abbrev pub invariant-loop-rest : goal.invariant-loop-rest
 invariant-loop-rest g l = record {
   none : g.O.Sink.faults l.out ≡ g.O.Sink.faults l.initial.out;

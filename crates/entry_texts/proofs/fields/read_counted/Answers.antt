@@ -1,3 +1,5 @@
+-- The length tells how many bytes follow: where it is missing, or fewer or more follow than it tells, no text
+-- is spelled so, and else it is just those bytes.
 use Rattle.std.proofs.Common.{arith, refl}
 use Rattle.entry_texts.proofs.FieldReads.{no_count, few_counted, more_counted}
 use Rattle.entry_texts.proofs.fields.read_counted.Goals as goal

@@ -3,4 +3,11 @@ use Rattle.execution.proofs.laws.only_certificates_count.Goals as goal
 
 pub returns : goal.returns
 returns c g m certified other runs same is =
-    record { group = is.group; numbers = is.numbers; reached = is.reached; requests = is.requests; certificates = λ r. is.certificates r ∙ same r }
+    record {
+      group = is.group;
+      numbers = is.numbers;
+      reached = is.reached;
+      requests = is.requests;
+      certificates =
+          λ r. is.certificates r ∙ same r;
+    }

@@ -4,4 +4,6 @@ use Rattle.execution.specs.Ran.{request_of}
 use Rattle.execution.proofs.requests.push_requests.Given as goal
 
 abbrev pub invariant-loop-number : goal.invariant-loop-number
-invariant-loop-number l = (map request_of l.fresh.items ≡ map request_of l.fn.fresh.items ++ requests_between l.master l.from l.number) × (l.number ≤ max l.from l.to)
+invariant-loop-number l =
+    (map request_of l.fresh.items ≡ map request_of l.fn.fresh.items ++ requests_between l.master l.from l.number)
+    × (l.number ≤ max l.from l.to)

@@ -1,3 +1,5 @@
+-- The bytes so far are the packed ones of as many eights of bits; at the last they are all, and 2000 bits make
+-- at most 250 of them.
 use Rattle.std.proofs.Common.{arith, ap, ◌∙◌, ◌≡◌, ◌++◌, ◌∷◌, [], length}
 use Rattle.field_device.specs.Packing.{packed, byte_count}
 use Rattle.field_device.proofs.PackingLaws.{bytes_so_far, length-bytes_so_far, packed_more}
@@ -18,5 +20,6 @@ returns-clause-bytes c =
 
 pub returns-clause-few : goal.returns-clause-few
 returns-clause-few c =
-    let size : length c.loop-k.bytes.items ≡ c.loop-k.k = ap length c.loop-k.invariant ∙ length-bytes_so_far c.args.bits.now c.loop-k.k in
+    let size : length c.loop-k.bytes.items ≡ c.loop-k.k = ap length c.loop-k.invariant
+    ∙ length-bytes_so_far c.args.bits.now c.loop-k.k in
     omega (arith, size, c.requires)

@@ -1,3 +1,5 @@
+-- A raw value scales to an integer that fits 128 bits, so it is given just where it fits 64; where the device
+-- gives no raw value, none is given.
 use Rattle.std.proofs.Common.{ap, sym, ◌∙◌}
 use Rattle.std.specs.Int.{w128}
 use Rattle.std.proofs.lemmas.Int.{to_z-of_z}
@@ -11,4 +13,5 @@ returns-in-Some-clause-value c =
     ∙ sym (given_some c.args.device.now c.args.point.now c.in-Some.raw (sym c.in_ok-raw.ensures.raw ∙ c.in-Some.is))
 
 pub returns-in-None-clause-value : goal.returns-in-None-clause-value
-returns-in-None-clause-value c = sym (given_none c.args.device.now c.args.point.now (sym c.in_ok-raw.ensures.raw ∙ c.in-None.is))
+returns-in-None-clause-value c =
+    sym (given_none c.args.device.now c.args.point.now (sym c.in_ok-raw.ensures.raw ∙ c.in-None.is))

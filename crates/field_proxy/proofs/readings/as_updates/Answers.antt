@@ -8,4 +8,5 @@ loop-place-init c = c.in_ok-updates.ensures.items ∙ sym (numbered-none c.args.
 pub loop-place-preserved : goal.loop-place-preserved
 loop-place-preserved c =
     c.in_ok-push.ensures.items
-    ∙ numbered_more c.args.client c.args.first _ c.args.ops.now c.loop-place.place _ c.loop-place.updates.items c.loop-place-test.true (omega arith) c.loop-place.invariant
+    ∙ numbered_more c.args.client c.args.first _ c.args.ops.now c.loop-place.place _ c.loop-place.updates.items
+    c.loop-place-test.true (omega arith) c.loop-place.invariant

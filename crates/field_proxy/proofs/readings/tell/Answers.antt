@@ -6,4 +6,5 @@ pub loop-op-init : goal.loop-op-init
 loop-op-init c = sym (told-none c.args.lasts.now)
 
 pub loop-op-preserved : goal.loop-op-preserved
-loop-op-preserved c = c.tell_one.ensures ∙ told_more c.args.lasts.now c.loop-op.lasts c.args.ops.now c.loop-op.op-index _ c.loop-op-test.true c.loop-op.invariant
+loop-op-preserved c = c.tell_one.ensures ∙ told_more c.args.lasts.now c.loop-op.lasts c.args.ops.now
+    c.loop-op.op-index _ c.loop-op-test.true c.loop-op.invariant

@@ -1,3 +1,5 @@
+-- Each turn puts back what the log's last item held: undoing what is left of the log, from the device as it is
+-- now, always gives what undoing all of it gave at the beginning.
 use Rattle.std.proofs.Common.{arith, ap, sym, ◌∙◌, ◌≡◌, []}
 use Rattle.std.proofs.lemmas.List.{nil_from_length}
 use Rattle.field_proxy.specs.Undoing.{undone}
@@ -14,5 +16,6 @@ loop-held-preserved c =
 pub returns : goal.returns
 unfolding undone
 returns c =
-    let none : c.loop-held.log.items ≡ [] = nil_from_length c.loop-held.log.items (omega (arith, c.in_default.ensures.cases.0)) in
+    let none : c.loop-held.log.items ≡ [] =
+    nil_from_length c.loop-held.log.items (omega (arith, c.in_default.ensures.cases.0)) in
     sym (ap (λ log. undone log c.loop-held.device) none) ∙ c.loop-held.invariant

@@ -1,3 +1,5 @@
+-- Those so far are known, there is room for the others, and what was ordered, pending or the greatest goes on
+-- as one list of rows has it go on.
 use Rattle.std.proofs.Common.{◌≡◌, ℕ, ◌+◌, ◌≤◌, ◌++◌, Bool, List, Option, length, vec_len}
 use Rattle.indexmap.specs.IndexMap.{spare}
 use Rattle.global_order.specs.Unsaid.{HasPendingCommits}
@@ -13,7 +15,9 @@ invariant-loop-rows l = record {
   grow : OrdersGrow l.initial.choices.ordered l.choices.ordered;
   pending : (said : ℕ → ℕ → Bool) → HasPendingCommits said l.initial.choices → HasPendingCommits said l.choices;
   highest : HasHighestOrder l.initial.choices → HasHighestOrder l.choices;
-  known : (known : List (List (List ℕ))) (prepares : ℕ × ℕ → List ℕ → Bool) (first : ℕ × ℕ → Option (List ℕ)) (commits : ℕ → List ℕ → Bool) (order : ℕ → Option (List ℕ)) →
+  known : (known : List (List (List ℕ))) (prepares : ℕ × ℕ → List ℕ → Bool) (first : ℕ × ℕ → Option (List ℕ))
+      (commits : ℕ → List ℕ → Bool) (order : ℕ → Option (List ℕ)) →
       Agrees known prepares first commits order l.initial.choices →
-      Agrees (known ++ l.yielded) prepares (with_all prepares first l.yielded) commits (with_all commits order l.yielded) l.choices;
+      Agrees (known ++ l.yielded) prepares (with_all prepares first l.yielded) commits
+      (with_all commits order l.yielded) l.choices;
 }

@@ -6,4 +6,5 @@ pub returns-then-s-ne0 : goal.returns-then-s-ne0
 returns-then-s-ne0 c = λ words marked. mark-none words c.args.bodies.now.items c.args.s c.if-s-ne0.true
 
 pub returns : goal.returns
-returns c = λ words marked. c.in_ok-push.ensures.items ∙ mark-one words c.args.bodies.now.items c.args.marked c.args.s c.if-s-ne0.false c.requires marked
+returns c = λ words marked. c.in_ok-push.ensures.items ∙ mark-one words c.args.bodies.now.items c.args.marked c.args.s
+    c.if-s-ne0.false c.requires marked

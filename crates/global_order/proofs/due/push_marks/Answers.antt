@@ -1,3 +1,5 @@
+-- Number after number above the last one marked, what is added is what is due. Up to that one all marks were
+-- said, so nothing is due there.
 use Rattle.std.proofs.Common.{◌≡◌, ◌+◌, ◌-◌, ◌++◌, ◌∙◌, ap, sym, arith, append_assoc}
 use Rattle.std.proofs.lemmas.List.{append-nil}
 use Rattle.std.specs.List.{flat_map}
@@ -21,8 +23,11 @@ loop-s-preserved c = record {
   added = λ words said.
       c.in_ok-push_mark.ensures words said
       ∙ ap (λ xs. xs ++ mark_due words c.loop-s.s) (c.loop-s.invariant.added words said)
-      ∙ append_assoc c.args.bodies.now.items (flat_map (mark_due words) (numbers_from (c.args.marked + 1) (c.loop-s.s - (c.args.marked + 1)))) (mark_due words c.loop-s.s)
-      ∙ ap (λ xs. c.args.bodies.now.items ++ xs) (sym (flat_map-more (mark_due words) (c.args.marked + 1) c.loop-s.s (omega arith)));
+      ∙ append_assoc c.args.bodies.now.items
+      (flat_map (mark_due words) (numbers_from (c.args.marked + 1) (c.loop-s.s - (c.args.marked + 1))))
+      (mark_due words c.loop-s.s)
+      ∙ ap (λ xs. c.args.bodies.now.items ++ xs)
+      (sym (flat_map-more (mark_due words) (c.args.marked + 1) c.loop-s.s (omega arith)));
 }
 
 pub returns : goal.returns

@@ -1,3 +1,4 @@
+-- The marks due for the numbers so far are there.
 use Rattle.std.proofs.Common.{◌≡◌, ◌++◌, ◌+◌, ◌-◌, ◌≤◌, List}
 use Rattle.std.specs.List.{flat_map}
 use Rattle.message_types.specs.declared.body.Body.{Body}
@@ -10,5 +11,6 @@ use Rattle.global_order.proofs.due.push_marks.Given as goal
 abbrev pub invariant-loop-s : goal.invariant-loop-s
 invariant-loop-s l = record {
   in_range : l.s - (l.marked + 1) ≤ (l.reach + 1) - (l.marked + 1);
-  added : (words : List Body) → HasMarked words l.marked → l.bodies.items ≡ l.initial.bodies.items ++ flat_map (mark_due words) (numbers_from (l.marked + 1) (l.s - (l.marked + 1)));
+  added : (words : List Body) → HasMarked words l.marked → l.bodies.items ≡ l.initial.bodies.items
+      ++ flat_map (mark_due words) (numbers_from (l.marked + 1) (l.s - (l.marked + 1)));
 }

@@ -1,3 +1,5 @@
+-- Commits are due in two ranges of the view alone. The numbers before, between and up to the end have none, so
+-- both pieces are what is due for all numbers.
 use Rattle.std.proofs.Common.{◌≡◌, ◌-◌, ◌++◌, min, ◌∙◌, ap, arith, append_assoc}
 use Rattle.std.specs.List.{flat_map}
 use Rattle.protocol_rules.specs.Words.{numbers_from}
@@ -11,6 +13,10 @@ returns c = λ g facts words choice said pending.
     let high : c.min.result ≡ min p.high c.args.end = grind (arith, c.min.ensures) in
     let middle : c.min-2.result ≡ min p.beyond c.args.end = grind (arith, c.min-2.ensures) in
     c.in_ok-push_commits-2.ensures g facts words choice said
-    ∙ ap (λ xs. xs ++ flat_map (commit_due g facts words p.view) (numbers_from c.min-2.result (c.args.end - c.min-2.result))) (c.in_ok-push_commits.ensures g facts words choice said)
+    ∙ ap (λ xs. xs ++ flat_map (commit_due g facts words p.view)
+    (numbers_from c.min-2.result (c.args.end - c.min-2.result)))
+    (c.in_ok-push_commits.ensures g facts words choice said)
     ∙ append_assoc c.args.bodies.now.items _ _
-    ∙ ap (λ xs. c.args.bodies.now.items ++ xs) (narrow-commits g facts words c.args.said.now c.args.slots.now p c.args.end c.min.result c.min-2.result said choice pending high middle)
+    ∙ ap (λ xs. c.args.bodies.now.items ++ xs)
+    (narrow-commits g facts words c.args.said.now c.args.slots.now p c.args.end c.min.result c.min-2.result
+    said choice pending high middle)

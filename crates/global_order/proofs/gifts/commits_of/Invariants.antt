@@ -5,4 +5,6 @@ use Rattle.global_order.proofs.gifts.commits_of.Given as goal
 
 -- those of the masters so far are there
 abbrev pub invariant-loop-master : goal.invariant-loop-master
-invariant-loop-master l = l.frames.items ≡ given (λ m. option_map (commit_of l.v l.s l.digest m) (vote_at l.votes l.v l.s l.digest m)) l.master
+invariant-loop-master l =
+    l.frames.items ≡ given (λ m. option_map (commit_of l.v l.s l.digest m) (vote_at l.votes l.v l.s l.digest m))
+    l.master

@@ -1,3 +1,5 @@
+-- By whether it is due and whether the number is ordered, the rule and the answer of the order give the same
+-- words.
 use Rattle.std.proofs.Common.{◌≡◌, ℕ, Bool, true, false, cond, ◌&&◌, not, List, [], ◌∷◌, Option, Some, None, refl}
 use Rattle.std.specs.List.{list_any}
 use Rattle.std.specs.Option.{option_map}
@@ -16,7 +18,13 @@ by : (g : Group) (facts : List OrderFact) (s : ℕ) (is_due : Bool) (o : Option 
     cond is_due (elim o [
       | Some rows ↦
           let v = greatest_of (committed_views g facts s (digest_of_rows rows)) in
-          body.GiveOrdered record { s = s; v = v; rows = rows; commits = quorum_of g (commit_by v s (digest_of_rows rows)) facts } ∷ []
+          body.GiveOrdered record {
+            s = s;
+            v = v;
+            rows = rows;
+            commits =
+                quorum_of g (commit_by v s (digest_of_rows rows)) facts;
+          } ∷ []
       | None ↦ []
     ]) []
     ≡ cond is_due (gift_words (option_map (whole_order g facts s) o)) []
@@ -25,4 +33,5 @@ by g facts s true None = refl
 by g facts s true (Some rows) = refl
 
 pub returns : goal.returns
-returns c = λ g me known facts said s. by g facts s (list_any (asks_for_order me s) known && not (list_any (orders_given s) said)) (ordered g facts s)
+returns c = λ g me known facts said s. by g facts s (list_any (asks_for_order me s) known
+    && not (list_any (orders_given s) said)) (ordered g facts s)

@@ -1,3 +1,4 @@
+-- A number beyond the last one does not count; else the greater of the two is the greatest.
 use Rattle.std.proofs.Common.{◌≡◌, max, sym, subst, arith, nat_eq}
 use Rattle.protocol_rules.specs.Group.{most_number}
 use Rattle.global_order.specs.Index.{RisesTo}
@@ -8,7 +9,8 @@ pub returns-then-s-le-MOST_NUMBER : goal.returns-then-s-le-MOST_NUMBER
 unfolding most_number
 returns-then-s-le-MOST_NUMBER c =
     let greater : c.max.result ≡ max c.args.highest c.args.s = grind (arith, c.max.ensures) in
-    subst (RisesTo (nat_eq c.args.s) c.args.highest) (sym greater) (rises-max c.args.s c.args.highest (omega (arith, c.if-s-le-MOST_NUMBER.true)))
+    subst (RisesTo (nat_eq c.args.s) c.args.highest) (sym greater)
+    (rises-max c.args.s c.args.highest (omega (arith, c.if-s-le-MOST_NUMBER.true)))
 
 pub returns-else-s-le-MOST_NUMBER : goal.returns-else-s-le-MOST_NUMBER
 unfolding most_number

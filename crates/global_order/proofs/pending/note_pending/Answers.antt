@@ -1,7 +1,9 @@
 use Rattle.std.proofs.Common.{arith}
 use Rattle.global_order.proofs.Touching.{noted-not}
 use Rattle.global_order.proofs.pending.note_pending.Goals as goal
-use Rattle.global_order.proofs.pending.note_pending.Goals.{then-v-pending-via-then-v-pending, then-v-pending-via-else-v-pending+then-s-eq0, then-v-pending-via-else-v-pending+else-s-eq0+then-s-pending}
+use Rattle.global_order.proofs.pending.note_pending.Goals.{then-v-pending-via-then-v-pending}
+use Rattle.global_order.proofs.pending.note_pending.Goals.{then-v-pending-via-else-v-pending+then-s-eq0}
+use Rattle.global_order.proofs.pending.note_pending.Goals.{then-v-pending-via-else-v-pending+else-s-eq0+then-s-pending}
 
 pub returns-then-v-pending : goal.returns-then-v-pending
 returns-then-v-pending c = noted-not c.args.v c.args.s c.args.pending.now (elim c.then-v-pending.branch [

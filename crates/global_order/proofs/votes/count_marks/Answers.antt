@@ -1,3 +1,5 @@
+-- One master after another, the count is that of the marks of the masters so far: one more exactly where a mark
+-- is held.
 use Rattle.std.proofs.Common.{◌≡◌, ℕ, cond, length, sym, ◌∙◌, ap, arith}
 use Rattle.global_order.specs.Index.{given, mark_at}
 use Rattle.global_order.proofs.Given.{given-none, given-count, at_most_one, bool_byte-cond}

@@ -1,10 +1,15 @@
+-- One master after another, the count is that of the votes of the masters so far: one more exactly where a vote
+-- is held.
 use Rattle.std.proofs.Common.{◌≡◌, ℕ, cond, length, sym, ◌∙◌, ap, arith}
 use Rattle.global_order.specs.Index.{given, vote_at}
 use Rattle.global_order.proofs.Given.{given-none, given-count, at_most_one, bool_byte-cond}
 use Rattle.global_order.proofs.votes.count_votes.Goals as goal
 
 pub loop-master-init : goal.loop-master-init
-loop-master-init c = (sym (ap length (given-none (vote_at c.args.votes.now c.args.v c.args.s c.args.digest))), omega arith)
+loop-master-init c = (
+  sym (ap length (given-none (vote_at c.args.votes.now c.args.v c.args.s c.args.digest))),
+  omega arith,
+)
 
 pub loop-master-preserved : goal.loop-master-preserved
 loop-master-preserved c =
@@ -17,4 +22,5 @@ loop-master-preserved c =
 pub returns : goal.returns
 returns c =
     let ended : c.loop-master.master ≡ c.args.n = omega arith in
-    c.loop-master.invariant.0 ∙ ap (λ k. length (given (vote_at c.args.votes.now c.args.v c.args.s c.args.digest) k)) ended
+    c.loop-master.invariant.0
+    ∙ ap (λ k. length (given (vote_at c.args.votes.now c.args.v c.args.s c.args.digest) k)) ended

@@ -1,5 +1,8 @@
+-- One step down signs the child's key, which goes to the end of the front, and makes the child the lowest tree:
+-- the definitions of front and lowest tree take the same step. Fewer heights are left each time.
 use Rattle.std.proofs.Common.{◌≡◌, ◌∷◌, ap, arith, length}
-use Rattle.hash_signatures.proofs.Descending.{rest_total, rest_heights, first_height, next_height, lowest_is, front_is, lowest_ok, front_ok}
+use Rattle.hash_signatures.proofs.Descending.{rest_total, rest_heights, first_height, next_height, lowest_is}
+use Rattle.hash_signatures.proofs.Descending.{front_is, lowest_ok, front_ok}
 use Rattle.hash_signatures.proofs.descent.+descend.Goals as goal
 
 pub descend-requires : goal.descend-requires
@@ -19,7 +22,8 @@ pub returns-in_ok-next-in-Some-clause-lowest : goal.returns-in_ok-next-in-Some-c
 returns-in_ok-next-in-Some-clause-lowest t c =
     let cons : c.args.lower.now ≡ c.in-Some.height.now ∷ c.in-Some.rest.now = c.in-Some.ensures.cases.0 in
     lowest_ok c.descend.result _ _
-    (lowest_is c.args.way.lowest c.in_ok-next-in-Some.next.lowest _ _ _ c.args.m _ _ cons c.height.ensures c.leaf_of-q.ensures.leaf
+    (lowest_is c.args.way.lowest c.in_ok-next-in-Some.next.lowest _ _ _ c.args.m _ _ cons c.height.ensures
+    c.leaf_of-q.ensures.leaf
     c.in_ok-next-in-Some.ensures.lowest)
     c.descend.ensures.lowest
 
@@ -27,6 +31,8 @@ pub returns-in_ok-next-in-Some-clause-front : goal.returns-in_ok-next-in-Some-cl
 returns-in_ok-next-in-Some-clause-front t c =
     let cons : c.args.lower.now ≡ c.in-Some.height.now ∷ c.in-Some.rest.now = c.in-Some.ensures.cases.0 in
     front_ok c.descend.result _ _
-    (front_is c.args.way.lowest c.in_ok-next-in-Some.next.lowest _ _ _ c.args.m _ _ c.in_ok-next-in-Some.next.front.items c.args.way.front.items
-    cons c.height.ensures c.leaf_of-q.ensures.leaf c.in_ok-next-in-Some.ensures.lowest c.in_ok-next-in-Some.ensures.front)
+    (front_is c.args.way.lowest c.in_ok-next-in-Some.next.lowest _ _ _ c.args.m _ _
+    c.in_ok-next-in-Some.next.front.items c.args.way.front.items
+    cons c.height.ensures c.leaf_of-q.ensures.leaf c.in_ok-next-in-Some.ensures.lowest
+    c.in_ok-next-in-Some.ensures.front)
     c.descend.ensures.front

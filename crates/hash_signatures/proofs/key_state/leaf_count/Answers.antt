@@ -1,3 +1,5 @@
+-- The heights of all levels add up to 60 at most, so that the shift stays within 64 bits and is the power of
+-- two that the definition has.
 use Rattle.std.proofs.Common.{arith}
 use Rattle.hash_signatures.proofs.KeyLaws.{total_le_sixty, leaves_fit}
 use Rattle.hash_signatures.proofs.key_state.leaf_count.Goals as goal

@@ -1,3 +1,5 @@
+-- The copied heights, the public key of the top tree and the first path are those of the seed, identifier and
+-- heights given: so what a key state keeps true holds from the start.
 use Rattle.std.proofs.Common.{◌≡◌, ◌≤◌, ◌∙◌, ◌^◌, ap, sym, refl, subst, List, ℕ, length}
 use Rattle.hash_signatures.specs.Signatures.{total, key_public}
 use Rattle.hash_signatures.specs.State.{key_from, IsLevelCount, HasMadeHeights}
@@ -19,5 +21,6 @@ invariant_of-result c =
       id = c.told-id;
       within = subst (λ (l : List ℕ). c.args.used ≤ 2 ^ total l) back c.requires.used;
       public_key = public ∙ ap (λ (l : List ℕ). key_public (key_from c.args.seed.now c.args.id.now l c.args.ots)) back;
-      path = subst (λ (l : List ℕ). IsKeptPath (key_from c.args.seed.now c.args.id.now l c.args.ots) c.in_ok-path.path) back c.in_ok-path.ensures;
+      path = subst (λ (l : List ℕ). IsKeptPath (key_from c.args.seed.now c.args.id.now l c.args.ots)
+          c.in_ok-path.path) back c.in_ok-path.ensures;
     }

@@ -1,3 +1,5 @@
+-- A kept path that leads to the number's tree is right for the number too, since ways to two numbers of one
+-- lowest tree are the same; else a way is made anew.
 use Rattle.std.proofs.Common.{subst, sym, refl}
 use Rattle.hash_signatures.specs.declared.descent.Way.{Way}
 use Rattle.hash_signatures.specs.State.{key_from}

@@ -1,4 +1,4 @@
 use Rattle.hash_signatures.proofs.verification.+leads_through.Given as goal
 
 abbrev pub decreases-leads_through : goal.decreases-leads_through
-decreases-leads_through l = l.n
+decreases-leads_through g l = l.n

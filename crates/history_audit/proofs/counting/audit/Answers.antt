@@ -1,3 +1,5 @@
+-- The entries at hand stand for those of the history, one for one: so the counts over them are the counts of
+-- the history.
 use Rattle.std.proofs.Common.{◌≡◌, List, length, subst, ap, ◌∙◌, arith}
 use Rattle.std.proofs.lemmas.List.{length-map}
 use Rattle.std.specs.Result.{IfOk}
@@ -18,8 +20,12 @@ audit_entries-requires-clause-spelled c = ap are_spelled c.entries.ensures ∙ c
 
 pub returns-clause-forged : goal.returns-clause-forged
 returns-clause-forged c =
-    subst (λ (es : List Entry). IfOk c.audit_entries.result (λ counts. counts.forged ≡ forged (setup_of (contents c.args.scenario.now)) es)) c.entries.ensures c.audit_entries.ensures.forged
+    subst (λ (es : List Entry). IfOk c.audit_entries.result
+    (λ counts. counts.forged ≡ forged (setup_of (contents c.args.scenario.now)) es))
+    c.entries.ensures c.audit_entries.ensures.forged
 
 pub returns-clause-alike : goal.returns-clause-alike
 returns-clause-alike c =
-    subst (λ (es : List Entry). IfOk c.audit_entries.result (λ counts. counts.alike ≡ alike (group_in (contents c.args.scenario.now)) es)) c.entries.ensures c.audit_entries.ensures.alike
+    subst (λ (es : List Entry). IfOk c.audit_entries.result
+    (λ counts. counts.alike ≡ alike (group_in (contents c.args.scenario.now)) es))
+    c.entries.ensures c.audit_entries.ensures.alike

@@ -1,3 +1,5 @@
+-- Forged parts counted so far and those of the entries to come make the whole count, words and texts kept are
+-- those of the entries gone over, and the count stays below 3347 an entry.
 use Rattle.std.proofs.Common.{◌≡◌, ◌≤◌, ◌+◌, ◌*◌, map, take, drop}
 use Rattle.protocol_rules.specs.Group.{Group}
 use Rattle.history_rules.specs.Setup.{Setup}
@@ -13,6 +15,8 @@ abbrev pub invariant-loop-entry : goal.invariant-loop-entry
 invariant-loop-entry l =
     (l.forged ≤ 3347 * l.entry-index)
     × ((w : Setup) → HasMasters l.scenario.sizes.n l.scenario.intruded w
-    → l.forged + forged_from w (take l.entry-index (map entry_of l.entries)) (drop l.entry-index (map entry_of l.entries)) ≡ forged w (map entry_of l.entries))
+    → l.forged + forged_from w (take l.entry-index (map entry_of l.entries))
+    (drop l.entry-index (map entry_of l.entries)) ≡ forged w (map entry_of l.entries))
     × HasWords (words_said (take l.entry-index (map entry_of l.entries))) l.said
-    × ((g : Group) → l.scenario.sizes.n ≡ g.n → AreTexts (history_texts g (take l.entry-index (map entry_of l.entries))) l.texts)
+    × ((g : Group) → l.scenario.sizes.n ≡ g.n →
+    AreTexts (history_texts g (take l.entry-index (map entry_of l.entries))) l.texts)

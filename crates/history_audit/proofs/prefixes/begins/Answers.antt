@@ -1,3 +1,5 @@
+-- A list begins another where it is the same, update by update, as the front of its own length; a list longer
+-- than the whole has no such front and begins it never.
 use Rattle.std.proofs.Common.{ap, ◌∙◌, arith}
 use Rattle.std.specs.Cmp.Lexicographic.{pointwise}
 use Rattle.history_rules.specs.Sameness.{is_same_update}

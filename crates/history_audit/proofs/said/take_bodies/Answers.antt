@@ -8,4 +8,5 @@ pub returns-in-Some-clause-bodies : goal.returns-in-Some-clause-bodies
 returns-in-Some-clause-bodies c = ap lent c.in-Some.ensures.value
 
 pub returns-in-None-clause-bodies : goal.returns-in-None-clause-bodies
-returns-in-None-clause-bodies c = ap (map (λ (b : Bor Body). b.now)) c.new.ensures.items ∙ ap lent c.in-None.ensures.value
+returns-in-None-clause-bodies c = ap (map (λ (b : Bor Body). b.now)) c.new.ensures.items
+    ∙ ap lent c.in-None.ensures.value

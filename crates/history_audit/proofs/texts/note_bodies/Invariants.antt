@@ -6,4 +6,5 @@ use Rattle.history_audit.specs.Texts.{AreTexts}
 use Rattle.history_audit.proofs.texts.note_bodies.Given as goal
 
 abbrev pub invariant-loop-body : goal.invariant-loop-body
-invariant-loop-body l = (g : Group) → l.sizes.n ≡ g.n → (given : List (List ℕ)) → AreTexts given l.fn.kept → AreTexts (given ++ flat_map (texts_of g) (take l.body-index l.bodies)) l.kept
+invariant-loop-body l = (g : Group) → l.sizes.n ≡ g.n → (given : List (List ℕ)) → AreTexts given l.fn.kept →
+    AreTexts (given ++ flat_map (texts_of g) (take l.body-index l.bodies)) l.kept

@@ -5,4 +5,5 @@ use Rattle.history_audit.specs.Texts.{AreTexts}
 use Rattle.history_audit.proofs.texts.note_certificates.Given as goal
 
 abbrev pub invariant-loop-certificate : goal.invariant-loop-certificate
-invariant-loop-certificate l = (given : List (List ℕ)) → AreTexts given l.fn.kept → AreTexts (given ++ map (λ (d : Certificate). rows_text d.rows) (take l.certificate-index l.certificates)) l.kept
+invariant-loop-certificate l = (given : List (List ℕ)) → AreTexts given l.fn.kept →
+    AreTexts (given ++ map (λ (d : Certificate). rows_text d.rows) (take l.certificate-index l.certificates)) l.kept

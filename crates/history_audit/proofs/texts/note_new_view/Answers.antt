@@ -1,3 +1,5 @@
+-- The certificates in a spelled new view are spelled, so that its plan can be made; and the texts noted are
+-- those of the plan's rows.
 use Rattle.std.proofs.Common.{ℕ, List, ◌++◌, map, subst, ap, ◌∙◌}
 use Rattle.message_types.specs.declared.views.Plan.{Plan}
 use Rattle.message_types.specs.Texts.{rows_text}

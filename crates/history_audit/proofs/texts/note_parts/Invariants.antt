@@ -8,4 +8,5 @@ use Rattle.history_audit.specs.Texts.{AreTexts}
 use Rattle.history_audit.proofs.texts.note_parts.Given as goal
 
 abbrev pub invariant-loop-part : goal.invariant-loop-part
-invariant-loop-part l = (g : Group) → l.sizes.n ≡ g.n → (given : List (List ℕ)) → AreTexts given l.fn.kept → AreTexts (given ++ flat_map (λ (p : Signed Body). texts_of g p.body) (take l.part-index l.parts)) l.kept
+invariant-loop-part l = (g : Group) → l.sizes.n ≡ g.n → (given : List (List ℕ)) → AreTexts given l.fn.kept →
+    AreTexts (given ++ flat_map (λ (p : Signed Body). texts_of g p.body) (take l.part-index l.parts)) l.kept

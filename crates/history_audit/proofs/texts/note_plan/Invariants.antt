@@ -4,4 +4,5 @@ use Rattle.history_audit.specs.Texts.{AreTexts}
 use Rattle.history_audit.proofs.texts.note_plan.Given as goal
 
 abbrev pub invariant-loop-rows : goal.invariant-loop-rows
-invariant-loop-rows l = (given : List (List ℕ)) → AreTexts given l.fn.kept → AreTexts (given ++ map rows_text (take l.rows-index l.lists)) l.kept
+invariant-loop-rows l = (given : List (List ℕ)) → AreTexts given l.fn.kept →
+    AreTexts (given ++ map rows_text (take l.rows-index l.lists)) l.kept

@@ -9,4 +9,5 @@ use Rattle.history_audit.proofs.texts.note_proposal.Goals as goal
 pub returns : goal.returns
 returns c = λ g n given are.
     subst (λ (rows : List (List ℕ)). AreTexts (given ++ rows_text rows ∷ []) c.note_rows.new.kept)
-    (c.in_ok-rows.ensures g n ∙ ap (λ (fs : List (Signed PoSummary)). rows_of_frames g fs) c.as_slice.ensures) (c.in_ok-note_rows.ensures given are)
+    (c.in_ok-rows.ensures g n ∙ ap (λ (fs : List (Signed PoSummary)). rows_of_frames g fs) c.as_slice.ensures)
+    (c.in_ok-note_rows.ensures given are)

@@ -9,6 +9,7 @@ use Rattle.history_tests.proofs.common.is_later.Goals as goal
 
 pub returns : goal.returns
 returns c =
-    all_from_yields_List (λ (e : Entry). nat_lt e.stamp c.args.stamp) _ _ _ c.all.ensures.ran (YieldsList-from_slice c.args.list.now cc)
+    all_from_yields_List (λ (e : Entry). nat_lt e.stamp c.args.stamp) _ _ _ c.all.ensures.ran
+    (YieldsList-from_slice c.args.list.now cc)
     (λ x b q k. search (rules, tests))
     ∙ sym (list_all-map (λ (e : rules_of.Entry). nat_lt e.stamp c.args.stamp) entry_of c.args.list.now)

@@ -10,9 +10,11 @@ returns-clause-running c is = sym (c.halted.ensures c.requires) ∙ c.if-halted.
 
 pub returns-clause-fits : goal.returns-clause-fits
 returns-clause-fits c is =
-    subst (λ (b : BenchState). (setup_in b).fits b.actor (event_of c.args.event.now) ≡ true) c.bench-bench.ensures.bench (sym c.fits.ensures ∙ c.if-not-fits.false)
+    subst (λ (b : BenchState). (setup_in b).fits b.actor (event_of c.args.event.now) ≡ true)
+    c.bench-bench.ensures.bench (sym c.fits.ensures ∙ c.if-not-fits.false)
 
 pub returns-clause-later : goal.returns-clause-later
 returns-clause-later c is =
-    ap (list_all (λ (e : Entry). nat_lt e.stamp c.args.stamp)) (sym (c.list-list.ensures ∙ ap (λ (b : BenchState). b.list) c.bench-bench.ensures.bench))
+    ap (list_all (λ (e : Entry). nat_lt e.stamp c.args.stamp))
+    (sym (c.list-list.ensures ∙ ap (λ (b : BenchState). b.list) c.bench-bench.ensures.bench))
     ∙ sym c.is_later.ensures ∙ c.if-not-is_later.false

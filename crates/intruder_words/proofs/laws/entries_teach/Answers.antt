@@ -1,3 +1,5 @@
+-- What was overheard is the parts of each entry's taken or cried frame in turn: so one entry more adds its own
+-- at the end, by kinds of event, and one that neither takes nor cries adds nothing.
 use Rattle.intruder_words.proofs.Learning.{more, took, cried-own, others}
 use Rattle.intruder_words.proofs.laws.entries_teach.Goals as goal
 

@@ -6,4 +6,5 @@ use Rattle.intruder_words.specs.Marking.{mark_of}
 use Rattle.intruder_words.proofs.marks.first_marks.Given as goal
 
 abbrev pub invariant-loop-master : goal.invariant-loop-master
-invariant-loop-master l = l.marks.items ≡ filter_map (λ m. first_of_list (filter_map (mark_of l.s m) l.known)) (numbers_below l.master)
+invariant-loop-master l = l.marks.items ≡ filter_map (λ m. first_of_list (filter_map (mark_of l.s m) l.known))
+    (numbers_below l.master)

@@ -6,4 +6,5 @@ use Rattle.intruder_words.specs.Marking.{shown_by}
 use Rattle.intruder_words.proofs.marks.greatest_marked.Given as goal
 
 abbrev pub invariant-loop-mark : goal.invariant-loop-mark
-invariant-loop-mark l = l.greatest ≡ greatest_of (filter_map (shown_by (group_of l.sizes 0) l.marks) (take l.mark-index l.marks))
+invariant-loop-mark l = l.greatest ≡ greatest_of
+    (filter_map (shown_by (group_of l.sizes 0) l.marks) (take l.mark-index l.marks))

@@ -5,4 +5,5 @@ use Rattle.intruder_words.specs.Marking.{is_marked_by}
 use Rattle.intruder_words.proofs.marks.is_marked.Given as goal
 
 abbrev pub invariant-loop-master : goal.invariant-loop-master
-invariant-loop-master l = (l.count ≡ length (voters (λ m. list_any (is_marked_by l.s m) l.marks) l.master)) × (l.count ≤ l.master)
+invariant-loop-master l = (l.count ≡ length (voters (λ m. list_any (is_marked_by l.s m) l.marks) l.master))
+    × (l.count ≤ l.master)

@@ -7,4 +7,6 @@ use Rattle.intruder_words.proofs.MarksKnown.{stable-is}
 use Rattle.intruder_words.proofs.marks.stable.Goals as goal
 
 pub returns : goal.returns
-returns c = c.greatest_marked.ensures ∙ ap (λ ms. greatest_of (filter_map (shown_by (group_of c.args.sizes.now 0) ms) ms)) (c.deref.ensures.value ∙ c.in_ok-marks.ensures) ∙ sym (stable-is (group_of c.args.sizes.now 0) c.args.known.now)
+returns c = c.greatest_marked.ensures
+    ∙ ap (λ ms. greatest_of (filter_map (shown_by (group_of c.args.sizes.now 0) ms) ms))
+    (c.deref.ensures.value ∙ c.in_ok-marks.ensures) ∙ sym (stable-is (group_of c.args.sizes.now 0) c.args.known.now)

@@ -9,4 +9,6 @@ same_truth false true to from = from refl
 same_truth false false to from = refl
 
 pub returns : goal.returns
-returns c = same_truth c.is_same.result (is_same_body c.args.a.now c.args.b.now) (λ t. (body_test c.args.a.now c.args.b.now).1 (c.is_same.ensures.0 t)) (λ t. c.is_same.ensures.1 ((body_test c.args.a.now c.args.b.now).0 t))
+returns c = same_truth c.is_same.result (is_same_body c.args.a.now c.args.b.now)
+    (λ t. (body_test c.args.a.now c.args.b.now).1 (c.is_same.ensures.0 t))
+    (λ t. c.is_same.ensures.1 ((body_test c.args.a.now c.args.b.now).0 t))

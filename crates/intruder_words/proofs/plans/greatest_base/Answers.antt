@@ -6,7 +6,10 @@ use Rattle.intruder_words.proofs.Shortening.{bases-are}
 use Rattle.intruder_words.proofs.plans.greatest_base.Goals as goal
 
 pub loop-report-preserved : goal.loop-report-preserved
-loop-report-preserved c = greatest-more (λ (r : Signed Report). r.body.base) c.args.reports.now c.loop-report.report-index c.report-item.result c.loop-report.base 0 c.max-base.result c.loop-report-test.true c.report-item.is c.loop-report.invariant c.max-base.ensures
+loop-report-preserved c = greatest-more (λ (r : Signed Report). r.body.base)
+    c.args.reports.now c.loop-report.report-index c.report-item.result c.loop-report.base 0 c.max-base.result
+    c.loop-report-test.true c.report-item.is c.loop-report.invariant c.max-base.ensures
 
 pub returns : goal.returns
-returns c = bases-are c.args.reports.now c.loop-report.report-index c.loop-report.base (omega arith) c.loop-report.invariant
+returns c = bases-are c.args.reports.now c.loop-report.report-index c.loop-report.base
+    (omega arith) c.loop-report.invariant

@@ -1,3 +1,5 @@
+-- The rows so far answer for each number up to the one reached, which is the base or has a certificate. Where
+-- no greater number has one, all were gone over.
 use Rattle.std.proofs.Common.{◌≤◌, ◌+◌, map, ◌∙◌, ap, arith, refl, inl, inr}
 use Rattle.std.specs.List.{list_all, find}
 use Rattle.message_types.specs.Digests.{digest_of_rows}
@@ -10,7 +12,8 @@ use Rattle.intruder_words.proofs.plans.rows_after.Goals as goal
 
 pub loop-next-init : goal.loop-next-init
 loop-next-init c = record {
-  same = λ test. ap (find (λ rows. test (digest_of_rows rows))) c.new-rows.ensures.items ∙ rows-start (rows_for (group_of c.args.sizes.now 0) c.args.all.now) c.args.base test;
+  same = λ test. ap (find (λ rows. test (digest_of_rows rows))) c.new-rows.ensures.items
+      ∙ rows-start (rows_for (group_of c.args.sizes.now 0) c.args.all.now) c.args.base test;
   fit = ap (list_all rows_fit) c.new-rows.ensures.items;
   low = omega arith;
   reached = inl refl;
@@ -25,8 +28,11 @@ loop-next-preserved c =
     let low : c.args.base ≤ c.in-Some.next = omega (arith, c.loop-next.invariant.low, above) in
     record {
       same = λ test. ap (find (λ rows. test (digest_of_rows rows))) c.in_ok-append.ensures.items
-          ∙ rows-further (rows_for (group_of c.args.sizes.now 0) c.args.all.now) c.args.base c.loop-next.at c.in-Some.next c.loop-next.rows.items c.in_ok-more.more.items c.loop-next.invariant.low above c.loop-next.invariant.same c.in_ok-more.ensures.same test;
-      fit = fits-more c.loop-next.rows.items c.in_ok-more.more.items c.append.new.self.items c.loop-next.invariant.fit c.in_ok-more.ensures.fit c.in_ok-append.ensures.items;
+          ∙ rows-further (rows_for (group_of c.args.sizes.now 0) c.args.all.now) c.args.base c.loop-next.at
+          c.in-Some.next c.loop-next.rows.items c.in_ok-more.more.items c.loop-next.invariant.low above
+          c.loop-next.invariant.same c.in_ok-more.ensures.same test;
+      fit = fits-more c.loop-next.rows.items c.in_ok-more.more.items c.append.new.self.items c.loop-next.invariant.fit
+          c.in_ok-more.ensures.fit c.in_ok-append.ensures.items;
       low = low;
       reached = inr c.in-Some.ensures.1;
     }
@@ -36,5 +42,8 @@ loop-next-smaller c = fewer-left c.args.all.now c.loop-next.at c.in-Some.next c.
 
 pub returns-clause-same : goal.returns-clause-same
 returns-clause-same c = λ test.
-    c.loop-next.invariant.same test ∙ ap (λ n. find (λ rows. test (digest_of_rows rows)) (map (rows_for (group_of c.args.sizes.now 0) c.args.all.now) (numbers_from (c.args.base + 1) n)))
-    (all-passed c.args.all.now c.args.base c.loop-next.at c.loop-next.invariant.low c.loop-next.invariant.reached c.in_default.ensures)
+    c.loop-next.invariant.same test
+    ∙ ap (λ n. find (λ rows. test (digest_of_rows rows))
+    (map (rows_for (group_of c.args.sizes.now 0) c.args.all.now) (numbers_from (c.args.base + 1) n)))
+    (all-passed c.args.all.now c.args.base c.loop-next.at c.loop-next.invariant.low c.loop-next.invariant.reached
+    c.in_default.ensures)

@@ -1,3 +1,5 @@
+-- The rows so far, searched by any digest, answer for each number above the base up to the one reached. That
+-- number rises towards the last that has a certificate, which ends the loop.
 use Rattle.std.proofs.Common.{◌+◌, ◌-◌, ◌≤◌, [], ◌∷◌, IsTrue, map}
 use Rattle.std.specs.List.{list_all}
 use Rattle.message_types.specs.Spelling.{rows_fit}
@@ -8,10 +10,10 @@ use Rattle.intruder_words.specs.Telling.{HasSameRows, report_on, rows_for}
 use Rattle.intruder_words.proofs.Shortening.{IsReached}
 use Rattle.intruder_words.proofs.plans.rows_after.Given as goal
 
--- all numbers up to one were gone over
 abbrev pub invariant-loop-next : goal.invariant-loop-next
 invariant-loop-next l = record {
-  same : HasSameRows l.rows.items (map (rows_for (group_of l.sizes 0) l.all) (numbers_from (l.base + 1) (l.at - l.base)));
+  same : HasSameRows l.rows.items
+      (map (rows_for (group_of l.sizes 0) l.all) (numbers_from (l.base + 1) (l.at - l.base)));
   fit : IsTrue (list_all rows_fit l.rows.items);
   low : l.base ≤ l.at;
   reached : IsReached l.all l.base l.at;

@@ -1,3 +1,5 @@
+-- No frame before the one looked at is such an acknowledgement: so the first that is one answers, and where the
+-- search ends there is none.
 use Rattle.std.proofs.Common.{◌∙◌, ap, sym, arith}
 use Rattle.std.specs.List.{filter_map}
 use Rattle.std.proofs.lemmas.List.{take_all}
@@ -7,10 +9,15 @@ use Rattle.intruder_words.proofs.Voting.{votes-none, vote-found}
 use Rattle.intruder_words.proofs.requests.first_ack.Goals as goal
 
 pub returns-in-Some : goal.returns-in-Some
-returns-in-Some c = sym (vote-found (ack_of c.args.j c.args.k c.args.digest c.args.master) c.args.known.now c.loop-frame.frame-index c.frame-item.result _ c.loop-frame-test.true c.frame-item.is c.loop-frame.invariant (sym c.in_ok-ack.ensures ∙ c.in-Some.is))
+returns-in-Some c = sym (vote-found (ack_of c.args.j c.args.k c.args.digest c.args.master)
+    c.args.known.now c.loop-frame.frame-index c.frame-item.result _ c.loop-frame-test.true c.frame-item.is
+    c.loop-frame.invariant (sym c.in_ok-ack.ensures ∙ c.in-Some.is))
 
 pub loop-frame-preserved : goal.loop-frame-preserved
-loop-frame-preserved c = votes-none (ack_of c.args.j c.args.k c.args.digest c.args.master) c.args.known.now c.loop-frame.frame-index c.frame-item.result c.loop-frame-test.true c.frame-item.is c.loop-frame.invariant (sym c.in_ok-ack.ensures ∙ c.in_default.is)
+loop-frame-preserved c = votes-none (ack_of c.args.j c.args.k c.args.digest c.args.master)
+    c.args.known.now c.loop-frame.frame-index c.frame-item.result c.loop-frame-test.true c.frame-item.is
+    c.loop-frame.invariant (sym c.in_ok-ack.ensures ∙ c.in_default.is)
 
 pub returns : goal.returns
-returns c = sym (ap first_of_list (ap (filter_map (ack_of c.args.j c.args.k c.args.digest c.args.master)) (sym (take_all c.loop-frame.frame-index c.args.known.now (omega arith))) ∙ c.loop-frame.invariant))
+returns c = sym (ap first_of_list (ap (filter_map (ack_of c.args.j c.args.k c.args.digest c.args.master))
+    (sym (take_all c.loop-frame.frame-index c.args.known.now (omega arith))) ∙ c.loop-frame.invariant))

@@ -1,16 +1,24 @@
+-- No frame before the one looked at is such a request: so the first that is one answers, and where the search
+-- ends there is none.
 use Rattle.std.proofs.Common.{◌∙◌, ap, sym, arith}
 use Rattle.std.specs.List.{filter_map}
 use Rattle.std.proofs.lemmas.List.{take_all}
 use Rattle.protocol_rules.specs.Words.{first_of_list}
-use Rattle.gifts.specs.Kept.{request_with}
+use Rattle.reconcile.specs.GiftState.{request_with}
 use Rattle.intruder_words.proofs.Voting.{votes-none, vote-found}
 use Rattle.intruder_words.proofs.requests.first_request.Goals as goal
 
 pub returns-in-Some : goal.returns-in-Some
-returns-in-Some c = sym (vote-found (request_with c.args.j c.args.k c.args.digest) c.args.known.now c.loop-frame.frame-index c.frame-item.result _ c.loop-frame-test.true c.frame-item.is c.loop-frame.invariant (sym c.in_ok-request.ensures ∙ c.in-Some.is))
+returns-in-Some c = sym (vote-found (request_with c.args.j c.args.k c.args.digest)
+    c.args.known.now c.loop-frame.frame-index c.frame-item.result _ c.loop-frame-test.true c.frame-item.is
+    c.loop-frame.invariant (sym c.in_ok-request.ensures ∙ c.in-Some.is))
 
 pub loop-frame-preserved : goal.loop-frame-preserved
-loop-frame-preserved c = votes-none (request_with c.args.j c.args.k c.args.digest) c.args.known.now c.loop-frame.frame-index c.frame-item.result c.loop-frame-test.true c.frame-item.is c.loop-frame.invariant (sym c.in_ok-request.ensures ∙ c.in_default.is)
+loop-frame-preserved c = votes-none (request_with c.args.j c.args.k c.args.digest)
+    c.args.known.now c.loop-frame.frame-index c.frame-item.result c.loop-frame-test.true c.frame-item.is
+    c.loop-frame.invariant (sym c.in_ok-request.ensures ∙ c.in_default.is)
 
 pub returns : goal.returns
-returns c = sym (ap first_of_list (ap (filter_map (request_with c.args.j c.args.k c.args.digest)) (sym (take_all c.loop-frame.frame-index c.args.known.now (omega arith))) ∙ c.loop-frame.invariant))
+returns c = sym (ap first_of_list
+    (ap (filter_map (request_with c.args.j c.args.k c.args.digest))
+    (sym (take_all c.loop-frame.frame-index c.args.known.now (omega arith))) ∙ c.loop-frame.invariant))

@@ -1,6 +1,6 @@
 use Rattle.std.proofs.Common.{◌≡◌, [], take}
 use Rattle.std.specs.List.{filter_map}
-use Rattle.gifts.specs.Kept.{request_with}
+use Rattle.reconcile.specs.GiftState.{request_with}
 use Rattle.intruder_words.proofs.requests.first_request.Given as goal
 
 abbrev pub invariant-loop-frame : goal.invariant-loop-frame

@@ -1,24 +1,34 @@
+-- The acknowledgements so far are the first ones of the masters below, by rising master; cut to q they are the
+-- lowest masters'.
 use Rattle.std.proofs.Common.{◌≡◌, ◌++◌, take, sym, ◌∙◌, ap, arith}
 use Rattle.std.specs.List.{filter_map}
 use Rattle.std.specs.Option.{option_to_list}
 use Rattle.quorum_sets.specs.Masters.{numbers_below}
 use Rattle.protocol_rules.specs.Words.{first_of_list}
 use Rattle.protocol_rules.specs.Reconcile.{ack_of}
-use Rattle.intruder_words.proofs.Voting.{below-none, below-next}
+use Rattle.quorum_sets.proofs.Numbered.{filter_map_more, filter_map_start}
 use Rattle.intruder_words.proofs.requests.quorum_of_acks.Goals as goal
 
 pub loop-master-init : goal.loop-master-init
-loop-master-init c = c.new-acks.ensures.items ∙ sym (below-none (λ m. first_of_list (filter_map (ack_of c.args.j c.args.k c.args.digest m) c.args.known.now)))
+loop-master-init c = c.new-acks.ensures.items
+    ∙ sym (filter_map_start (λ m. first_of_list
+    (filter_map (ack_of c.args.j c.args.k c.args.digest m) c.args.known.now)))
 
 pub loop-master-preserved : goal.loop-master-preserved
 loop-master-preserved c =
-    c.in_ok-push_ack.ensures
+    c.in_ok-extend_option.ensures.ok
     ∙ ap (λ o. c.loop-master.acks.items ++ option_to_list o) c.in_ok-ack.ensures
-    ∙ ap (λ xs. xs ++ option_to_list (first_of_list (filter_map (ack_of c.args.j c.args.k c.args.digest c.loop-master.master) c.args.known.now))) c.loop-master.invariant
-    ∙ sym (below-next (λ m. first_of_list (filter_map (ack_of c.args.j c.args.k c.args.digest m) c.args.known.now)) c.loop-master.master)
+    ∙ ap (λ xs. xs ++ option_to_list
+    (first_of_list (filter_map (ack_of c.args.j c.args.k c.args.digest c.loop-master.master) c.args.known.now)))
+    c.loop-master.invariant
+    ∙ sym (filter_map_more (λ m. first_of_list
+    (filter_map (ack_of c.args.j c.args.k c.args.digest m) c.args.known.now)) c.loop-master.master)
 
 pub returns : goal.returns
 returns c =
     let ended : c.loop-master.master ≡ c.args.sizes.now.n = omega arith in
     c.from_vec.ensures ∙ c.truncate.ensures.items
-    ∙ ap (take c.args.sizes.now.q) (c.loop-master.invariant ∙ ap (λ n. filter_map (λ m. first_of_list (filter_map (ack_of c.args.j c.args.k c.args.digest m) c.args.known.now)) (numbers_below n)) ended)
+    ∙ ap (take c.args.sizes.now.q)
+    (c.loop-master.invariant ∙ ap
+    (λ n. filter_map (λ m. first_of_list (filter_map (ack_of c.args.j c.args.k c.args.digest m) c.args.known.now))
+    (numbers_below n)) ended)

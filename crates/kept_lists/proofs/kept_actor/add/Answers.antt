@@ -1,6 +1,6 @@
 use Rattle.std.proofs.Common.{false, subst}
 use Rattle.std.specs.Prelude.{Option}
-use Rattle.outside.specs.Kept.{Binder}
+use Rattle.outside.specs.Keepers.{Binder}
 use Rattle.world_entries.specs.Entries.{event_of}
 use Rattle.kept_lists.specs.State.{Keeps}
 use Rattle.kept_lists.proofs.Together.{none_frames}
@@ -9,4 +9,5 @@ use Rattle.kept_lists.proofs.kept_actor.add.Goals as goal
 pub returns-in_default-clause-frames : goal.returns-in_default-clause-frames
 returns-in_default-clause-frames c =
     none_frames c.args.bench.now c.args.stamp (event_of c.args.event) c.in_ok-frames.frames.items
-    (subst (λ (k : Option Binder). Keeps c.args.bench.now k false) c.in_default.is c.requires.keeps) c.requires.fits c.in_ok-frames.ensures.frames
+    (subst (λ (k : Option Binder). Keeps c.args.bench.now k false) c.in_default.is c.requires.keeps)
+    c.requires.fits c.in_ok-frames.ensures.frames

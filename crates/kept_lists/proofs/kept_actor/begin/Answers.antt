@@ -1,13 +1,16 @@
+-- A scenario lists failing keeper calls for each actor: so a correct master or a client begins with a keeper of
+-- its own list, and an intruded master with none.
 use Rattle.std.proofs.Common.{◌≡◌, ◌<◌, ◌&&◌, false, ℕ, List, nat_lt, sym, ◌∙◌, ap, arith}
 use Rattle.std.specs.Prelude.{Some}
 use Rattle.std.specs.Option.{option_copied}
-use Rattle.outside.specs.Kept.{Binder}
+use Rattle.outside.specs.Keepers.{Binder}
 use Rattle.quorum_sets.specs.Masters.{has_master}
 use Rattle.scenario_file.specs.Reading.{contents}
 use Rattle.world_rules.specs.Scenarios.{masters_in}
 use Rattle.kept_lists.proofs.Beginning.{begins_with_none, begins_with_some, not_intruded, no_master, is_listed}
 use Rattle.kept_lists.proofs.kept_actor.begin.Goals as goal
-use Rattle.kept_lists.proofs.kept_actor.begin.Goals.{else-actor-scenario-via-then-actor-scenario+else-has, else-actor-scenario-via-else-actor-scenario}
+use Rattle.kept_lists.proofs.kept_actor.begin.Goals.{else-actor-scenario-via-then-actor-scenario+else-has}
+use Rattle.kept_lists.proofs.kept_actor.begin.Goals.{else-actor-scenario-via-else-actor-scenario}
 
 pub returns-then-has : goal.returns-then-has
 returns-then-has c =
@@ -17,15 +20,19 @@ returns-then-has c =
 
 pub unreachable-requires : goal.unreachable-requires
 unreachable-requires c =
-    is_listed (contents c.args.scenario.now) c.args.actor c.requires.valid c.requires.there (sym (ap option_copied c.in_default.is) ∙ c.get.ensures)
+    is_listed (contents c.args.scenario.now) c.args.actor c.requires.valid c.requires.there
+    (sym (ap option_copied c.in_default.is) ∙ c.get.ensures)
 
 pub returns : goal.returns
 returns c =
     let all = c.args.scenario.now.sizes.all in
-    let other : (nat_lt c.args.actor (masters_in (contents c.args.scenario.now)) && has_master (contents c.args.scenario.now).settings.intruded c.args.actor) ≡ false =
+    let other : (nat_lt c.args.actor (masters_in (contents c.args.scenario.now))
+    && has_master (contents c.args.scenario.now).settings.intruded c.args.actor) ≡ false =
     elim c.else-actor-scenario.branch [
-      | else-actor-scenario-via-then-actor-scenario+else-has w ↦ not_intruded (contents c.args.scenario.now) c.args.actor (sym w.has.ensures ∙ w.if-has.false)
-      | else-actor-scenario-via-else-actor-scenario w ↦ no_master (contents c.args.scenario.now) c.args.actor (omega arith)
+      | else-actor-scenario-via-then-actor-scenario+else-has w ↦ not_intruded (contents c.args.scenario.now)
+          c.args.actor (sym w.has.ensures ∙ w.if-has.false)
+      | else-actor-scenario-via-else-actor-scenario w ↦ no_master (contents c.args.scenario.now)
+          c.args.actor (omega arith)
     ] in
     ap (λ (k : Binder). Some k) c.make.ensures
     ∙ begins_with_some (contents c.args.scenario.now) c.args.actor c.in_ok-failing.failing.items other

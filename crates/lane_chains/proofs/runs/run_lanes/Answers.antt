@@ -1,3 +1,5 @@
+-- After each turn every lane stands so many steps further in its own chain, at most at its last. A lane that is
+-- done takes no more, though its block is hashed along with the others.
 use Rattle.std.proofs.Common.{◌≡◌, ◌-◌, ◌∙◌, ℕ, ap, arith, refl, slice_index}
 use Rattle.std.specs.Prelude.{cond, ltb}
 use Rattle.sha_lanes.specs.Lanes.{lane}

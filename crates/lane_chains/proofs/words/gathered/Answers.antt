@@ -1,3 +1,4 @@
+-- The lanes so far have the numbers that their chains have in the list; each turn fills the next lane.
 use Rattle.std.proofs.Common.{◌≡◌, ◌∙◌, ℕ, ap, arith, refl, slice_index}
 use Rattle.std.proofs.lemmas.List.{length-set}
 use Rattle.lane_chains.proofs.WordLaws.{lanes_more}

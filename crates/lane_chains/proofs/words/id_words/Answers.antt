@@ -1,3 +1,4 @@
+-- The four words are read one behind the other, so that their bytes are the identifier's sixteen.
 use Rattle.std.proofs.Common.{◌≡◌, ◌+◌, ◌*◌, ◌∙◌, ℕ, [], ◌∷◌, arith, slice_index}
 use Rattle.std.proofs.lemmas.List.{take_all}
 use Rattle.sha2.specs.Sha256.{word_at}
@@ -10,5 +11,6 @@ returns c =
     let id = c.args.id.now in
     let words = c.load_be.result ∷ c.load_be-2.result ∷ c.load_be-3.result ∷ c.load_be-4.result ∷ [] in
     words_bytes id words 0 4 (omega arith) c.fits-id
-    (below_four (λ (k : ℕ). slice_index words k ≡ word_at id (0 + 4 * k)) c.load_be.ensures c.load_be-2.ensures c.load_be-3.ensures c.load_be-4.ensures)
+    (below_four (λ (k : ℕ). slice_index words k ≡ word_at id (0 + 4 * k)) c.load_be.ensures c.load_be-2.ensures
+    c.load_be-3.ensures c.load_be-4.ensures)
     ∙ take_all 16 id (omega arith)

@@ -1,3 +1,5 @@
+-- The lanes so far have the group's numbers, as words; each turn fills the next. As the numbers have 16 bits,
+-- so do the words.
 use Rattle.std.proofs.Common.{◌≡◌, ◌∙◌, ℕ, arith, refl, slice_index}
 use Rattle.std.proofs.lemmas.List.{length-set}
 use Rattle.lane_chains.proofs.WordLaws.{lanes_more}
@@ -6,7 +8,8 @@ use Rattle.lane_chains.proofs.words.spread.Goals as goal
 pub lanes-preserved : goal.lanes-preserved
 lanes-preserved c = (
   length-set c.lanes.words c.lanes.j _ ∙ c.lanes.invariant.0,
-  lanes_more (λ (k : ℕ). slice_index c.args.group.now k) c.lanes.words c.lanes.j _ c.lanes.invariant.0 (omega arith) c.from.ensures
+  lanes_more (λ (k : ℕ). slice_index c.args.group.now k) c.lanes.words c.lanes.j _ c.lanes.invariant.0
+      (omega arith) c.from.ensures
       c.lanes.invariant.1,
 )
 

@@ -1,3 +1,4 @@
+-- The bytes written so far are those of the words gone over, in order; each turn writes the next word's four.
 use Rattle.std.proofs.Common.{rules, ◌≡◌, ◌∙◌, arith, sym}
 use Rattle.std.proofs.lemmas.List.{take_all}
 use Rattle.std.proofs.lemmas.Slice.{overwrites}

@@ -1,3 +1,5 @@
+-- The definition treats each line by itself, so what is made of the lines so far grows by one line's share a
+-- turn, and after the last line it is that of the whole text.
 use Rattle.std.proofs.Common.{arith, ap, ◌∙◌}
 use Rattle.std.specs.List.{flat_map}
 use Rattle.made_runs.specs.Summary.{summary, summary_line}
@@ -6,7 +8,8 @@ use Rattle.made_runs.proofs.summary_lines.summary.Goals as goal
 
 pub loop-line-preserved : goal.loop-line-preserved
 loop-line-preserved c =
-    line-more summary_line c.loop-line.line-index c.deref-line-items.result.now _ _ _ _ (omega arith) c.loop-line.invariant c.in_ok-put_line.ensures
+    line-more summary_line c.loop-line.line-index c.deref-line-items.result.now _ _ _ _ (omega arith)
+    c.loop-line.invariant c.in_ok-put_line.ensures
 
 pub returns : goal.returns
 unfolding summary

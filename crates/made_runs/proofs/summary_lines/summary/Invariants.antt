@@ -7,4 +7,5 @@ use Rattle.made_runs.proofs.summary_lines.summary.Given as goal
 -- with what the lines left make, all is made
 abbrev pub invariant-loop-line : goal.invariant-loop-line
 invariant-loop-line l =
-    l.made.items ++ flat_map summary_line (shown (drop l.line-index l.line-items)) ≡ flat_map summary_line (shown l.line-items)
+    l.made.items ++ flat_map summary_line (shown (drop l.line-index l.line-items)) ≡ flat_map summary_line
+    (shown l.line-items)

@@ -1,3 +1,5 @@
+-- For whatever was known before, the parts of the frames so far are known as well. Nothing else that the
+-- knowledge goes by changes.
 use Rattle.std.proofs.Common.{◌++◌, ℕ, List, take}
 use Rattle.std.specs.List.{flat_map}
 use Rattle.message_types.specs.declared.signed.Signed.{Signed}
@@ -10,4 +12,5 @@ use Rattle.master_node.proofs.learn.recall_all.Given as goal
 
 abbrev pub invariant-loop-frame : goal.invariant-loop-frame
 invariant-loop-frame l = (g : Group) (me : ℕ) (taken known : List (Signed Body)) (told : List Told) (said : List Body)
-    → Knows g me l.fn.knowledge taken known told said → Knows g me l.knowledge taken (known ++ flat_map parts (take l.frame-index l.frame-items)) told said
+    → Knows g me l.fn.knowledge taken known told said →
+    Knows g me l.knowledge taken (known ++ flat_map parts (take l.frame-index l.frame-items)) told said

@@ -1,3 +1,5 @@
+-- The inner reader and the grammar agree on every text: what is read spells the text and is spelled so, what is
+-- spelled so is read, and else the first fault is told.
 use Rattle.std.proofs.Common.{arith}
 use Rattle.message_forms.proofs.Spells.{IsBytes-from}
 use Rattle.message_forms.proofs.FrameLaws.{answer_found, answer_spelled, answer_only, answer_fault, answer_none}

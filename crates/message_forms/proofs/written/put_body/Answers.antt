@@ -1,3 +1,5 @@
+-- Four zeros hold the place of the length, and once the body stands behind them they are replaced by how long
+-- it is. So what was appended is the length of the body's text, and the text.
 use Rattle.std.proofs.Common.{◌≡◌, length, arith}
 use Rattle.wire_parts.specs.FieldLaws.{length-u32_bytes}
 use Rattle.message_forms.proofs.FrameLemmas.{filled_is, room_for_length}

@@ -6,4 +6,5 @@ use Rattle.message_forms.proofs.written.put_certificates.Given as goal
 
 abbrev pub invariant-loop-certificate : goal.invariant-loop-certificate
 invariant-loop-certificate l =
-    l.out.items ≡ l.fn.out.items ++ ((u16_bytes (length l.certificates) ++ flat_map certificate_text (take l.certificate-index l.certificates)))
+    l.out.items ≡ l.fn.out.items
+    ++ ((u16_bytes (length l.certificates) ++ flat_map certificate_text (take l.certificate-index l.certificates)))

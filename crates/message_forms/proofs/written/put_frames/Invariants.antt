@@ -6,4 +6,5 @@ use Rattle.message_forms.proofs.written.put_frames.Given as goal
 
 abbrev pub invariant-loop-frame : goal.invariant-loop-frame
 invariant-loop-frame g l =
-    l.out.items ≡ l.fn.out.items ++ ((u16_bytes (length l.frames) ++ flat_map (signed_text g.B.Written.text) (take l.frame-index l.frames)))
+    l.out.items ≡ l.fn.out.items
+    ++ ((u16_bytes (length l.frames) ++ flat_map (signed_text g.B.Written.text) (take l.frame-index l.frames)))

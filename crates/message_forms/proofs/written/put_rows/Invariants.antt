@@ -6,4 +6,5 @@ use Rattle.message_forms.proofs.written.put_rows.Given as goal
 
 abbrev pub invariant-loop-row : goal.invariant-loop-row
 invariant-loop-row l =
-    l.out.items ≡ l.fn.out.items ++ (u16_bytes 0x00f0 ++ (u16_bytes (length l.rows) ++ flat_map (list_text u64_bytes) (take l.row-index l.rows)))
+    l.out.items ≡ l.fn.out.items
+    ++ (u16_bytes 0x00f0 ++ (u16_bytes (length l.rows) ++ flat_map (list_text u64_bytes) (take l.row-index l.rows)))

@@ -7,5 +7,6 @@ pub in_frame-requires : goal.in_frame-requires
 in_frame-requires c =
     let few : length (reply_pdu_text c.args.reply.now.pdu) ≤ 253 = reply_few c.args.reply.now.pdu c.requires in
     let all : c.deref.result.now ≡ reply_pdu_text c.args.reply.now.pdu =
-    c.deref.ensures.value ∙ c.in_ok-put_reply_pdu.ensures ∙ ap (λ front. front ++ reply_pdu_text c.args.reply.now.pdu) c.new-pdu.ensures.items in
+    c.deref.ensures.value ∙ c.in_ok-put_reply_pdu.ensures ∙ ap (λ front. front ++ reply_pdu_text c.args.reply.now.pdu)
+    c.new-pdu.ensures.items in
     omega (arith, few, ap length all)

@@ -5,4 +5,9 @@ use Rattle.ots_keys.proofs.digits.checked_hash.Goals as goal
 pub returns : goal.returns
 unfolding u16_bytes
 returns c =
-    rw (c.copy_from_slice.ensures.after, c.copy_from_slice-2.ensures.after, c.to_be_bytes.ensures, c.checksum-sum.ensures) refl
+    rw (
+      c.copy_from_slice.ensures.after,
+      c.copy_from_slice-2.ensures.after,
+      c.to_be_bytes.ensures,
+      c.checksum-sum.ensures,
+    ) refl

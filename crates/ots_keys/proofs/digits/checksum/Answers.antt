@@ -1,3 +1,5 @@
+-- The sum so far is the definition's for the coefficients so far. As they are few, the sum when shifted still
+-- fits 16 bits, so that nothing of it is cut off.
 use Rattle.std.proofs.Common.{◌≡◌, ◌/◌, ℕ, ap, refl, arith}
 use Rattle.std.proofs.Math.Nat.{mod-eq_of_lt}
 use Rattle.ots_keys.specs.Parameters.{width}

@@ -1,3 +1,5 @@
+-- Each turn sets one more digit, which is that of the hash with its checksum and no greater than the top digit.
+-- The digits set before stay as they are.
 use Rattle.std.proofs.Common.{◌≡◌, ◌≤◌, ◌∙◌, arith}
 use Rattle.std.proofs.lemmas.List.{length-set}
 use Rattle.ots_keys.specs.Parameters.{top_digit}
@@ -17,7 +19,8 @@ digits-preserved c =
     let far : c.from.result ≡ c.digit_of-far.result = omega arith in
     let below : c.from.result ≤ top_digit ots = omega arith in (
       length-set c.digits.digits _ _ ∙ c.digits.invariant.0,
-      digits_more ots hash c.digits.digits c.digits.i c.from-at.result c.from.result at c.digits.invariant.0 (omega arith)
+      digits_more ots hash c.digits.digits c.digits.i c.from-at.result c.from.result at
+          c.digits.invariant.0 (omega arith)
           (far ∙ is_digit) below c.digits.invariant.1,
     )
 

@@ -1,3 +1,5 @@
+-- The ends of the chains, one behind the other, are hashed under the tag of a public key, which is just what
+-- the definition makes of them.
 use Rattle.std.proofs.Common.{◌∙◌, ap}
 use Rattle.lane_chains.specs.Hash.{hash_under}
 use Rattle.lane_chains.specs.Chains.{joined, end_of}

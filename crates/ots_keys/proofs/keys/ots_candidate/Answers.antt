@@ -1,3 +1,5 @@
+-- Where length and type code are right the bytes have the form of a signature, and the key is that of the
+-- finished chains. Each refusal shows that they don't have that form.
 use Rattle.std.proofs.Common.{◌∙◌, ap, refl}
 use Rattle.wire_parts.specs.Fields.{u32_bytes}
 use Rattle.ots_keys.specs.Keys.{candidate, key_of_ends, finished_element}

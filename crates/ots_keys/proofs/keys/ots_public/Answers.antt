@@ -1,3 +1,5 @@
+-- The public key is made of chains that go all the way from their secret starts to the top digit. The starts
+-- are those of the seed, so the ends are the definition's.
 use Rattle.std.proofs.Common.{◌≡◌, ◌≤◌, ◌∙◌, ap, arith, length, refl, take}
 use Rattle.std.specs.Prelude.{replicate}
 use Rattle.std.proofs.lemmas.List.{length-take-le}

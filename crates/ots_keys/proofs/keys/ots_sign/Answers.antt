@@ -1,3 +1,5 @@
+-- A signature is the type code, the randomizer and the elements, one behind the other, each appended as the
+-- definition has it.
 use Rattle.std.proofs.Common.{refl}
 use Rattle.ots_keys.specs.Keys.{signature}
 use Rattle.ots_keys.proofs.keys.ots_sign.Goals as goal

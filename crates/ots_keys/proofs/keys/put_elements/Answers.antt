@@ -1,3 +1,5 @@
+-- Each element is where its chain stands after as many steps as the digit of the hash tells. Digits are at most
+-- the top one, so the steps are allowed, and the ends are joined in order.
 use Rattle.std.proofs.Common.{◌≡◌, ◌≤◌, ◌*◌, ◌∙◌, ◌++◌, ap, arith, length, refl, sym, take}
 use Rattle.std.specs.Prelude.{replicate}
 use Rattle.std.proofs.lemmas.List.{length-take-le}
@@ -50,4 +52,5 @@ returns c =
     let whole = rw (count, len) at c.run_chains.ensures.joined in
     let put = rw count at c.in_ok-put_bytes.ensures.ok in
     put ∙ ap (λ x. c.args.sig.now.items ++ x) (whole ∙ joined-cong ends (signed_element ots id q seed hash) n (λ i lt.
-    signed_is ots id q seed hash starts digits n i lt few (c.digits_of-to.ensures.value i lt) (c.secrets-starts.ensures i lt)))
+    signed_is ots id q seed hash starts digits n i lt few (c.digits_of-to.ensures.value i lt)
+    (c.secrets-starts.ensures i lt)))

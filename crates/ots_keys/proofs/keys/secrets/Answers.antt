@@ -1,3 +1,5 @@
+-- A secret start is what the one chain step from 255 to 256 makes of the seed. So the seed is written at the
+-- place of each chain, and one step is run for all of them.
 use Rattle.std.proofs.Common.{◌≡◌, ◌≢◌, ◌≤◌, ◌<◌, ◌∙◌, ℕ, ap, arith, below_more, length, refl, take}
 use Rattle.std.specs.Prelude.{replicate}
 use Rattle.lane_chains.specs.Chains.{value_at, AreSteps}

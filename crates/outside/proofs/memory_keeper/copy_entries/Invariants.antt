@@ -1,5 +1,5 @@
 use Rattle.std.proofs.Common.{◌≡◌, take}
-use Rattle.outside.specs.Kept.{lists_of}
+use Rattle.outside.specs.Keepers.{lists_of}
 use Rattle.outside.proofs.memory_keeper.copy_entries.Given as goal
 
 -- the entries so far are copied

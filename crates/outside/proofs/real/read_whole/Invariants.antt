@@ -1,3 +1,5 @@
+-- What was loaded is what the reader gave so far, and stays within the room. Each piece that isn't empty leaves
+-- less room, so the loop ends.
 use Rattle.std.proofs.Common.{◌≤◌, ◌-◌, vec_len}
 use Rattle.std.specs.Io.KnownBytes.{Consumes}
 use Rattle.outside.proofs.real.read_whole.Given as goal

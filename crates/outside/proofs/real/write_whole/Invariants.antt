@@ -1,8 +1,9 @@
+-- The piece is what was written so far followed by the rest. Each turn takes at least a byte of the rest, so
+-- the loop ends.
 use Rattle.std.proofs.Common.{◌≡◌, ◌++◌, ℕ, List, length}
 use Rattle.std.specs.Io.KnownBytes.{Appends}
 use Rattle.outside.proofs.real.write_whole.Given as goal
 
--- the piece is what was written so far and the rest
 abbrev pub invariant-loop-rest : goal.invariant-loop-rest
 invariant-loop-rest g l = record {
   done : List ℕ;

@@ -29,9 +29,11 @@ search-requires-in-None t c =
       (
         c.requires.count,
         (
-          different_rest c.args.chosen.now c.args.others.now c.first-item.result c.in-len1-up.len_at_least c.first-item.is
+          different_rest c.args.chosen.now c.args.others.now c.first-item.result
+              c.in-len1-up.len_at_least c.first-item.is
               c.requires.different,
-          all_rest (CanBePart c.args.sizes.now.n c.args.sizes.now.f) c.args.chosen.now c.args.others.now c.first-item.result
+          all_rest (CanBePart c.args.sizes.now.n c.args.sizes.now.f)
+              c.args.chosen.now c.args.others.now c.first-item.result
               c.in-len1-up.len_at_least c.first-item.is c.requires.parts,
         ),
       ),

@@ -6,7 +6,8 @@ use Rattle.part_lines.proofs.lines.words_of.Goals as goal
 pub returns-in_ok-parts-in-Ok-clause-words : goal.returns-in_ok-parts-in-Ok-clause-words
 returns-in_ok-parts-in-Ok-clause-words c =
     text_line c.args.line.now c.in-Ok.ensures.cases.1
-    ∙ ap (λ (words : List (List ℕ)). Ok words) (ap words_of (sym c.in-Ok.ensures.cases.0) ∙ sym c.in_ok-parts-in-Ok.ensures)
+    ∙ ap (λ (words : List (List ℕ)). Ok words) (ap words_of (sym c.in-Ok.ensures.cases.0)
+    ∙ sym c.in_ok-parts-in-Ok.ensures)
 
 pub returns-in-Err-clause-fault : goal.returns-in-Err-clause-fault
 returns-in-Err-clause-fault c = no_text_line c.args.line.now c.in-Err.ensures.cases.0

@@ -8,4 +8,5 @@ use Rattle.part_lines.proofs.printing.put_all_wrong.Given as goal
 
 -- the wrong masters so far have their lines
 abbrev pub invariant-loop-master : goal.invariant-loop-master
-invariant-loop-master l = string_bytes l.text ≡ string_bytes l.initial.text ++ flat_map (line_if l.wrong) (numbers_below l.master)
+invariant-loop-master l = string_bytes l.text ≡ string_bytes l.initial.text
+    ++ flat_map (line_if l.wrong) (numbers_below l.master)

@@ -3,7 +3,8 @@ use Rattle.part_runs.proofs.certified.certified_by.Goals as goal
 
 pub returns-in-Some : goal.returns-in-Some
 returns-in-Some c = λ world history are low.
-    certified_there world history c.args.benches.now c.args.master c.args.request.originator c.args.request.number c.in-Some.bench.now _ are low c.in-Some.ensures.lookup.0
+    certified_there world history c.args.benches.now c.args.master c.args.request.originator c.args.request.number
+    c.in-Some.bench.now _ are low c.in-Some.ensures.lookup.0
     c.in-Some.ensures.lookup.1 c.certified.ensures
 
 pub returns-in-None : goal.returns-in-None

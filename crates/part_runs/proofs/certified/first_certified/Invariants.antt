@@ -1,3 +1,5 @@
+-- Each turn rules out one more master, whatever history the benches tell, so that the one found to have an
+-- update certified is the least.
 use Rattle.std.proofs.Common.{◌≡◌, ℕ, ◌<◌, List, Option, None}
 use Rattle.scenario_file.specs.Reading.{Contents}
 use Rattle.history_rules.specs.Events.{Entry}

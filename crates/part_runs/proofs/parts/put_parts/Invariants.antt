@@ -1,3 +1,5 @@
+-- The lines so far are those of the masters gone over, for each history that the benches tell. Which update
+-- each has certified doesn't change while they are printed.
 use Rattle.std.proofs.Common.{◌≡◌, ◌++◌, ℕ, List}
 use Rattle.std.specs.Prelude.{string_bytes}
 use Rattle.std.specs.List.{flat_map}
@@ -15,4 +17,5 @@ abbrev pub invariant-loop-master : goal.invariant-loop-master
 invariant-loop-master l =
     (c : Contents) (history : List Entry) → AreBenches c history l.benches → l.sizes.n ≡ masters_in c
     → string_bytes l.text ≡ string_bytes l.initial.text
-    ++ lines_of (flat_map (λ master. part_if l.sizes.f l.digest master (certified_by (setup_of c) history l.request.originator l.request.number master)) (numbers_below l.master))
+    ++ lines_of (flat_map (λ master. part_if l.sizes.f l.digest master
+    (certified_by (setup_of c) history l.request.originator l.request.number master)) (numbers_below l.master))

@@ -1,4 +1,5 @@
-use Rattle.std.proofs.Common.{◌≡◌, ◌++◌, List, length}
+-- The bodies end with the acknowledgements due of all numbers of the masters so far.
+use Rattle.std.proofs.Common.{◌≡◌, ◌++◌, List}
 use Rattle.std.specs.List.{flat_map}
 use Rattle.message_types.specs.declared.signed.Signed.{Signed}
 use Rattle.message_types.specs.declared.body.Body.{Body}
@@ -11,6 +12,8 @@ use Rattle.preorder.proofs.acks.push_acks.Given as goal
 
 -- those of the masters so far are there
 abbrev pub invariant-loop-master : goal.invariant-loop-master
-invariant-loop-master l = (g : Group) (took : List (Signed Body)) (said : List Body) → l.said_count ≡ length said → HasFirsts g took said l.firsts →
-    HasPending took said l.pending.low l.pending.high →
-    l.bodies.items ≡ l.initial.bodies.items ++ flat_map (λ j. flat_map (λ k. ack_due took said j k) (numbers_from 1 most_number)) (numbers_below l.master)
+invariant-loop-master l = (g : Group) (known : List (Signed Body)) (said : List Body) →
+    HasFirsts g known said l.firsts.entries →
+    HasPending known said l.pending.low l.pending.high →
+    l.bodies.items ≡ l.initial.bodies.items
+    ++ flat_map (λ j. flat_map (λ k. ack_due known said j k) (numbers_from 1 most_number)) (numbers_below l.master)

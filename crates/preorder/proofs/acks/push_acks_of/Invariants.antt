@@ -1,4 +1,5 @@
-use Rattle.std.proofs.Common.{◌≡◌, ◌++◌, ◌-◌, ◌≤◌, List, length}
+-- The bodies end with the acknowledgements due of the numbers of the range so far.
+use Rattle.std.proofs.Common.{◌≡◌, ◌++◌, ◌-◌, ◌≤◌, List}
 use Rattle.std.specs.List.{flat_map}
 use Rattle.message_types.specs.declared.signed.Signed.{Signed}
 use Rattle.message_types.specs.declared.body.Body.{Body}
@@ -12,6 +13,7 @@ use Rattle.preorder.proofs.acks.push_acks_of.Given as goal
 abbrev pub invariant-loop-number : goal.invariant-loop-number
 invariant-loop-number l = record {
   in_range : l.number - l.low ≤ l.high - l.low;
-  added : (g : Group) (took : List (Signed Body)) (said : List Body) → l.said_count ≡ length said → HasFirsts g took said l.firsts →
-      l.bodies.items ≡ l.initial.bodies.items ++ flat_map (ack_due took said l.master) (numbers_from l.low (l.number - l.low));
+  added : (g : Group) (known : List (Signed Body)) (said : List Body) → HasFirsts g known said l.firsts.entries →
+      l.bodies.items ≡ l.initial.bodies.items ++ flat_map (ack_due known said l.master)
+      (numbers_from l.low (l.number - l.low));
 }

@@ -1,3 +1,4 @@
+-- The ballot's voters are those so far and the signer, and its update stays.
 use Rattle.std.proofs.Common.{ap, ◌∙◌, nat_eq, ◌||◌}
 use Rattle.preorder.specs.declared.ballots.Ballot.{Ballot}
 use Rattle.quorum_sets.specs.Masters.{has_master}
@@ -6,10 +7,11 @@ use Rattle.preorder.proofs.Steps.{has_ballots-voted}
 use Rattle.preorder.proofs.ballots.note_vote.Goals as goal
 
 pub returns-clause-noted : goal.returns-clause-noted
-returns-clause-noted c = λ took has.
+returns-clause-noted c = λ known has.
     let ballot : Ballot = record { update = c.in_ok-ballot.ballot.update; voters = c.add.new.self } in
     let signer = c.args.frame.now.signer in
-    has_ballots-voted took c.args.frame.now ballot c.args.ballots.now c.insert.new.self c.in_ok-ballot.ensures.update
+    has_ballots-voted known c.args.frame.now ballot c.args.ballots.now.entries c.insert.new.self.entries
+    c.in_ok-ballot.ensures.update
     (λ m below. ap (λ set. has_master set m) c.add.ensures.added
     ∙ has_master-voters_below (λ x. nat_eq x signer || has_master c.in_ok-ballot.ballot.voters x) 14 m below
     ∙ ap (λ b. nat_eq m signer || b) (c.in_ok-ballot.ensures.voters m below))

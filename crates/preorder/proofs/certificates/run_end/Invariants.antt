@@ -1,11 +1,11 @@
 use Rattle.std.proofs.Common.{◌-◌}
-use Rattle.indexmap.specs.IndexMap.{get}
-use Rattle.preorder.specs.Index.{same_pair, ReachesLess}
+use Rattle.preorder.specs.Index.{at_pair, ReachesLess}
 use Rattle.preorder.proofs.certificates.run_end.Given as goal
 
 -- what was passed is certified without a gap
 abbrev pub invariant-loop-end : goal.invariant-loop-end
-invariant-loop-end l = ReachesLess (λ k. get same_pair l.certificates (l.j, k)) l.start → ReachesLess (λ k. get same_pair l.certificates (l.j, k)) l.end
+invariant-loop-end l = ReachesLess (λ k. at_pair l.certificates.entries (l.j, k)) l.start →
+    ReachesLess (λ k. at_pair l.certificates.entries (l.j, k)) l.end
 
 abbrev pub decreases-loop-end : goal.decreases-loop-end
 decreases-loop-end l = 4096 - l.end

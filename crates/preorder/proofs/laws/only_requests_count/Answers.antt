@@ -1,14 +1,11 @@
-use Rattle.preorder.proofs.Composed.{certified-filter, vector-filter, acks-filter, requests-filter}
+use Rattle.preorder.proofs.Composed.{taken-alike, known-alike, said-alike}
 use Rattle.preorder.proofs.laws.only_requests_count.Goals as goal
 
-pub returns-clause-certified : goal.returns-clause-certified
-returns-clause-certified c = certified-filter
+pub returns-clause-taken : goal.returns-clause-taken
+returns-clause-taken c = taken-alike
 
-pub returns-clause-vector : goal.returns-clause-vector
-returns-clause-vector c = vector-filter
+pub returns-clause-known : goal.returns-clause-known
+returns-clause-known c = known-alike
 
-pub returns-clause-acks : goal.returns-clause-acks
-returns-clause-acks c = acks-filter
-
-pub returns-clause-requests : goal.returns-clause-requests
-returns-clause-requests c = requests-filter
+pub returns-clause-said : goal.returns-clause-said
+returns-clause-said c = said-alike

@@ -18,9 +18,11 @@ hear-requires-clause-known g c = record {
 pub hear-requires-clause-whole : goal.hear-requires-clause-whole
 hear-requires-clause-whole g c =
     let knows = c.in_ok-recall.ensures (group_of c.in_ok-sizes.sizes 1) 1 [] [] [] [] c.new-knowledge.ensures in
-    let all : c.in_ok-sizes.sizes.n ≡ 3 * c.in_ok-sizes.sizes.f + 2 * c.in_ok-sizes.sizes.k + 1 = c.in_ok-sizes.sizes.all in
+    let all : c.in_ok-sizes.sizes.n ≡ 3 * c.in_ok-sizes.sizes.f + 2 * c.in_ok-sizes.sizes.k + 1 =
+    c.in_ok-sizes.sizes.all in
     let intruded : c.in_ok-sizes.sizes.f ≡ 1 = c.in_ok-sizes.ensures.intruded in
-    ap (λ (h : Group). is_whole h c.in_ok-ping-2.field-0) knows.preorder.group ∙ c.in_ok-ping-2.ensures (group_of c.in_ok-sizes.sizes 1) (omega arith)
+    ap (λ (h : Group). is_whole h c.in_ok-ping-2.field-0) knows.preorder.group
+    ∙ c.in_ok-ping-2.ensures (group_of c.in_ok-sizes.sizes 1) (omega arith)
 
 pub catch_up-requires : goal.catch_up-requires
 catch_up-requires g c = record {
@@ -30,5 +32,6 @@ catch_up-requires g c = record {
   known = ([] ++ parts c.in_ok-ping.field-0) ++ parts c.in_ok-ping-2.field-0;
   told = [];
   said = [];
-  knows = c.in_ok-hear.ensures (group_of c.in_ok-sizes.sizes 1) 1 [] ([] ++ parts c.in_ok-ping.field-0) [] [] (c.in_ok-recall.ensures (group_of c.in_ok-sizes.sizes 1) 1 [] [] [] [] c.new-knowledge.ensures);
+  knows = c.in_ok-hear.ensures (group_of c.in_ok-sizes.sizes 1) 1 [] ([] ++ parts c.in_ok-ping.field-0) [] []
+      (c.in_ok-recall.ensures (group_of c.in_ok-sizes.sizes 1) 1 [] [] [] [] c.new-knowledge.ensures);
 }

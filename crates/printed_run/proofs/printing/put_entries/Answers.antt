@@ -1,3 +1,5 @@
+-- Each entry has one line, and whether the frame that it took was said before is answered from the benches. So
+-- the text grows by the line of one more entry each turn.
 use Rattle.std.proofs.Common.{◌∙◌, arith}
 use Rattle.std.specs.Prelude.{string_bytes}
 use Rattle.scenario_file.specs.Reading.{contents}
@@ -7,11 +9,13 @@ use Rattle.printed_run.proofs.printing.put_entries.Goals as goal
 
 pub own_places-requires : goal.own_places-requires
 own_places-requires c =
-    all_benched (contents c.args.scenario.now) c.args.history.now c.args.benches.now c.entries-entries.result.now c.requires.legal c.requires.benches c.entries-entries.ensures
+    all_benched (contents c.args.scenario.now) c.args.history.now c.args.benches.now c.entries-entries.result.now
+    c.requires.legal c.requires.benches c.entries-entries.ensures
 
 pub is_said-requires : goal.is_said-requires
 is_said-requires c =
-    at_hand (contents c.args.scenario.now) c.args.history.now c.args.benches.now c.entries-entries.result.now c.deref.result.now c.requires.valid c.requires.legal
+    at_hand (contents c.args.scenario.now) c.args.history.now c.args.benches.now c.entries-entries.result.now
+    c.deref.result.now c.requires.valid c.requires.legal
     c.requires.benches c.entries-entries.ensures (c.deref.ensures.value ∙ c.in_ok-places.ensures)
 
 pub loop-entry-init : goal.loop-entry-init
@@ -19,11 +23,16 @@ loop-entry-init c = no_entries (contents c.args.scenario.now) c.args.history.now
 
 pub loop-entry-preserved : goal.loop-entry-preserved
 loop-entry-preserved c =
-    entries_more (contents c.args.scenario.now) c.args.history.now c.entries-entries.result.now c.loop-entry.entry-index c.entry-item.result c.cast-cast.result
-    c.in_ok-is_said.is_said (string_bytes c.args.text.now) (string_bytes c.loop-entry.text) (string_bytes c.put_entry.new.text) c.entries-entries.ensures
-    c.loop-entry-test.true c.entry-item.is c.cast-cast.ensures c.loop-entry.invariant c.in_ok-is_said.ensures c.in_ok-put_entry.ensures
+    entries_more (contents c.args.scenario.now) c.args.history.now c.entries-entries.result.now
+    c.loop-entry.entry-index c.entry-item.result c.cast-cast.result
+    c.in_ok-is_said.is_said (string_bytes c.args.text.now) (string_bytes c.loop-entry.text)
+    (string_bytes c.put_entry.new.text) c.entries-entries.ensures
+    c.loop-entry-test.true c.entry-item.is c.cast-cast.ensures c.loop-entry.invariant c.in_ok-is_said.ensures
+    c.in_ok-put_entry.ensures
 
 pub returns : goal.returns
 returns c =
-    entries_all (contents c.args.scenario.now) c.args.history.now c.entries-entries.result.now c.loop-entry.entry-index (string_bytes c.args.text.now)
-    (string_bytes c.loop-entry.text) c.entries-entries.ensures (omega (arith, c.loop-entry-test.false)) c.loop-entry.invariant
+    entries_all (contents c.args.scenario.now) c.args.history.now c.entries-entries.result.now
+    c.loop-entry.entry-index (string_bytes c.args.text.now)
+    (string_bytes c.loop-entry.text) c.entries-entries.ensures (omega (arith, c.loop-entry-test.false))
+    c.loop-entry.invariant

@@ -9,4 +9,5 @@ use Rattle.printed_run.proofs.printing.put_entries.Given as goal
 -- the entries so far have their lines
 abbrev pub invariant-loop-entry : goal.invariant-loop-entry
 invariant-loop-entry l =
-    string_bytes l.text ≡ string_bytes l.initial.text ++ flat_map (entry_line (contents l.scenario) l.history) (map entry_of (take l.entry-index l.entries))
+    string_bytes l.text ≡ string_bytes l.initial.text ++ flat_map (entry_line (contents l.scenario) l.history)
+    (map entry_of (take l.entry-index l.entries))

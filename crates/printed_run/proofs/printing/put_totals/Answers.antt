@@ -6,7 +6,11 @@ use Rattle.printed_run.proofs.printing.put_totals.Goals as goal
 
 pub returns : goal.returns
 returns c =
-    totals_put (contents c.args.scenario.now) c.args.history.now (string_bytes c.args.text.now) (string_bytes c.put_audit.new.text) (string_bytes c.put_agree.new.text)
-    c.in_ok-counts.counts.forged c.in_ok-counts.counts.alike c.in_ok-counts.counts.intruded c.args.scenario.now.sizes.f c.agree_benches.result
-    c.in_ok-put_audit.ensures c.in_ok-counts.ensures.forged c.in_ok-counts.ensures.alike c.in_ok-counts.ensures.intruded refl
-    (c.agree_benches.ensures.relation (contents c.args.scenario.now) c.args.history.now c.requires.benches) c.in_ok-put_agree.ensures
+    totals_put (contents c.args.scenario.now) c.args.history.now (string_bytes c.args.text.now)
+    (string_bytes c.put_audit.new.text) (string_bytes c.put_agree.new.text)
+    c.in_ok-counts.counts.forged c.in_ok-counts.counts.alike c.in_ok-counts.counts.intruded
+    c.args.scenario.now.sizes.f c.agree_benches.result
+    c.in_ok-put_audit.ensures c.in_ok-counts.ensures.forged c.in_ok-counts.ensures.alike
+    c.in_ok-counts.ensures.intruded refl
+    (c.agree_benches.ensures.relation (contents c.args.scenario.now) c.args.history.now c.requires.benches)
+    c.in_ok-put_agree.ensures

@@ -1,8 +1,9 @@
 use Rattle.std.proofs.Common.{◌∙◌}
 use Rattle.scenario_file.specs.Reading.{contents}
-use Rattle.printed_run.proofs.Benches.{its_benches}
+use Rattle.history_benches.proofs.Shown.{all_unsigned}
 use Rattle.printed_run.proofs.printing.write_run.Goals as goal
 
 pub write_run_of-requires-clause-benches : goal.write_run_of-requires-clause-benches
 write_run_of-requires-clause-benches c =
-    its_benches (contents c.args.scenario.now) c.args.history.now c.deref.result.now (c.deref.ensures.value ∙ c.in_ok-benches.ensures)
+    all_unsigned (contents c.args.scenario.now) c.args.history.now c.deref.result.now
+    (c.deref.ensures.value ∙ c.in_ok-benches.ensures)

@@ -8,4 +8,5 @@ use Rattle.printed_run.proofs.states.put_states.Given as goal
 -- the benches so far have their lines
 abbrev pub invariant-loop-bench : goal.invariant-loop-bench
 invariant-loop-bench l =
-    string_bytes l.text ≡ string_bytes l.initial.text ++ flat_map (bench_lines (contents l.scenario)) (take l.bench-index l.benches)
+    string_bytes l.text ≡ string_bytes l.initial.text ++ flat_map (bench_lines (contents l.scenario))
+    (take l.bench-index l.benches)

@@ -1,3 +1,5 @@
+-- Whatever the hands did in their threads, finishing leaves each actor ended. So what is left to show is that
+-- both may begin: there is an inbox, a pass and a station for each actor.
 use Rattle.std.proofs.Common.{◌≡◌, ◌∙◌, ℕ, List, length, ap, sym, subst, arith}
 use Rattle.std.specs.Prelude.{IfOk}
 use Rattle.scenario_file.specs.Valid.{IsScenario}
@@ -11,10 +13,16 @@ use Rattle.replica_threads.proofs.running.all_turned.Goals as goal
 
 pub jobs-requires-clause-passes : goal.jobs-requires-clause-passes
 jobs-requires-clause-passes g c =
-    subst (λ (bs : List (Inbox Posted)). ArePassesOf bs c.in_ok-inboxes.passes.items) (sym c.as_slice-boxes.ensures.value) c.in_ok-inboxes.ensures.passes
+    subst (λ (bs : List (Inbox Posted)). ArePassesOf bs c.in_ok-inboxes.passes.items)
+    (sym c.as_slice-boxes.ensures.value) c.in_ok-inboxes.ensures.passes
 
 pub jobs-requires-clause-few : goal.jobs-requires-clause-few
-jobs-requires-clause-few g c = omega (arith, ap length c.as_slice-boxes.ensures.value, c.in_ok-inboxes.ensures.all, c.actors-actors.ensures.few)
+jobs-requires-clause-few g c = omega (
+  arith,
+  ap length c.as_slice-boxes.ensures.value,
+  c.in_ok-inboxes.ensures.all,
+  c.actors-actors.ensures.few,
+)
 
 pub make_all_turns-requires : goal.make_all_turns-requires
 make_all_turns-requires g c = (
@@ -30,7 +38,8 @@ make_all_turns-requires g c = (
           scenario = c.requires.course.scenario;
           ring = c.in_ok-ring.ensures ∙ ap ring_in c.requires.course.scenario;
           stamps = c.requires.source;
-          inboxes = ap length c.as_slice-boxes.ensures.value ∙ c.in_ok-inboxes.ensures.all ∙ c.actors-actors.ensures.actors ∙ ap actors_in c.requires.course.scenario;
+          inboxes = ap length c.as_slice-boxes.ensures.value ∙ c.in_ok-inboxes.ensures.all
+              ∙ c.actors-actors.ensures.actors ∙ ap actors_in c.requires.course.scenario;
           turns = c.requires.course.turns;
         }) (ap length c.as_slice.ensures.value ∙ c.requires.stations) c.in_ok-jobs.ensures.jobs,
       ),
@@ -44,7 +53,8 @@ all_finished-requires-clause-shared g c = record {
   scenario = c.requires.course.scenario;
   ring = c.in_ok-ring.ensures ∙ ap ring_in c.requires.course.scenario;
   stamps = c.requires.source;
-  inboxes = ap length c.as_slice-boxes.ensures.value ∙ c.in_ok-inboxes.ensures.all ∙ c.actors-actors.ensures.actors ∙ ap actors_in c.requires.course.scenario;
+  inboxes = ap length c.as_slice-boxes.ensures.value ∙ c.in_ok-inboxes.ensures.all ∙ c.actors-actors.ensures.actors
+      ∙ ap actors_in c.requires.course.scenario;
   turns = c.requires.course.turns;
 }
 
@@ -52,11 +62,13 @@ pub all_finished-requires-clause-actors : goal.all_finished-requires-clause-acto
 all_finished-requires-clause-actors g c = c.actors-actors.ensures.actors ∙ ap actors_in c.requires.course.scenario
 
 pub all_finished-requires-clause-stations : goal.all_finished-requires-clause-stations
-all_finished-requires-clause-stations g c = c.requires.stations ∙ sym (c.actors-actors.ensures.actors ∙ ap actors_in c.requires.course.scenario)
+all_finished-requires-clause-stations g c = c.requires.stations
+    ∙ sym (c.actors-actors.ensures.actors ∙ ap actors_in c.requires.course.scenario)
 
 pub all_finished-requires-clause-passes : goal.all_finished-requires-clause-passes
 all_finished-requires-clause-passes g c = c.in_ok-jobs.ensures.passes
 
 pub returns-clause-all : goal.returns-clause-all
 returns-clause-all g c =
-    subst (λ (n : ℕ). IfOk c.all_finished.result (λ stations. length stations.items ≡ n)) (c.actors-actors.ensures.actors ∙ ap actors_in c.requires.course.scenario) c.all_finished.ensures.all
+    subst (λ (n : ℕ). IfOk c.all_finished.result (λ stations. length stations.items ≡ n))
+    (c.actors-actors.ensures.actors ∙ ap actors_in c.requires.course.scenario) c.all_finished.ensures.all

@@ -4,4 +4,12 @@ use Rattle.replica_threads.proofs.running.run.Given as goal
 
 -- the run of these inputs, turns and stamps
 abbrev pub ghosts-run_named : goal.ghosts-run_named
-ghosts-run_named g a = record { name = record { scenario = contents a.course.now.scenario.now; inputs = map (λ list. list.items) a.inputs.items; turns = a.course.now.turns; source = a.stamps } }
+ghosts-run_named g a = record {
+  name = record {
+    scenario = contents a.course.now.scenario.now;
+    inputs =
+        map (λ list. list.items) a.inputs.items;
+    turns = a.course.now.turns;
+    source = a.stamps;
+  };
+}

@@ -3,7 +3,8 @@ use Rattle.replica_threads.specs.Courses.{seats_made}
 use Rattle.replica_threads.proofs.running.run_named.Goals as goal
 
 pub ended-requires-clause-first : goal.ended-requires-clause-first
-ended-requires-clause-first g c = c.in_ok-stations.ensures.first ∙ ap (seats_made c.args.stamps) (sym c.in_ok-turned.ensures.all)
+ended-requires-clause-first g c = c.in_ok-stations.ensures.first ∙ ap (seats_made c.args.stamps)
+    (sym c.in_ok-turned.ensures.all)
 
 pub ended-requires-clause-all : goal.ended-requires-clause-all
 ended-requires-clause-all g c = c.in_ok-turned.ensures.all

@@ -1,3 +1,5 @@
+-- The first seat has been split once for each actor before, so one more seat is left for this actor, and it
+-- bears the actor's number.
 use Rattle.std.proofs.Common.{◌≡◌, ◌+◌, ◌<◌, true, refl, sym, ap, ◌∙◌, subst, arith}
 use Rattle.scenario_file.specs.Reading.{Contents}
 use Rattle.script_laws.specs.Accepted.{actors_in}
@@ -22,13 +24,15 @@ pub make-requires-clause-valid : goal.make-requires-clause-valid
 make-requires-clause-valid g c = c.requires.course.valid
 
 pub make-requires-clause-there : goal.make-requires-clause-there
-make-requires-clause-there g c = subst (λ (x : Contents). c.args.actor < actors_in x) (sym c.requires.course.scenario) c.requires.there
+make-requires-clause-there g c = subst (λ (x : Contents). c.args.actor < actors_in x)
+    (sym c.requires.course.scenario) c.requires.there
 
 pub make-requires-clause-scenario : goal.make-requires-clause-scenario
 make-requires-clause-scenario g c = c.requires.course.scenario
 
 pub make-requires-clause-number : goal.make-requires-clause-number
-make-requires-clause-number g c = seat_split c.args.stamps.now c.args.first.now c.in-Some.seat c.args.actor c.requires.first c.in-Some.ensures.some.0
+make-requires-clause-number g c = seat_split c.args.stamps.now c.args.first.now c.in-Some.seat c.args.actor
+    c.requires.first c.in-Some.ensures.some.0
 
 pub make-requires-clause-source : goal.make-requires-clause-source
 make-requires-clause-source g c = ap (λ (d : Drawer). d.of) c.in-Some.ensures.some.0 ∙ c.requires.source
@@ -37,7 +41,8 @@ pub make-requires-clause-inputs : goal.make-requires-clause-inputs
 make-requires-clause-inputs g c = c.requires.inputs
 
 pub make-requires-clause-fit : goal.make-requires-clause-fit
-make-requires-clause-fit g c = subst (λ (x : Contents). fit_inputs x c.args.actor c.args.inputs.items ≡ true) (sym c.requires.course.scenario) c.requires.fit
+make-requires-clause-fit g c = subst (λ (x : Contents). fit_inputs x c.args.actor c.args.inputs.items ≡ true)
+    (sym c.requires.course.scenario) c.requires.fit
 
 pub make-requires-clause-turns : goal.make-requires-clause-turns
 make-requires-clause-turns g c = (c.requires.course.turns, c.requires.course.most)
@@ -45,5 +50,6 @@ make-requires-clause-turns g c = (c.requires.course.turns, c.requires.course.mos
 pub returns : goal.returns
 returns g c = record {
   first = ok_after (c.split.new.seat ≡ seats_made c.args.stamps.now (c.args.actor + 1)) c.make.result
-      (first_after c.args.stamps.now c.args.first.now c.split.new.seat c.args.actor c.requires.first c.in-Some.ensures.some.1);
+      (first_after c.args.stamps.now c.args.first.now c.split.new.seat c.args.actor c.requires.first
+      c.in-Some.ensures.some.1);
 }

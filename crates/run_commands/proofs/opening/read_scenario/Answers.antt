@@ -1,3 +1,5 @@
+-- A content leads to the scenario that is read of it, or to the refusal that the fault of its reading stands
+-- for. Reading and definition agree on each content.
 use Rattle.std.proofs.Common.{Ok, Err, ap}
 use Rattle.scenario_file.specs.Reading.{contents}
 use Rattle.run_commands.proofs.Scenarios.{shown-at, leads-on, leads-by}

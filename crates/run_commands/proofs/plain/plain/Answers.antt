@@ -1,3 +1,5 @@
+-- How the call ends is shown of its words, files and outputs alone. The headline and the laws of answers and
+-- rebuilt requests follow, as the program's runs keep their rules.
 use Rattle.std.proofs.Common.{map, string_bytes}
 use Rattle.command_ends.specs.Calls.{Call}
 use Rattle.command_ends.specs.Ended.{ErrorSink}

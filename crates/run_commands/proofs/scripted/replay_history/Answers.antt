@@ -1,3 +1,5 @@
+-- With the scenario known the course of a replay asks for the history's file, and its last step gives the
+-- history's text or refusal. A file that can't be loaded ends it.
 use Rattle.std.proofs.Common.{[], ◌∷◌, subst}
 use Rattle.scenario_file.specs.Reading.{contents}
 use Rattle.command_words.specs.Wanted.{replay}
@@ -16,14 +18,19 @@ returns-in-Ok-clause-cause g c = λ name first one.
     let later = g.F.Files.held c.load.new.files in
     let after = g.F.Files.faults c.load.new.files in
     let text = c.in-Ok.text.items in
-    after-load next (g.F.Files.held c.args.files.now) later (g.F.Files.faults c.args.files.now) after after (first ∷ []) c.args.history.now text c.replay_text.result
-    (replay-first r name c.args.history.now first is one) c.in-Ok.ensures.cause.0 c.in-Ok.ensures.cause.1 c.load.ensures.kept c.in-Ok.ensures.file_faults
-    (made-now next later after after (first ∷ text ∷ []) (replay-last r is text) c.replay_text.result (replay-second r name c.args.history.now first text is one)
-    (replay-makes r is text c.replay_text.result (subst (λ t. ReplayGives r is t c.replay_text.result) c.as_slice.ensures.value c.replay_text.ensures)))
+    after-load next (g.F.Files.held c.args.files.now) later (g.F.Files.faults c.args.files.now) after after
+    (first ∷ []) c.args.history.now text c.replay_text.result
+    (replay-first r name c.args.history.now first is one) c.in-Ok.ensures.cause.0 c.in-Ok.ensures.cause.1
+    c.load.ensures.kept c.in-Ok.ensures.file_faults
+    (made-now next later after after (first ∷ text ∷ []) (replay-last r is text) c.replay_text.result
+    (replay-second r name c.args.history.now first text is one)
+    (replay-makes r is text c.replay_text.result
+    (subst (λ t. ReplayGives r is t c.replay_text.result) c.as_slice.ensures.value c.replay_text.ensures)))
 
 pub returns-in-Err-clause-cause : goal.returns-in-Err-clause-cause
 returns-in-Err-clause-cause g c = λ name first one.
     let r = g.R.Runs.readers in
-    load-failed (CommandStep r (replay name c.args.history.now)) (g.F.Files.held c.args.files.now) (g.F.Files.faults c.args.files.now)
+    load-failed (CommandStep r (replay name c.args.history.now)) (g.F.Files.held c.args.files.now)
+    (g.F.Files.faults c.args.files.now)
     (g.F.Files.faults c.load.new.files) (first ∷ []) c.args.history.now c.in-Err.refusal
     (replay-first r name c.args.history.now first (contents c.args.scenario.now) one) c.in-Err.ensures.cause

@@ -1,3 +1,5 @@
+-- The course asks for the message's file first. A file that can't be loaded ends it, and otherwise it goes on
+-- to the signature with the message loaded.
 use Rattle.std.proofs.Common.{[], ◌∷◌, refl, subst}
 use Rattle.command_ends.specs.Calls.{TextCause}
 use Rattle.command_ends.proofs.Courses.{after-load}
@@ -10,6 +12,8 @@ returns-in-Ok-clause-cause g c =
     let later = g.F.Files.held c.load.new.files in
     let after = g.F.Files.faults c.load.new.files in
     let last = g.F.Files.faults c.verify_signature.new.files in
-    after-load next (g.F.Files.held c.args.files.now) later (g.F.Files.faults c.args.files.now) after last [] c.args.message.now c.in-Ok.message.items c.verify_signature.result
+    after-load next (g.F.Files.held c.args.files.now) later (g.F.Files.faults c.args.files.now)
+    after last [] c.args.message.now c.in-Ok.message.items c.verify_signature.result
     refl c.in-Ok.ensures.cause.0 c.in-Ok.ensures.cause.1 c.load.ensures.kept c.in-Ok.ensures.file_faults
-    (subst (λ m. TextCause next later after last (m ∷ []) c.verify_signature.result) c.as_slice.ensures.value (c.verify_signature.ensures.cause c.args.message.now))
+    (subst (λ m. TextCause next later after last (m ∷ []) c.verify_signature.result) c.as_slice.ensures.value
+    (c.verify_signature.ensures.cause c.args.message.now))

@@ -1,3 +1,5 @@
+-- The turns made keep up with those counted unless the actor is halted, so the last count is the number asked
+-- for. What a turn needs, a frame that stands and the inboxes' passes, stays given.
 use Rattle.std.proofs.Common.{◌≡◌, ◌≤◌, ◌⊎◌, true, false}
 use Rattle.world_rules.specs.Scenarios.{setup_of}
 use Rattle.kept_lists.specs.State.{halted_in}

@@ -1,3 +1,5 @@
+-- Letters are sent frame by frame, so those sent so far are a beginning of all letters of the turn. The places
+-- gone over are within its frames, which is what posting one asks.
 use Rattle.std.proofs.Common.{◌≡◌, ◌≤◌, length}
 use Rattle.scenario_file.specs.Reading.{contents}
 use Rattle.run_hands.specs.Hands.{ArePassesOf}
@@ -9,6 +11,7 @@ use Rattle.run_hands.proofs.posting.post_all.Given as goal
 abbrev pub invariant-loop-place : goal.invariant-loop-place
 invariant-loop-place g l =
     ArePassesOf l.shared.inboxes.now l.passes.items
-    × HaveSent l.initial.passes.items (letters_so_far (contents l.shared.scenario.now) l.actor l.turned l.place) l.passes.items
+    × HaveSent l.initial.passes.items (letters_so_far (contents l.shared.scenario.now) l.actor l.turned l.place)
+    l.passes.items
     × (l.place ≤ length l.turned.frames.items)
     × (l.place ≤ most_frames)

@@ -1,3 +1,5 @@
+-- A frame from the inbox is given only where the check by the ring of keys passes, so what a turn takes stands.
+-- An empty inbox gives none and leaves the pass as it is.
 use Rattle.std.proofs.Common.{refl, inl}
 use Rattle.run_hands.proofs.Taken.{taken_one}
 use Rattle.run_hands.proofs.taking.take_held.Goals as goal
@@ -8,7 +10,8 @@ into_held-requires g c = c.in-Some.ensures.taken.0
 pub returns-in-Some : goal.returns-in-Some
 returns-in-Some g c = record {
   of = c.in-Some.ensures.of;
-  takes = taken_one c.into_held.result c.args.shared.now.ring.now c.in-Some.posted c.args.pass.now c.take.new.pass c.in-Some.ensures.taken c.into_held.ensures;
+  takes = taken_one c.into_held.result c.args.shared.now.ring.now c.in-Some.posted c.args.pass.now c.take.new.pass
+      c.in-Some.ensures.taken c.into_held.ensures;
 }
 
 pub returns-in-None : goal.returns-in-None

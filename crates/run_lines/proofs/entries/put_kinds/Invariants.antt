@@ -6,4 +6,5 @@ use Rattle.run_lines.proofs.entries.put_kinds.Given as goal
 
 -- the kinds so far are there
 abbrev pub invariant-loop-body : goal.invariant-loop-body
-invariant-loop-body l = string_bytes l.text ≡ string_bytes l.initial.text ++ flat_map kind_text (take l.body-index l.said)
+invariant-loop-body l = string_bytes l.text ≡ string_bytes l.initial.text
+    ++ flat_map kind_text (take l.body-index l.said)

@@ -8,4 +8,5 @@ returns c = lines-end (execution_text c.args.cast) _ _ c.args.executions.now _ _
 
 pub loop-place-preserved : goal.loop-place-preserved
 loop-place-preserved c =
-    lines-more-at (execution_text c.args.cast) c.loop-place.place c.args.executions.now _ _ _ _ (omega arith) c.loop-place.invariant c.in_ok-put_execution.ensures
+    lines-more-at (execution_text c.args.cast) c.loop-place.place c.args.executions.now _ _ _ _ (omega arith)
+    c.loop-place.invariant c.in_ok-put_execution.ensures

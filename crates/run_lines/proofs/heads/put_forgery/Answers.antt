@@ -8,4 +8,5 @@ pub returns : goal.returns
 unfolding forgery_text
 returns c =
     c.in_ok-write.ensures.bytes
-    ∙ ap (λ (t : List ℕ). string_bytes c.args.text.now ++ t) (four-parts (codes "audit forged ") (decimal c.args.forged) (codes " alike ") (decimal c.args.alike))
+    ∙ ap (λ (t : List ℕ). string_bytes c.args.text.now ++ t)
+    (four-parts (codes "audit forged ") (decimal c.args.forged) (codes " alike ") (decimal c.args.alike))

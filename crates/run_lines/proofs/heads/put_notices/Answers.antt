@@ -8,4 +8,5 @@ returns c = lines-end notice_text _ _ c.args.notices.now _ _ (omega arith) c.loo
 
 pub loop-place-preserved : goal.loop-place-preserved
 loop-place-preserved c =
-    lines-more-at notice_text c.loop-place.place c.args.notices.now _ _ _ _ (omega arith) c.loop-place.invariant c.in_ok-put_notice.ensures
+    lines-more-at notice_text c.loop-place.place c.args.notices.now _ _ _ _ (omega arith)
+    c.loop-place.invariant c.in_ok-put_notice.ensures

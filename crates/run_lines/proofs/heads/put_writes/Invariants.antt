@@ -6,4 +6,5 @@ use Rattle.run_lines.proofs.heads.put_writes.Given as goal
 
 -- the writes so far have their lines
 abbrev pub invariant-loop-write : goal.invariant-loop-write
-invariant-loop-write l = string_bytes l.text ≡ string_bytes l.initial.text ++ flat_map write_text (take l.write-index l.writes)
+invariant-loop-write l = string_bytes l.text ≡ string_bytes l.initial.text
+    ++ flat_map write_text (take l.write-index l.writes)

@@ -6,7 +6,8 @@ use Rattle.run_lines.proofs.runs.count.Goals as goal
 
 pub returns-in-Ok : goal.returns-in-Ok
 returns-in-Ok c =
-    subst (Answers c.narrow.result) (ap narrow_in c.in-Ok.ensures.cases.0 ∙ sym (count_text_line c.args.digits.now c.in-Ok.ensures.cases.1)) c.narrow.ensures
+    subst (Answers c.narrow.result) (ap narrow_in c.in-Ok.ensures.cases.0
+    ∙ sym (count_text_line c.args.digits.now c.in-Ok.ensures.cases.1)) c.narrow.ensures
 
 pub returns-in-Err : goal.returns-in-Err
 returns-in-Err c = count_no_text c.args.digits.now c.in-Err.ensures.cases.0

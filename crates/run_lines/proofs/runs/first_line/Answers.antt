@@ -1,3 +1,5 @@
+-- Up to the first line feed is the first piece, and the pieces of what stands behind it are the others. Where
+-- no line feed is left the text is one piece.
 use Rattle.std.proofs.Common.{◌∙◌, ◌∷◌, ◌+◌, ℕ, List, ap, sym, take}
 use Rattle.script_grammar.proofs.LineLaws.{rest_whole}
 use Rattle.run_lines.specs.Runs.{pieces}

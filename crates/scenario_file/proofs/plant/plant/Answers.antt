@@ -1,3 +1,5 @@
+-- Devices, points, alarms and interlocks are read in this order, each with what the ones before allow. What was
+-- read is few and usable, so table and board can be made of it.
 use Rattle.std.proofs.Common.{◌≤◌, length, arith}
 use Rattle.scenario_file.proofs.PlantLaws.{devices_of-few, points_of-few, points_of-usable, alarms_of-few}
 use Rattle.scenario_file.proofs.plant.plant.Goals as goal

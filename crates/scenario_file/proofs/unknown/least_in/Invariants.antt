@@ -7,4 +7,5 @@ abbrev pub invariant-loop-key : goal.invariant-loop-key
 invariant-loop-key l =
     (goal.iterator-loop-key).can_next l.key-iterator
     × (goal.iterator-loop-key).is_finite l.key-iterator
-    × (least_of l.best (unknown_in l.kind l.keys.at.now (members_view l.key-iterator)) ≡ least_of l.initial.best (unknown_in l.kind l.keys.at.now (members_view l.keys.table.now.entries)))
+    × (least_of l.best (unknown_in l.kind l.keys.at.now (members_view l.key-iterator)) ≡ least_of l.initial.best
+    (unknown_in l.kind l.keys.at.now (members_view l.keys.table.now.entries)))

@@ -5,4 +5,5 @@ use Rattle.script_grammar.specs.Kinds.{kind_name}
 use Rattle.script_grammar.proofs.kinds.named_among.Given as goal
 
 abbrev pub invariant-loop-kind : goal.invariant-loop-kind
-invariant-loop-kind l = find (λ k. bytes_eq (kind_name k) l.name) (drop l.kind-index l.kinds) ≡ find (λ k. bytes_eq (kind_name k) l.name) l.kinds
+invariant-loop-kind l = find (λ k. bytes_eq (kind_name k) l.name) (drop l.kind-index l.kinds) ≡ find
+    (λ k. bytes_eq (kind_name k) l.name) l.kinds

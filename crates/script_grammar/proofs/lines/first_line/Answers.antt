@@ -1,3 +1,5 @@
+-- Up to the first line feed is the first line, without a return at its end, and the other lines are those of
+-- the text behind it. A last line needs no feed, and an empty text has none.
 use Rattle.std.proofs.Common.{◌≡◌, ◌<◌, ◌+◌, ◌∙◌, ℕ, List, ◌∷◌, [], length, drop, ap, sym, arith}
 use Rattle.std.specs.Str.Lines.{lines}
 use Rattle.std.proofs.lemmas.List.{drop_all}

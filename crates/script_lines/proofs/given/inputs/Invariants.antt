@@ -4,4 +4,5 @@ use Rattle.script_lines.specs.Given.{own_words, given}
 use Rattle.script_lines.proofs.given.inputs.Given as goal
 
 abbrev pub invariant-loop-actor : goal.invariant-loop-actor
-invariant-loop-actor l = map (λ v. v.items) l.lists.items ≡ map (λ a. given a l.script (own_words a l.words)) (numbers_below l.actor)
+invariant-loop-actor l = map (λ v. v.items) l.lists.items ≡ map (λ a. given a l.script (own_words a l.words))
+    (numbers_below l.actor)

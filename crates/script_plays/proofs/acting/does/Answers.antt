@@ -1,3 +1,5 @@
+-- A halted actor does nothing, and with the most entries there may be the play stops. Else the actor is there,
+-- runs and has room, which is all that acting asks, so the play goes as the definition's.
 use Rattle.std.proofs.Common.{◌≡◌, arith, refl, ap, true, sym, ◌∙◌}
 use Rattle.std.proofs.lemmas.Bool.{and_parts}
 use Rattle.std.proofs.lemmas.Result.{err_from_is_err_and}
@@ -13,25 +15,36 @@ use Rattle.script_plays.proofs.acting.does.Goals as goal
 
 pub index-requires : goal.index-requires
 index-requires c =
-    let there = (and_parts (is_there (contents c.args.world.now.scenario.now) c.args.actor) (fits_in (contents c.args.world.now.scenario.now) c.args.actor (event_of c.args.event)) c.requires.role).0 in
-    omega (arith, place_there (given_in c.args.world.now) c.args.playing.now c.args.actor c.requires.playing there, c.args.playing.now.kept.ok)
+    let there = (and_parts (is_there (contents c.args.world.now.scenario.now) c.args.actor)
+    (fits_in (contents c.args.world.now.scenario.now) c.args.actor (event_of c.args.event)) c.requires.role).0 in
+    omega (
+      arith,
+      place_there (given_in c.args.world.now) c.args.playing.now c.args.actor c.requires.playing there,
+      c.args.playing.now.kept.ok,
+    )
 
 pub returns-then-halted : goal.returns-then-halted
 returns-then-halted c = λ m is.
-    let there = (and_parts (is_there (contents c.args.world.now.scenario.now) c.args.actor) (fits_in (contents c.args.world.now.scenario.now) c.args.actor (event_of c.args.event)) c.requires.role).0 in
-    halted_goes (given_in c.args.world.now) m c.args.playing.now c.args.actor (event_of c.args.event) c.index.result.now c.halted.result is there c.index.ensures c.halted.ensures c.if-halted.true
+    let there = (and_parts (is_there (contents c.args.world.now.scenario.now) c.args.actor)
+    (fits_in (contents c.args.world.now.scenario.now) c.args.actor (event_of c.args.event)) c.requires.role).0 in
+    halted_goes (given_in c.args.world.now) m c.args.playing.now c.args.actor (event_of c.args.event)
+    c.index.result.now c.halted.result is there c.index.ensures c.halted.ensures c.if-halted.true
 
 pub returns-then-playing-ge-MOST_ENTRIES : goal.returns-then-playing-ge-MOST_ENTRIES
 unfolding most_entries
 returns-then-playing-ge-MOST_ENTRIES c = λ m is.
-    let there = (and_parts (is_there (contents c.args.world.now.scenario.now) c.args.actor) (fits_in (contents c.args.world.now.scenario.now) c.args.actor (event_of c.args.event)) c.requires.role).0 in
+    let there = (and_parts (is_there (contents c.args.world.now.scenario.now) c.args.actor)
+    (fits_in (contents c.args.world.now.scenario.now) c.args.actor (event_of c.args.event)) c.requires.role).0 in
     full_goes (given_in c.args.world.now) m c.args.playing.now c.args.actor (event_of c.args.event) is
-    (runs_on (given_in c.args.world.now) m c.args.playing.now c.args.actor c.index.result.now c.halted.result is there c.index.ensures c.halted.ensures c.if-halted.false) c.if-playing-ge-MOST_ENTRIES.true
+    (runs_on (given_in c.args.world.now) m c.args.playing.now c.args.actor c.index.result.now c.halted.result is there
+    c.index.ensures c.halted.ensures c.if-halted.false) c.if-playing-ge-MOST_ENTRIES.true
 
 pub act-requires-clause-running : goal.act-requires-clause-running
 act-requires-clause-running c = λ m is.
-    let there = (and_parts (is_there (contents c.args.world.now.scenario.now) c.args.actor) (fits_in (contents c.args.world.now.scenario.now) c.args.actor (event_of c.args.event)) c.requires.role).0 in
-    runs_on (given_in c.args.world.now) m c.args.playing.now c.args.actor c.index.result.now c.halted.result is there c.index.ensures c.halted.ensures c.if-halted.false
+    let there = (and_parts (is_there (contents c.args.world.now.scenario.now) c.args.actor)
+    (fits_in (contents c.args.world.now.scenario.now) c.args.actor (event_of c.args.event)) c.requires.role).0 in
+    runs_on (given_in c.args.world.now) m c.args.playing.now c.args.actor c.index.result.now c.halted.result is there
+    c.index.ensures c.halted.ensures c.if-halted.false
 
 pub act-requires-clause-room : goal.act-requires-clause-room
 unfolding most_entries
@@ -45,7 +58,9 @@ returns-in_err-act c = λ m is.
 pub returns : goal.returns
 unfolding most_entries
 returns c = λ m is.
-    let there = (and_parts (is_there (contents c.args.world.now.scenario.now) c.args.actor) (fits_in (contents c.args.world.now.scenario.now) c.args.actor (event_of c.args.event)) c.requires.role).0 in
+    let there = (and_parts (is_there (contents c.args.world.now.scenario.now) c.args.actor)
+    (fits_in (contents c.args.world.now.scenario.now) c.args.actor (event_of c.args.event)) c.requires.role).0 in
     act_goes (given_in c.args.world.now) m c.args.playing.now _ c.args.actor (event_of c.args.event) is
-    (runs_on (given_in c.args.world.now) m c.args.playing.now c.args.actor c.index.result.now c.halted.result is there c.index.ensures c.halted.ensures c.if-halted.false)
+    (runs_on (given_in c.args.world.now) m c.args.playing.now c.args.actor c.index.result.now c.halted.result is there
+    c.index.ensures c.halted.ensures c.if-halted.false)
     (omega (arith, c.if-playing-ge-MOST_ENTRIES.false)) (c.in_ok-act.ensures m is)

@@ -8,4 +8,5 @@ loop-master-init c = c.new-to.ensures ∙ sym (voters-zero (λ (m : ℕ). not (n
 
 pub loop-master-preserved : goal.loop-master-preserved
 loop-master-preserved c =
-    voters_next (λ (m : ℕ). not (nat_eq m c.args.actor)) c.loop-master.master _ c.loop-master.to c.push_if.new.to refl c.in_ok-push_if.ensures c.loop-master.invariant
+    voters_next (λ (m : ℕ). not (nat_eq m c.args.actor)) c.loop-master.master _ c.loop-master.to c.push_if.new.to refl
+    c.in_ok-push_if.ensures c.loop-master.invariant

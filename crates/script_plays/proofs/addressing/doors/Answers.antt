@@ -1,3 +1,5 @@
+-- Each master in turn is added where it is a door of the client, so after all of them the list is that of the
+-- group's doors, rising.
 use Rattle.std.proofs.Common.{◌≡◌, ℕ, List, ◌++◌, ◌∷◌, [], cond, sym, ap, ◌∙◌}
 use Rattle.protocol_rules.specs.Group.{group_of, is_door}
 use Rattle.quorum_sets.specs.Masters.{voters}
@@ -6,9 +8,11 @@ use Rattle.script_plays.proofs.Lists.{voters_next}
 use Rattle.script_plays.proofs.addressing.doors.Goals as goal
 
 pub loop-master-init : goal.loop-master-init
-loop-master-init c = λ clients. c.new-to.ensures ∙ sym (voters-zero (is_door (group_of c.args.sizes.now clients) c.args.client))
+loop-master-init c = λ clients. c.new-to.ensures
+    ∙ sym (voters-zero (is_door (group_of c.args.sizes.now clients) c.args.client))
 
 pub loop-master-preserved : goal.loop-master-preserved
 loop-master-preserved c = λ clients.
-    voters_next (is_door (group_of c.args.sizes.now clients) c.args.client) c.loop-master.master c.is_door.result c.loop-master.to c.push_if.new.to
+    voters_next (is_door (group_of c.args.sizes.now clients) c.args.client) c.loop-master.master c.is_door.result
+    c.loop-master.to c.push_if.new.to
     (c.is_door.ensures clients) c.in_ok-push_if.ensures (c.loop-master.invariant clients)

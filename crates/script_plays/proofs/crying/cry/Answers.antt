@@ -1,3 +1,5 @@
+-- The master's next word is the first one of its own past those it said. With none left the play stops for want
+-- of a frame, with no room for it as too long, and else the word is cried.
 use Rattle.std.proofs.Common.{◌≡◌, arith}
 use Rattle.script_plays.specs.Making.{most_entries}
 use Rattle.script_plays.specs.Playing.{given_in}
@@ -5,25 +7,40 @@ use Rattle.script_plays.proofs.Spoken.{said_there, no_word_goes, full_cry_goes, 
 use Rattle.script_plays.proofs.crying.cry.Goals as goal
 
 pub index-from-requires : goal.index-from-requires
-index-from-requires c = omega (arith, said_there (given_in c.args.world.now) c.args.playing.now c.args.master c.requires.playing c.requires.master, c.args.playing.now.said.ok)
+index-from-requires c = omega (
+  arith,
+  said_there (given_in c.args.world.now) c.args.playing.now c.args.master c.requires.playing
+      c.requires.master,
+  c.args.playing.now.said.ok,
+)
 
 pub returns-in_default : goal.returns-in_default
 returns-in_default c = λ m is.
     no_word_goes (given_in c.args.world.now) m c.args.playing.now c.args.master is c.requires.master
-    (found_none_at c.args.playing.now.said.items c.index-from.result.now c.next_word.result c.args.world.now.words.now c.args.master c.index-from.ensures (said_there (given_in c.args.world.now) c.args.playing.now c.args.master c.requires.playing c.requires.master) c.next_word.ensures c.in_default.is)
+    (found_none_at c.args.playing.now.said.items c.index-from.result.now c.next_word.result c.args.world.now.words.now
+    c.args.master c.index-from.ensures
+    (said_there (given_in c.args.world.now) c.args.playing.now c.args.master c.requires.playing c.requires.master)
+    c.next_word.ensures c.in_default.is)
 
 pub returns-then-playing-ge-MOST_ENTRIES : goal.returns-then-playing-ge-MOST_ENTRIES
 unfolding most_entries
 returns-then-playing-ge-MOST_ENTRIES c = λ m is.
-    full_cry_goes (given_in c.args.world.now) m c.args.playing.now c.args.master c.in-Some.place is c.requires.master c.if-playing-ge-MOST_ENTRIES.true
-    (found_some_at c.args.playing.now.said.items c.index-from.result.now c.next_word.result c.args.world.now.words.now c.args.master c.in-Some.place c.index-from.ensures (said_there (given_in c.args.world.now) c.args.playing.now c.args.master c.requires.playing c.requires.master) c.next_word.ensures c.in-Some.is)
+    full_cry_goes (given_in c.args.world.now) m c.args.playing.now c.args.master c.in-Some.place is c.requires.master
+    c.if-playing-ge-MOST_ENTRIES.true
+    (found_some_at c.args.playing.now.said.items c.index-from.result.now c.next_word.result c.args.world.now.words.now
+    c.args.master c.in-Some.place c.index-from.ensures
+    (said_there (given_in c.args.world.now) c.args.playing.now c.args.master c.requires.playing c.requires.master)
+    c.next_word.ensures c.in-Some.is)
 
 pub say-requires-clause-room : goal.say-requires-clause-room
 unfolding most_entries
 say-requires-clause-room c = omega (arith, c.if-playing-ge-MOST_ENTRIES.false)
 
 pub say-requires-clause-next : goal.say-requires-clause-next
-say-requires-clause-next c = found_some_at c.args.playing.now.said.items c.index-from.result.now c.next_word.result c.args.world.now.words.now c.args.master c.in-Some.place c.index-from.ensures (said_there (given_in c.args.world.now) c.args.playing.now c.args.master c.requires.playing c.requires.master) c.next_word.ensures c.in-Some.is
+say-requires-clause-next c = found_some_at c.args.playing.now.said.items c.index-from.result.now c.next_word.result
+    c.args.world.now.words.now c.args.master c.in-Some.place c.index-from.ensures
+    (said_there (given_in c.args.world.now) c.args.playing.now c.args.master c.requires.playing c.requires.master)
+    c.next_word.ensures c.in-Some.is
 
 pub returns : goal.returns
 returns c = λ m is. c.say.ensures m is

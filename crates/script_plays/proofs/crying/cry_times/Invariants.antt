@@ -7,4 +7,5 @@ use Rattle.script_plays.proofs.crying.cry_times.Given as goal
 -- so many times are done, with the rest left
 abbrev pub invariant-loop-said : goal.invariant-loop-said
 invariant-loop-said l =
-    Underway (given_in l.world) (times_over (l.times - l._said) (cries (given_in l.world) l.master)) (times_over l.times (cries (given_in l.world) l.master)) l.initial.playing l.playing
+    Underway (given_in l.world) (times_over (l.times - l._said) (cries (given_in l.world) l.master))
+    (times_over l.times (cries (given_in l.world) l.master)) l.initial.playing l.playing

@@ -1,3 +1,5 @@
+-- The lines so far and those left are together all lines. A line that is played leaves the rest to the making
+-- after it, and one that stops ends both at that line.
 use Rattle.std.proofs.Common.{arith}
 use Rattle.std.proofs.lemmas.List.{get_or_default}
 use Rattle.std.proofs.lemmas.Result.{err_from_is_err_and}
@@ -14,18 +16,22 @@ play_line-requires-clause-playing c = c.loop-line.invariant.playing
 
 pub play_line-requires-clause-accepted : goal.play_line-requires-clause-accepted
 play_line-requires-clause-accepted c =
-    line_accepted (contents c.args.world.now.scenario.now) c.args.lines.now c.loop-line.line-index _ c.requires.accepted c.loop-line-test.true
+    line_accepted (contents c.args.world.now.scenario.now) c.args.lines.now c.loop-line.line-index _
+    c.requires.accepted c.loop-line-test.true
     (get_or_default c.args.lines.now c.loop-line.line-index _ _ c.loop-line-test.true)
 
 pub returns-in_err-play_line : goal.returns-in_err-play_line
 returns-in_err-play_line c = λ m is.
     let p = err_from_is_err_and c.from_residual.result c.from_residual.ensures.1 in
-    stops_at_line _ c.play_line.new.playing c.args.lines.now c.loop-line.line-index _ c.from_residual.result c.in_err-play_line.field-0.0 p.0 p.1 p.2 c.loop-line-test.true
-    (get_or_default c.args.lines.now c.loop-line.line-index _ _ c.loop-line-test.true) c.loop-line.invariant c.in_err-play_line.ensures m is
+    stops_at_line _ c.play_line.new.playing c.args.lines.now c.loop-line.line-index _ c.from_residual.result
+    c.in_err-play_line.field-0.0 p.0 p.1 p.2 c.loop-line-test.true
+    (get_or_default c.args.lines.now c.loop-line.line-index _ _ c.loop-line-test.true) c.loop-line.invariant
+    c.in_err-play_line.ensures m is
 
 pub loop-line-preserved : goal.loop-line-preserved
 loop-line-preserved c =
-    plays_line c.args.lines.now c.loop-line.line-index _ c.loop-line-test.true (get_or_default c.args.lines.now c.loop-line.line-index _ _ c.loop-line-test.true) c.loop-line.invariant
+    plays_line c.args.lines.now c.loop-line.line-index _ c.loop-line-test.true
+    (get_or_default c.args.lines.now c.loop-line.line-index _ _ c.loop-line-test.true) c.loop-line.invariant
     c.in_ok-play_line.ensures
 
 pub returns : goal.returns

@@ -7,4 +7,5 @@ use Rattle.script_plays.proofs.plays.play_lines.Given as goal
 -- the lines so far are played, with the rest left
 abbrev pub invariant-loop-line : goal.invariant-loop-line
 invariant-loop-line l =
-    OnTheWay (given_in l.world) (played_from (given_in l.world) (drop l.line-index l.lines)) (played_from (given_in l.world) l.lines) l.initial.playing l.playing
+    OnTheWay (given_in l.world) (played_from (given_in l.world) (drop l.line-index l.lines))
+    (played_from (given_in l.world) l.lines) l.initial.playing l.playing

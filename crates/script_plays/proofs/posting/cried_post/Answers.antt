@@ -5,5 +5,6 @@ use Rattle.script_plays.proofs.posting.cried_post.Goals as goal
 
 pub returns : goal.returns
 returns c =
-    post_made c.args.to.now (setup_of (contents c.args.world.now.scenario.now)) c.args.from c.args.stamp 0 c.kind_of.result c.in_ok-as_actors.field-0 c.in_ok-hold_if_standing.field-0 c.args.frame
+    post_made c.args.to.now (setup_of (contents c.args.world.now.scenario.now)) c.args.from c.args.stamp 0
+    c.kind_of.result c.in_ok-as_actors.field-0 c.in_ok-hold_if_standing.field-0 c.args.frame
     c.kind_of.ensures c.in_ok-as_actors.ensures c.in_ok-hold_if_standing.ensures

@@ -7,4 +7,5 @@ use Rattle.script_plays.proofs.steps.all_tick.Given as goal
 -- those that ticked are done, with the rest left
 abbrev pub invariant-loop-actor : goal.invariant-loop-actor
 invariant-loop-actor l =
-    Underway (given_in l.world) (all_tick (given_in l.world) (drop l.actor-index l.actors)) (all_tick (given_in l.world) l.actors) l.initial.playing l.playing
+    Underway (given_in l.world) (all_tick (given_in l.world) (drop l.actor-index l.actors))
+    (all_tick (given_in l.world) l.actors) l.initial.playing l.playing

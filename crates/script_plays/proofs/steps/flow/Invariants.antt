@@ -7,4 +7,5 @@ use Rattle.script_plays.proofs.steps.flow.Given as goal
 -- so many times are done, with the rest left
 abbrev pub invariant-loop-round : goal.invariant-loop-round
 invariant-loop-round l =
-    Underway (given_in l.world) (times_over (l.rounds - l._round) (round (given_in l.world))) (times_over l.rounds (round (given_in l.world))) l.initial.playing l.playing
+    Underway (given_in l.world) (times_over (l.rounds - l._round) (round (given_in l.world)))
+    (times_over l.rounds (round (given_in l.world))) l.initial.playing l.playing

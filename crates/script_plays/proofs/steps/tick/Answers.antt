@@ -1,3 +1,5 @@
+-- The actors that a line has tick are those that the definition names, and each of them is there. So many times
+-- over all of them tick.
 use Rattle.std.proofs.Common.{◌≡◌, ℕ, List, true, ap, sym, ◌∙◌, subst}
 use Rattle.std.proofs.lemmas.Result.{err_from_is_err_and}
 use Rattle.std.specs.List.{list_all}
@@ -21,5 +23,6 @@ returns-in_err-actors c = λ m is.
 
 pub returns : goal.returns
 returns c = λ m is.
-    subst (λ (actors : List ℕ). Goes (given_in c.args.world.now) c.tick_times.result (times_over c.args.times (all_tick (given_in c.args.world.now) actors) m) c.tick_times.new.playing)
+    subst (λ (actors : List ℕ). Goes (given_in c.args.world.now) c.tick_times.result
+    (times_over c.args.times (all_tick (given_in c.args.world.now) actors) m) c.tick_times.new.playing)
     (c.deref.ensures.value ∙ c.in_ok-actors.ensures) (c.tick_times.ensures m is)

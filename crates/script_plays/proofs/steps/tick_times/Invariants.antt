@@ -7,4 +7,5 @@ use Rattle.script_plays.proofs.steps.tick_times.Given as goal
 -- so many times are done, with the rest left
 abbrev pub invariant-loop-time : goal.invariant-loop-time
 invariant-loop-time l =
-    Underway (given_in l.world) (times_over (l.times - l._time) (all_tick (given_in l.world) l.actors)) (times_over l.times (all_tick (given_in l.world) l.actors)) l.initial.playing l.playing
+    Underway (given_in l.world) (times_over (l.times - l._time) (all_tick (given_in l.world) l.actors))
+    (times_over l.times (all_tick (given_in l.world) l.actors)) l.initial.playing l.playing

@@ -1,3 +1,5 @@
+-- In each lane the room holds the block's words and the variables that five rounds left. The rounds that are
+-- left lead to the last variables, and added to the first state they are the compression.
 use Rattle.std.proofs.Common.{◌≡◌, ◌<◌, ◌∙◌, ℕ, ap₂, arith, slice_index, sym}
 use Rattle.sha2.specs.Sha256.{add_state, compress, initial_hash_256, schedule}
 use Rattle.sha2.proofs.Schedule256.{slice_index-schedule_first}

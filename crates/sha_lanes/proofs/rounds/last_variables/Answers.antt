@@ -1,3 +1,5 @@
+-- The variables of the last round are the four latest values written of a and of e, each at its place in the
+-- room, the same in every lane.
 use Rattle.std.proofs.Common.{refl}
 use Rattle.sha_lanes.proofs.LaneLaws.{column_at}
 use Rattle.sha_lanes.proofs.rounds.last_variables.Goals as goal

@@ -1,3 +1,5 @@
+-- Each turn copies one word in all lanes, and those copied before stay. So the first 16 places of each lane are
+-- its block's words.
 use Rattle.std.proofs.Common.{◌∙◌, arith}
 use Rattle.std.proofs.lemmas.List.{length-set}
 use Rattle.sha_lanes.proofs.RoundLaws.{word_copied}

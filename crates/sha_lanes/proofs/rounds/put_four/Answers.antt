@@ -1,3 +1,5 @@
+-- Four places next to each other are written, none twice, so each has its own value and all places below are
+-- untouched. In a lane it is four settings of one list.
 use Rattle.std.proofs.Common.{◌≡◌, ◌+◌, ◌∙◌, ◌≤◌, List, ℕ, ap, arith, length, slice_index}
 use Rattle.std.proofs.lemmas.List.{length-map}
 use Rattle.sha_lanes.specs.Lanes.{column}
@@ -9,28 +11,32 @@ pub returns-clause-last : goal.returns-clause-last
 returns-clause-last c j =
     let r = c.args.room.now in
     let inside : c.args.at + 4 ≤ length (column j r) = omega (arith, length-map r (λ v. slice_index v j)) in
-    ap (λ (x : List ℕ). slice_index x (c.args.at + 3)) (column_four r j c.args.at c.args.last c.args.third c.args.second c.args.first)
+    ap (λ (x : List ℕ). slice_index x (c.args.at + 3))
+    (column_four r j c.args.at c.args.last c.args.third c.args.second c.args.first)
     ∙ four_last (column j r) c.args.at _ _ _ _ inside
 
 pub returns-clause-third : goal.returns-clause-third
 returns-clause-third c j =
     let r = c.args.room.now in
     let inside : c.args.at + 4 ≤ length (column j r) = omega (arith, length-map r (λ v. slice_index v j)) in
-    ap (λ (x : List ℕ). slice_index x (c.args.at + 2)) (column_four r j c.args.at c.args.last c.args.third c.args.second c.args.first)
+    ap (λ (x : List ℕ). slice_index x (c.args.at + 2))
+    (column_four r j c.args.at c.args.last c.args.third c.args.second c.args.first)
     ∙ four_third (column j r) c.args.at _ _ _ _ inside
 
 pub returns-clause-second : goal.returns-clause-second
 returns-clause-second c j =
     let r = c.args.room.now in
     let inside : c.args.at + 4 ≤ length (column j r) = omega (arith, length-map r (λ v. slice_index v j)) in
-    ap (λ (x : List ℕ). slice_index x (c.args.at + 1)) (column_four r j c.args.at c.args.last c.args.third c.args.second c.args.first)
+    ap (λ (x : List ℕ). slice_index x (c.args.at + 1))
+    (column_four r j c.args.at c.args.last c.args.third c.args.second c.args.first)
     ∙ four_second (column j r) c.args.at _ _ _ _ inside
 
 pub returns-clause-first : goal.returns-clause-first
 returns-clause-first c j =
     let r = c.args.room.now in
     let inside : c.args.at + 4 ≤ length (column j r) = omega (arith, length-map r (λ v. slice_index v j)) in
-    ap (λ (x : List ℕ). slice_index x (c.args.at)) (column_four r j c.args.at c.args.last c.args.third c.args.second c.args.first)
+    ap (λ (x : List ℕ). slice_index x (c.args.at))
+    (column_four r j c.args.at c.args.last c.args.third c.args.second c.args.first)
     ∙ four_first (column j r) c.args.at _ _ _ _ inside
 
 pub returns-clause-below : goal.returns-clause-below

@@ -1,3 +1,5 @@
+-- In each lane the sums are those of a round of SHA-256. The new a and e go behind the earlier ones, so the
+-- eight variables of the next round are a window that moved on by one place.
 use Rattle.std.proofs.Common.{◌≡◌, ◌+◌, ◌∙◌, ◌<◌, List, ℕ, ap, arith, length, refl, slice_index, slice_set}
 use Rattle.std.proofs.lemmas.List.{length-map}
 use Rattle.sha2.specs.Sha256.{add32, round_constants, temp1, temp2}
@@ -45,7 +47,8 @@ returns-clause-variables c j lt =
     c.add-4.ensures j lt ∙ (λ i. add32 (column_at r (64 + t) j i) (first i)) in
     ap (λ (x : List ℕ). trail x (t + 1))
     (column-set (slice_set r (131 + t) c.add-4.result) (68 + t) j c.add-5.result
-    ∙ ap (λ (x : List ℕ). slice_set x (68 + t) (slice_index c.add-5.result j)) (column-set r (131 + t) j c.add-4.result))
+    ∙ ap (λ (x : List ℕ). slice_set x (68 + t) (slice_index c.add-5.result j))
+    (column-set r (131 + t) j c.add-4.result))
     ∙ trail_next col t k w _ _ inside made_a made_e
 
 pub returns-clause-words : goal.returns-clause-words
@@ -54,5 +57,6 @@ returns-clause-words c j k lt =
     let t = c.args.t in
     ap (λ (x : List ℕ). slice_index x k)
     (column-set (slice_set r (131 + t) c.add-4.result) (68 + t) j c.add-5.result
-    ∙ ap (λ (x : List ℕ). slice_set x (68 + t) (slice_index c.add-5.result j)) (column-set r (131 + t) j c.add-4.result))
+    ∙ ap (λ (x : List ℕ). slice_set x (68 + t) (slice_index c.add-5.result j))
+    (column-set r (131 + t) j c.add-4.result))
     ∙ words_kept (column j r) t _ _ k lt

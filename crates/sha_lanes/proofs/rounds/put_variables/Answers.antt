@@ -1,3 +1,5 @@
+-- The variables are written backwards, four of a and four of e, as if rounds before had left them. The words'
+-- places lie below both, so they stay as they are.
 use Rattle.std.proofs.Common.{◌∙◌, ◌∷◌, [], arith}
 use Rattle.sha_lanes.proofs.rounds.put_variables.Goals as goal
 

@@ -1,3 +1,5 @@
+-- In each lane the word is the sum of two mixed and two plain words before it, which is the next word of the
+-- message schedule. No other place changes.
 use Rattle.std.proofs.Common.{◌∙◌, ◌-◌, ap, refl, slice_set}
 use Rattle.sha_lanes.specs.Lanes.{column}
 use Rattle.sha_lanes.specs.Lanes.{column}

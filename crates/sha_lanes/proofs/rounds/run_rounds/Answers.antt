@@ -1,3 +1,5 @@
+-- Word t + 16 is ready long before the round that needs it, so words and rounds go on together for 48 turns,
+-- and the last rounds find all words there.
 use Rattle.std.proofs.Common.{◌≡◌, ◌+◌, ◌≤◌, ◌∙◌, arith, length, slice_index}
 use Rattle.std.proofs.lemmas.List.{length-map}
 use Rattle.sha_lanes.specs.Lanes.{column}
@@ -11,7 +13,8 @@ pub both-preserved : goal.both-preserved
 both-preserved c = (
   c.put_round.array_long,
   λ j lt b h words variables.
-      let long : 64 ≤ length (column j c.both.room) = omega (arith, length-map c.both.room (λ v. slice_index v j), c.both.invariant.0) in
+      let long : 64 ≤ length (column j c.both.room) =
+      omega (arith, length-map c.both.room (λ v. slice_index v j), c.both.invariant.0) in
       rounding_more b h (column j c.both.room) (column j c.put_word.new.room) (column j c.put_round.new.room) c.both.t
       c.both-test.true long (c.both.invariant.1 j lt b h words variables) (c.put_word.ensures j lt)
       (c.put_round.ensures.variables j lt) (λ k below. c.put_round.ensures.words j k below),

@@ -1,3 +1,5 @@
+-- In each lane the words up to the one written last are the schedule's, and the variables are those of the
+-- rounds so far, five of which were done before. In the second loop all words are there.
 use Rattle.std.proofs.Common.{◌≡◌, ℕ, ◌<◌, ◌+◌, List, length, slice_index}
 use Rattle.sha2.specs.Sha256.{rounds, schedule}
 use Rattle.sha_lanes.specs.Lanes.{column}

@@ -1,3 +1,5 @@
+-- Chain, step and byte fill bits of the word that don't overlap, as each is within its width. So the sum of the
+-- shifted parts is the word of their bytes.
 use Rattle.std.proofs.Common.{slice_index}
 use Rattle.sha_lanes.proofs.Blocks.{head_word_is, word_fits}
 use Rattle.sha_lanes.proofs.steps.head_word.Goals as goal

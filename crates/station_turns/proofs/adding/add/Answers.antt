@@ -4,8 +4,10 @@ use Rattle.station_turns.proofs.Posting.{all_spelled, own_stand}
 use Rattle.station_turns.proofs.adding.add.Goals as goal
 
 pub push_if-requires-clause-all : goal.push_if-requires-clause-all
-push_if-requires-clause-all c = all_spelled (setup_in c.args.kept.now.bench) c.in_ok-frames.frames.items c.in_ok-frames.ensures.stand
+push_if-requires-clause-all c =
+    all_spelled (setup_in c.args.kept.now.bench) c.in_ok-frames.frames.items c.in_ok-frames.ensures.stand
 
 pub returns-clause-stand : goal.returns-clause-stand
 returns-clause-stand c none =
-    own_stand (setup_in c.args.kept.now.bench) c.in_ok-frame.frame c.in_ok-frames.frames.items _ c.in_ok-frames.ensures.stand c.in_ok-push_if.ensures.added (sym c.is_some-cries.ensures ∙ none)
+    own_stand (setup_in c.args.kept.now.bench) c.in_ok-frame.frame c.in_ok-frames.frames.items _
+    c.in_ok-frames.ensures.stand c.in_ok-push_if.ensures.added (sym c.is_some-cries.ensures ∙ none)

@@ -1,53 +1,78 @@
+-- Each stamp drawn is later than all before. One that isn't above the held frame's becomes a skip, which any
+-- actor may have, until a later one comes, the actor halts or so many skips were made.
 use Rattle.std.proofs.Common.{◌≡◌, ◌+◌, refl, sym, ◌∙◌, arith}
 use Rattle.std.proofs.lemmas.Bool.{true≢false}
 use Rattle.station_turns.specs.Turns.{Stationed, stationed}
 use Rattle.station_turns.proofs.Given.{skip_fits}
-use Rattle.station_turns.proofs.Skipped.{Drawn, drawn_more, drawn_world, ends_late, ends_cut, skips_on, seated_so, kept_so}
+use Rattle.station_turns.proofs.Skipped.{Drawn, drawn_more, drawn_world, ends_late, ends_cut, skips_on, seated_so}
+use Rattle.station_turns.proofs.Skipped.{kept_so}
 use Rattle.station_turns.proofs.skipping.draw.Goals as goal
 
 pub returns-then-not-is_early-clause-draws : goal.returns-then-not-is_early-clause-draws
 returns-then-not-is_early-clause-draws c =
-    ends_late (stationed c.args.live.now) (stationed c.loop-skip.live) (seated_so (stationed c.loop-skip.live) c.draw-stamp.new.seat) c.args.held.now c.loop-skip._skip c.draw-stamp.result
-    c.args.live.now.used c.args.live.now.count c.requires.alive c.requires.running c.loop-skip.invariant.0 refl c.draw-stamp.ensures.drawn refl refl c.draw-stamp.ensures.above
+    ends_late (stationed c.args.live.now) (stationed c.loop-skip.live)
+    (seated_so (stationed c.loop-skip.live) c.draw-stamp.new.seat)
+    c.args.held.now c.loop-skip._skip c.draw-stamp.result
+    c.args.live.now.used c.args.live.now.count c.requires.alive c.requires.running c.loop-skip.invariant.0 refl
+    c.draw-stamp.ensures.drawn refl refl c.draw-stamp.ensures.above
     (λ early. absurd (true≢false (sym early ∙ sym c.is_early.ensures ∙ c.if-not-is_early.true)))
 
 pub act-requires-clause-scenario : goal.act-requires-clause-scenario
 act-requires-clause-scenario c =
     c.requires.scenario
-    ∙ sym (drawn_world (stationed c.args.live.now) (seated_so (stationed c.loop-skip.live) c.draw-stamp.new.seat) c.args.held.now c.loop-skip._skip c.draw-stamp.result
-    (drawn_more (stationed c.args.live.now) (stationed c.loop-skip.live) (seated_so (stationed c.loop-skip.live) c.draw-stamp.new.seat) c.args.held.now c.loop-skip._skip c.draw-stamp.result
-    c.args.live.now.used c.args.live.now.count c.requires.alive c.requires.running c.loop-skip.invariant.0 refl c.draw-stamp.ensures.drawn refl refl c.draw-stamp.ensures.above))
+    ∙ sym (drawn_world (stationed c.args.live.now) (seated_so (stationed c.loop-skip.live) c.draw-stamp.new.seat)
+    c.args.held.now c.loop-skip._skip c.draw-stamp.result
+    (drawn_more (stationed c.args.live.now) (stationed c.loop-skip.live)
+    (seated_so (stationed c.loop-skip.live) c.draw-stamp.new.seat)
+    c.args.held.now c.loop-skip._skip c.draw-stamp.result
+    c.args.live.now.used c.args.live.now.count c.requires.alive c.requires.running c.loop-skip.invariant.0 refl
+    c.draw-stamp.ensures.drawn refl refl c.draw-stamp.ensures.above))
 
 pub act-requires-clause-fits : goal.act-requires-clause-fits
 act-requires-clause-fits c = skip_fits c.loop-skip.live.kept.bench
 
 pub act-requires-clause-later : goal.act-requires-clause-later
 act-requires-clause-later c =
-    (drawn_more (stationed c.args.live.now) (stationed c.loop-skip.live) (seated_so (stationed c.loop-skip.live) c.draw-stamp.new.seat) c.args.held.now c.loop-skip._skip c.draw-stamp.result
-    c.args.live.now.used c.args.live.now.count c.requires.alive c.requires.running c.loop-skip.invariant.0 refl c.draw-stamp.ensures.drawn refl refl c.draw-stamp.ensures.above).can.later
+    (drawn_more (stationed c.args.live.now) (stationed c.loop-skip.live)
+    (seated_so (stationed c.loop-skip.live) c.draw-stamp.new.seat)
+    c.args.held.now c.loop-skip._skip c.draw-stamp.result
+    c.args.live.now.used c.args.live.now.count c.requires.alive c.requires.running c.loop-skip.invariant.0 refl
+    c.draw-stamp.ensures.drawn refl refl c.draw-stamp.ensures.above).can.later
 
 pub returns-then-halted-clause-draws : goal.returns-then-halted-clause-draws
 returns-then-halted-clause-draws c =
-    ends_cut (stationed c.args.live.now) (seated_so (stationed c.loop-skip.live) c.draw-stamp.new.seat) (kept_so (seated_so (stationed c.loop-skip.live) c.draw-stamp.new.seat) c.act.new.self)
+    ends_cut (stationed c.args.live.now) (seated_so (stationed c.loop-skip.live) c.draw-stamp.new.seat)
+    (kept_so (seated_so (stationed c.loop-skip.live) c.draw-stamp.new.seat) c.act.new.self)
     c.args.held.now c.loop-skip._skip c.draw-stamp.result
-    (drawn_more (stationed c.args.live.now) (stationed c.loop-skip.live) (seated_so (stationed c.loop-skip.live) c.draw-stamp.new.seat) c.args.held.now c.loop-skip._skip c.draw-stamp.result
-    c.args.live.now.used c.args.live.now.count c.requires.alive c.requires.running c.loop-skip.invariant.0 refl c.draw-stamp.ensures.drawn refl refl c.draw-stamp.ensures.above)
-    (sym c.is_early.ensures ∙ c.if-not-is_early.false) (omega (arith, c.loop-skip-test.true)) c.in_ok-act.ensures.entry c.in_ok-act.ensures.works refl refl refl
+    (drawn_more (stationed c.args.live.now) (stationed c.loop-skip.live)
+    (seated_so (stationed c.loop-skip.live) c.draw-stamp.new.seat)
+    c.args.held.now c.loop-skip._skip c.draw-stamp.result
+    c.args.live.now.used c.args.live.now.count c.requires.alive c.requires.running c.loop-skip.invariant.0 refl
+    c.draw-stamp.ensures.drawn refl refl c.draw-stamp.ensures.above)
+    (sym c.is_early.ensures ∙ c.if-not-is_early.false) (omega (arith, c.loop-skip-test.true))
+    c.in_ok-act.ensures.entry c.in_ok-act.ensures.works refl refl refl
     (sym (c.halted.ensures c.in_ok-act.ensures.works) ∙ c.if-halted.true)
 
 pub loop-skip-preserved : goal.loop-skip-preserved
 loop-skip-preserved c = (
-  skips_on (stationed c.args.live.now) (seated_so (stationed c.loop-skip.live) c.draw-stamp.new.seat) (kept_so (seated_so (stationed c.loop-skip.live) c.draw-stamp.new.seat) c.act.new.self)
+  skips_on (stationed c.args.live.now) (seated_so (stationed c.loop-skip.live) c.draw-stamp.new.seat)
+      (kept_so (seated_so (stationed c.loop-skip.live) c.draw-stamp.new.seat) c.act.new.self)
       c.args.held.now c.loop-skip._skip c.draw-stamp.result
-      (drawn_more (stationed c.args.live.now) (stationed c.loop-skip.live) (seated_so (stationed c.loop-skip.live) c.draw-stamp.new.seat) c.args.held.now c.loop-skip._skip c.draw-stamp.result
-      c.args.live.now.used c.args.live.now.count c.requires.alive c.requires.running c.loop-skip.invariant.0 refl c.draw-stamp.ensures.drawn refl refl c.draw-stamp.ensures.above)
-      (sym c.is_early.ensures ∙ c.if-not-is_early.false) (omega (arith, c.loop-skip-test.true)) c.in_ok-act.ensures.entry c.in_ok-act.ensures.works refl refl refl
+      (drawn_more (stationed c.args.live.now) (stationed c.loop-skip.live)
+      (seated_so (stationed c.loop-skip.live) c.draw-stamp.new.seat)
+      c.args.held.now c.loop-skip._skip c.draw-stamp.result
+      c.args.live.now.used c.args.live.now.count c.requires.alive c.requires.running c.loop-skip.invariant.0 refl
+      c.draw-stamp.ensures.drawn refl refl c.draw-stamp.ensures.above)
+      (sym c.is_early.ensures ∙ c.if-not-is_early.false) (omega (arith, c.loop-skip-test.true))
+      c.in_ok-act.ensures.entry c.in_ok-act.ensures.works refl refl refl
       (sym (c.halted.ensures c.in_ok-act.ensures.works) ∙ c.if-halted.false),
   c.loop-skip.invariant.1,
 )
 
 pub returns-clause-draws : goal.returns-clause-draws
 returns-clause-draws c =
-    ends_late (stationed c.args.live.now) (stationed c.loop-skip.live) (seated_so (stationed c.loop-skip.live) c.draw.new.seat) c.args.held.now c.loop-skip._skip c.draw.result
-    c.args.live.now.used c.args.live.now.count c.requires.alive c.requires.running c.loop-skip.invariant.0 refl c.draw.ensures.drawn refl refl c.draw.ensures.above
+    ends_late (stationed c.args.live.now) (stationed c.loop-skip.live)
+    (seated_so (stationed c.loop-skip.live) c.draw.new.seat) c.args.held.now c.loop-skip._skip c.draw.result
+    c.args.live.now.used c.args.live.now.count c.requires.alive c.requires.running c.loop-skip.invariant.0 refl
+    c.draw.ensures.drawn refl refl c.draw.ensures.above
     (λ early. omega (arith, c.loop-skip-test.false))

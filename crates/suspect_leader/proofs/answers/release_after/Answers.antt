@@ -8,4 +8,6 @@ use Rattle.suspect_leader.proofs.answers.release_after.Goals as goal
 
 pub returns-in-Ping-clause-gone : goal.returns-in-Ping-clause-gone
 returns-in-Ping-clause-gone c = on_ok_weaker c.release_number.result (λ gone to number lt h.
-    ap (λ (i : ℕ). is_among c.release_number.new.early.keys (RoundTrip to i)) (sym (eqb-true c.in-Ping.word.number number (ap (pings_said number) (sym c.in-Ping.is) ∙ h))) ∙ gone to lt) c.release_number.ensures.gone
+    ap (λ (i : ℕ). is_among c.release_number.new.early.keys (RoundTrip to i))
+    (sym (eqb-true c.in-Ping.word.number number (ap (pings_said number) (sym c.in-Ping.is) ∙ h))) ∙ gone to lt)
+    c.release_number.ensures.gone

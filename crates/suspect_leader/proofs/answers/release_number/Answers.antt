@@ -6,5 +6,10 @@ pub loop-to-init : goal.loop-to-init
 loop-to-init c = (not_moved c.args.pending.now.keys c.args.early.now.keys, λ j lt. absurd (omega (arith, lt)))
 
 pub loop-to-preserved : goal.loop-to-preserved
-loop-to-preserved c =
-    (moved_again c.args.pending.now.keys c.args.early.now.keys c.loop-to.pending.keys c.loop-to.early.keys c.release_one.new.pending.keys c.release_one.new.early.keys c.loop-to.invariant.0 c.release_one.ensures.moved, gone_step c.loop-to.pending.keys c.loop-to.early.keys c.release_one.new.pending.keys c.release_one.new.early.keys c.args.number c.loop-to.to c.release_one.ensures.moved c.loop-to.invariant.1 c.in_ok-release_one.ensures.gone)
+loop-to-preserved c = (
+  moved_again c.args.pending.now.keys c.args.early.now.keys c.loop-to.pending.keys c.loop-to.early.keys
+      c.release_one.new.pending.keys c.release_one.new.early.keys c.loop-to.invariant.0 c.release_one.ensures.moved,
+  gone_step c.loop-to.pending.keys c.loop-to.early.keys c.release_one.new.pending.keys
+      c.release_one.new.early.keys c.args.number c.loop-to.to c.release_one.ensures.moved c.loop-to.invariant.1
+      c.in_ok-release_one.ensures.gone,
+)

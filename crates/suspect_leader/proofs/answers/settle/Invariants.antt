@@ -5,4 +5,6 @@ use Rattle.suspect_leader.specs.Sayings.{says, is_among}
 use Rattle.suspect_leader.proofs.answers.settle.Given as goal
 
 abbrev pub invariant-loop-body : goal.invariant-loop-body
-invariant-loop-body l = (s : Saying) → is_among l.pending.keys s ≡ (not (list_any (says s) (take l.body-index l.bodies)) && is_among l.initial.pending.keys s)
+invariant-loop-body l = (s : Saying) →
+    is_among l.pending.keys s ≡ (not (list_any (says s) (take l.body-index l.bodies))
+    && is_among l.initial.pending.keys s)

@@ -6,4 +6,9 @@ use Rattle.text_tests.proofs.overheard.update.Goals as goal
 
 pub returns : goal.returns
 unfolding has_spelling
-returns c = ap (λ (sig : List ℕ). has_spelling record { signer = 4; body = body.Update record { client = 0; t = 1; op = op.Ack 0 }; sig = sig }) c.in_ok-from_slice.ensures
+returns c = ap (λ (sig : List ℕ). has_spelling record {
+  signer = 4;
+  body =
+      body.Update record { client = 0; t = 1; op = op.Ack 0 };
+  sig = sig;
+}) c.in_ok-from_slice.ensures

@@ -1,11 +1,15 @@
+-- Words that ask for a run in threads end by its course, and others as in the program without threads. Without
+-- memory to read them the call ends so and prints no text, so each law holds of it too.
 use Rattle.std.proofs.Common.{map, string_bytes, refl, sym}
 use Rattle.command_ends.specs.Calls.{Call}
 use Rattle.command_ends.specs.Ended.{ErrorSink}
 use Rattle.thread_commands.proofs.Asked.{asks-none, asks-run}
 use Rattle.thread_commands.proofs.Headlines.{headline-of-single}
-use Rattle.thread_commands.proofs.Whole.{run-ends, run-complete, run-headline, run-blame, run-trend, run-parts, run-rebuild}
+use Rattle.thread_commands.proofs.Whole.{run-ends, run-complete, run-headline, run-blame, run-trend, run-parts}
+use Rattle.thread_commands.proofs.Whole.{run-rebuild}
 use Rattle.thread_commands.proofs.Whole.{single-ends, single-complete}
-use Rattle.thread_commands.proofs.Whole.{want-ends, want-complete, want-headline, want-blame, want-trend, want-parts, want-rebuild}
+use Rattle.thread_commands.proofs.Whole.{want-ends, want-complete, want-headline, want-blame, want-trend, want-parts}
+use Rattle.thread_commands.proofs.Whole.{want-rebuild}
 use Rattle.thread_commands.proofs.call.spire.Goals as goal
 
 pub returns-in-Ok-Some-clause-ends : goal.returns-in-Ok-Some-clause-ends
@@ -26,7 +30,9 @@ returns-in-Ok-Some-clause-ends g c =
       put_before = g.E.Sink.told c.args.err.now;
       put_after = g.E.Sink.told c.end_call.new.err;
     } in
-    run-ends call err c.end_call.result _ (asks-run (map string_bytes c.args.words.now) c.in-Ok-Some.field-0 _ c.in-Ok-Some.field-0-is c.in-Ok-Some.ensures.run) c.end_call.ensures
+    run-ends call err c.end_call.result _
+    (asks-run (map string_bytes c.args.words.now) c.in-Ok-Some.field-0 _ c.in-Ok-Some.field-0-is
+    c.in-Ok-Some.ensures.run) c.end_call.ensures
 
 pub returns-in-Ok-Some-clause-complete : goal.returns-in-Ok-Some-clause-complete
 returns-in-Ok-Some-clause-complete g c =
@@ -46,7 +52,9 @@ returns-in-Ok-Some-clause-complete g c =
       put_before = g.E.Sink.told c.args.err.now;
       put_after = g.E.Sink.told c.end_call.new.err;
     } in
-    run-complete call err c.end_call.result _ (asks-run (map string_bytes c.args.words.now) c.in-Ok-Some.field-0 _ c.in-Ok-Some.field-0-is c.in-Ok-Some.ensures.run) c.end_call.ensures
+    run-complete call err c.end_call.result _
+    (asks-run (map string_bytes c.args.words.now) c.in-Ok-Some.field-0 _ c.in-Ok-Some.field-0-is
+    c.in-Ok-Some.ensures.run) c.end_call.ensures
 
 pub returns-in-Ok-Some-clause-headline : goal.returns-in-Ok-Some-clause-headline
 returns-in-Ok-Some-clause-headline g c =
@@ -66,7 +74,9 @@ returns-in-Ok-Some-clause-headline g c =
       put_before = g.E.Sink.told c.args.err.now;
       put_after = g.E.Sink.told c.end_call.new.err;
     } in
-    run-headline c.runs_are_legal.ensures.legal call err c.end_call.result _ (asks-run (map string_bytes c.args.words.now) c.in-Ok-Some.field-0 _ c.in-Ok-Some.field-0-is c.in-Ok-Some.ensures.run) c.end_call.ensures
+    run-headline c.runs_are_legal.ensures.legal call err c.end_call.result _
+    (asks-run (map string_bytes c.args.words.now) c.in-Ok-Some.field-0 _ c.in-Ok-Some.field-0-is
+    c.in-Ok-Some.ensures.run) c.end_call.ensures
 
 pub returns-in-Ok-Some-clause-blame : goal.returns-in-Ok-Some-clause-blame
 returns-in-Ok-Some-clause-blame g c =
@@ -80,7 +90,9 @@ returns-in-Ok-Some-clause-blame g c =
       put_before = g.O.Sink.told c.args.out.now;
       put_after = g.O.Sink.told c.end_call.new.out;
     } in
-    run-blame call c.end_call.result _ (asks-run (map string_bytes c.args.words.now) c.in-Ok-Some.field-0 _ c.in-Ok-Some.field-0-is c.in-Ok-Some.ensures.run)
+    run-blame call c.end_call.result _
+    (asks-run (map string_bytes c.args.words.now) c.in-Ok-Some.field-0 _ c.in-Ok-Some.field-0-is
+    c.in-Ok-Some.ensures.run)
 
 pub returns-in-Ok-Some-clause-trend : goal.returns-in-Ok-Some-clause-trend
 returns-in-Ok-Some-clause-trend g c =
@@ -100,7 +112,9 @@ returns-in-Ok-Some-clause-trend g c =
       put_before = g.E.Sink.told c.args.err.now;
       put_after = g.E.Sink.told c.end_call.new.err;
     } in
-    run-trend call err c.end_call.result _ (asks-run (map string_bytes c.args.words.now) c.in-Ok-Some.field-0 _ c.in-Ok-Some.field-0-is c.in-Ok-Some.ensures.run)
+    run-trend call err c.end_call.result _
+    (asks-run (map string_bytes c.args.words.now) c.in-Ok-Some.field-0 _ c.in-Ok-Some.field-0-is
+    c.in-Ok-Some.ensures.run)
 
 pub returns-in-Ok-Some-clause-parts : goal.returns-in-Ok-Some-clause-parts
 returns-in-Ok-Some-clause-parts g c =
@@ -114,7 +128,9 @@ returns-in-Ok-Some-clause-parts g c =
       put_before = g.O.Sink.told c.args.out.now;
       put_after = g.O.Sink.told c.end_call.new.out;
     } in
-    run-parts call c.end_call.result _ (asks-run (map string_bytes c.args.words.now) c.in-Ok-Some.field-0 _ c.in-Ok-Some.field-0-is c.in-Ok-Some.ensures.run)
+    run-parts call c.end_call.result _
+    (asks-run (map string_bytes c.args.words.now) c.in-Ok-Some.field-0 _ c.in-Ok-Some.field-0-is
+    c.in-Ok-Some.ensures.run)
 
 pub returns-in-Ok-Some-clause-rebuild : goal.returns-in-Ok-Some-clause-rebuild
 returns-in-Ok-Some-clause-rebuild g c =
@@ -128,7 +144,9 @@ returns-in-Ok-Some-clause-rebuild g c =
       put_before = g.O.Sink.told c.args.out.now;
       put_after = g.O.Sink.told c.end_call.new.out;
     } in
-    run-rebuild call c.end_call.result _ (asks-run (map string_bytes c.args.words.now) c.in-Ok-Some.field-0 _ c.in-Ok-Some.field-0-is c.in-Ok-Some.ensures.run)
+    run-rebuild call c.end_call.result _
+    (asks-run (map string_bytes c.args.words.now) c.in-Ok-Some.field-0 _ c.in-Ok-Some.field-0-is
+    c.in-Ok-Some.ensures.run)
 
 pub returns-in-Ok-None-clause-ends : goal.returns-in-Ok-None-clause-ends
 returns-in-Ok-None-clause-ends g c =
@@ -148,7 +166,9 @@ returns-in-Ok-None-clause-ends g c =
       put_before = g.E.Sink.told c.args.err.now;
       put_after = g.E.Sink.told c.spire.new.err;
     } in
-    single-ends call err c.spire.result (asks-none (map string_bytes c.args.words.now) c.in-Ok-None.field-0 c.in-Ok-None.field-0-is c.in-Ok-None.ensures.run) c.spire.ensures.ends
+    single-ends call err c.spire.result
+    (asks-none (map string_bytes c.args.words.now) c.in-Ok-None.field-0 c.in-Ok-None.field-0-is
+    c.in-Ok-None.ensures.run) c.spire.ensures.ends
 
 pub returns-in-Ok-None-clause-complete : goal.returns-in-Ok-None-clause-complete
 returns-in-Ok-None-clause-complete g c =
@@ -168,7 +188,9 @@ returns-in-Ok-None-clause-complete g c =
       put_before = g.E.Sink.told c.args.err.now;
       put_after = g.E.Sink.told c.spire.new.err;
     } in
-    single-complete call err c.spire.result (asks-none (map string_bytes c.args.words.now) c.in-Ok-None.field-0 c.in-Ok-None.field-0-is c.in-Ok-None.ensures.run) c.spire.ensures.complete
+    single-complete call err c.spire.result
+    (asks-none (map string_bytes c.args.words.now) c.in-Ok-None.field-0 c.in-Ok-None.field-0-is
+    c.in-Ok-None.ensures.run) c.spire.ensures.complete
 
 pub returns-in-Ok-None-clause-headline : goal.returns-in-Ok-None-clause-headline
 returns-in-Ok-None-clause-headline g c =
@@ -182,7 +204,9 @@ returns-in-Ok-None-clause-headline g c =
       put_before = g.O.Sink.told c.args.out.now;
       put_after = g.O.Sink.told c.spire.new.out;
     } in
-    headline-of-single call c.spire.result (asks-none (map string_bytes c.args.words.now) c.in-Ok-None.field-0 c.in-Ok-None.field-0-is c.in-Ok-None.ensures.run) c.spire.ensures.headline
+    headline-of-single call c.spire.result
+    (asks-none (map string_bytes c.args.words.now) c.in-Ok-None.field-0 c.in-Ok-None.field-0-is
+    c.in-Ok-None.ensures.run) c.spire.ensures.headline
 
 pub returns-in-Ok-None-clause-blame : goal.returns-in-Ok-None-clause-blame
 returns-in-Ok-None-clause-blame g c =

@@ -3,8 +3,10 @@ use Rattle.thread_tests.proofs.runs.run_small.Goals as goal
 
 pub run_script-requires-clause-lines : goal.run_script-requires-clause-lines
 run_script-requires-clause-lines g c κs within =
-    c.read_lines_are_of_scenario.ensures (contents c.in_ok-scenario.scenario) _ c.in_ok-script.script c.in_ok-scenario.ensures.valid c.in_ok-script.ensures
+    c.read_lines_are_of_scenario.ensures (contents c.in_ok-scenario.scenario) _ c.in_ok-script.script
+    c.in_ok-scenario.ensures.valid c.in_ok-script.ensures
 
 pub run_script-requires-clause-words : goal.run_script-requires-clause-words
 run_script-requires-clause-words g c κs within =
-    c.read_words_are_of_scenario.ensures (contents c.in_ok-scenario.scenario) _ c.in_ok-words.words c.in_ok-scenario.ensures.valid c.in_ok-words.ensures
+    c.read_words_are_of_scenario.ensures (contents c.in_ok-scenario.scenario) _ c.in_ok-words.words
+    c.in_ok-scenario.ensures.valid c.in_ok-words.ensures

@@ -1,3 +1,5 @@
+-- A node from the first leaf on is the hash of its one-time key, and each one before that of its two children.
+-- These are stored already, as the nodes are made from the last one down.
 use Rattle.std.proofs.Common.{◌+◌, ◌-◌, ◌*◌, ◌^◌, ◌∙◌, ap, sym, length, arith, [], ℕ, get_or}
 use Rattle.tree_keys.specs.Nodes.{tree_from, node, leaf_hash, inner_hash}
 use Rattle.ots_keys.specs.Keys.{public_key}
@@ -20,7 +22,8 @@ pub returns-then-r-leaves : goal.returns-then-r-leaves
 returns-then-r-leaves c =
     let tree = tree_from c.args.height c.args.ots c.args.id.now c.args.seed.now in
     let count = c.leaf_count-leaves.ensures.count in
-    let key = c.ots_public.ensures ∙ ap (λ (n : ℕ). public_key c.args.ots c.args.id.now (c.args.r - n) c.args.seed.now) count in
+    let key = c.ots_public.ensures
+    ∙ ap (λ (n : ℕ). public_key c.args.ots c.args.id.now (c.args.r - n) c.args.seed.now) count in
     c.leaf_hash.ensures ∙ ap (leaf_hash c.args.id.now c.args.r) key ∙ sym (node-leaf tree c.args.r (omega arith))
 
 pub returns-else-r-leaves : goal.returns-else-r-leaves

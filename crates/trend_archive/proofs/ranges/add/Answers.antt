@@ -8,5 +8,6 @@ returns-clause-ok c = on_ok_weaker c.push.result
     (λ is.
     let at = c.index-lists-point.is in
     let pushed : c.push.new.self ≡ c.index-lists-point.result ++ c.args.change ∷ [] = cc in
-    with_change-set c.args.lists.now c.args.point c.args.change c.index-lists-point.result c.push.new.self c.requires c.index-lists-point.is pushed)
+    with_change-set c.args.lists.now c.args.point c.args.change c.index-lists-point.result c.push.new.self c.requires
+    c.index-lists-point.is pushed)
     c.push.ensures.ok

@@ -1,3 +1,5 @@
+-- Each bench of a correct master adds how many updates it executed, and any other bench none. So the counts so
+-- far are those of the benches so far.
 use Rattle.std.proofs.Common.{◌∙◌, length, map, ap}
 use Rattle.std.specs.List.{filter_map}
 use Rattle.std.proofs.lemmas.List.{take_all}
@@ -13,4 +15,5 @@ loop-bench-preserved c =
 pub returns : goal.returns
 returns c =
     c.loop-bench.invariant
-    ∙ ap (λ xs. map length (filter_map executed_if xs)) (take_all c.loop-bench.bench-index c.args.benches.now c.loop-bench-test.false)
+    ∙ ap (λ xs. map length (filter_map executed_if xs))
+    (take_all c.loop-bench.bench-index c.args.benches.now c.loop-bench-test.false)

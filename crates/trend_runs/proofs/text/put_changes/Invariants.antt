@@ -6,4 +6,5 @@ use Rattle.trend_runs.proofs.text.put_changes.Given as goal
 
 -- the changes so far have their lines
 abbrev pub invariant-loop-change : goal.invariant-loop-change
-invariant-loop-change l = string_bytes l.text ≡ string_bytes l.initial.text ++ flat_map change_text (take l.change-index l.changes)
+invariant-loop-change l = string_bytes l.text ≡ string_bytes l.initial.text
+    ++ flat_map change_text (take l.change-index l.changes)

@@ -9,4 +9,5 @@ use Rattle.trend_runs.proofs.votes.board_of.Given as goal
 abbrev pub invariant-loop-bench : goal.invariant-loop-bench
 invariant-loop-bench l =
     l.board ≡ with_votes l.scenario.sizes.n l.scenario.sizes.f
-    (filter_map (vote_of (contents l.scenario) l.question.point l.question.first l.question.last) (take l.bench-index l.benches))
+    (filter_map (vote_of (contents l.scenario) l.question.point l.question.first l.question.last)
+    (take l.bench-index l.benches))

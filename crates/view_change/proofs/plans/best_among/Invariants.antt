@@ -8,5 +8,7 @@ use Rattle.view_change.proofs.plans.best_among.Given as goal
 
 abbrev pub invariant-loop-certificate : goal.invariant-loop-certificate
 invariant-loop-certificate l =
-    ((before : List Certificate) → option_copied l.fn.best ≡ best_by goes_before (filter (is_for l.s) before) → option_copied l.found ≡ best_by goes_before (filter (is_for l.s) (before ++ take l.certificate-index l.certificates)))
+    ((before : List Certificate) → option_copied l.fn.best ≡ best_by goes_before (filter (is_for l.s) before) →
+    option_copied l.found ≡ best_by goes_before
+    (filter (is_for l.s) (before ++ take l.certificate-index l.certificates)))
     × IfSome (option_copied l.found) (λ c. IsTrue (is_spelled c))

@@ -7,4 +7,5 @@ loop-master-init c = c.new-rows.ensures ∙ empty_rows-start
 
 pub loop-master-preserved : goal.loop-master-preserved
 loop-master-preserved c =
-    c.in_ok-push.ensures.ok ∙ ap (λ (row : List ℕ). c.loop-master.rows ++ row ∷ []) c.new.ensures ∙ empty_rows-more c.loop-master.rows c.loop-master._master c.loop-master.invariant
+    c.in_ok-push.ensures.ok ∙ ap (λ (row : List ℕ). c.loop-master.rows ++ row ∷ []) c.new.ensures
+    ∙ empty_rows-more c.loop-master.rows c.loop-master._master c.loop-master.invariant

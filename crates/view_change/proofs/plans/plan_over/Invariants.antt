@@ -5,4 +5,5 @@ use Rattle.protocol_rules.specs.Plans.{planned}
 use Rattle.view_change.proofs.plans.plan_over.Given as goal
 
 abbrev pub invariant-loop-step : goal.invariant-loop-step
-invariant-loop-step g l = (h : Group) → l.sizes.n ≡ h.n → l.rows ≡ map (planned h (map g.R.BringsReport.brought l.reports)) (numbers_from (l.base + 1) l.step)
+invariant-loop-step g l = (h : Group) → l.sizes.n ≡ h.n →
+    l.rows ≡ map (planned h (map g.R.BringsReport.brought l.reports)) (numbers_from (l.base + 1) l.step)

@@ -7,4 +7,5 @@ returns-in-Ok c = gives_request (contents c.args.scenario.now) c.args.pieces.now
 
 pub returns-in-Err : goal.returns-in-Err
 returns-in-Err c =
-    gives_no_request (contents c.args.scenario.now) c.args.pieces.now c.in-Err.fault c.request_refusal.result c.request_refusal.ensures c.in-Err.ensures.fault
+    gives_no_request (contents c.args.scenario.now) c.args.pieces.now c.in-Err.fault c.request_refusal.result
+    c.request_refusal.ensures c.in-Err.ensures.fault

@@ -1,3 +1,5 @@
+-- How the call ends is that of the program with these runs. Blame, trend, parts and rebuilding follow, as each
+-- law of a question turns what the call printed into a fact of the history.
 use Rattle.std.proofs.Common.{map, string_bytes}
 use Rattle.command_ends.specs.Calls.{Call}
 use Rattle.command_ends.specs.Ended.{ErrorSink}
@@ -32,7 +34,8 @@ returns-clause-blame g c =
       put_before = g.E.Sink.told c.args.err.now;
       put_after = g.E.Sink.told c.plain.new.err;
     } in
-    keeps_blame c.blamed_are_proved.ensures c.quorums_are_blamed.ensures c.correct_are_not_blamed.ensures call err c.plain.result c.plain.ensures.answers
+    keeps_blame c.blamed_are_proved.ensures c.quorums_are_blamed.ensures c.correct_are_not_blamed.ensures call err
+    c.plain.result c.plain.ensures.answers
 
 pub returns-clause-trend : goal.returns-clause-trend
 returns-clause-trend g c =
@@ -52,7 +55,8 @@ returns-clause-trend g c =
       put_before = g.E.Sink.told c.args.err.now;
       put_after = g.E.Sink.told c.plain.new.err;
     } in
-    keeps_trend c.prints_the_changes_of_one.ensures c.prints_the_changes_of_all.ensures c.always_matches.ensures call err c.plain.result c.plain.ensures.answers
+    keeps_trend c.prints_the_changes_of_one.ensures c.prints_the_changes_of_all.ensures c.always_matches.ensures call
+    err c.plain.result c.plain.ensures.answers
 
 pub returns-clause-parts : goal.returns-clause-parts
 returns-clause-parts g c =
@@ -72,7 +76,8 @@ returns-clause-parts g c =
       put_before = g.E.Sink.told c.args.err.now;
       put_after = g.E.Sink.told c.plain.new.err;
     } in
-    keeps_parts c.parts_are_printed.ensures c.printed_lines_rebuild.ensures call err c.plain.result c.plain.ensures.answers
+    keeps_parts c.parts_are_printed.ensures c.printed_lines_rebuild.ensures call err
+    c.plain.result c.plain.ensures.answers
 
 pub returns-clause-rebuild : goal.returns-clause-rebuild
 returns-clause-rebuild g c =

@@ -7,5 +7,6 @@ pub index_mut-requires : goal.index_mut-requires
 index_mut-requires c =
     let on : is_raised_at c.args.self.now.states c.args.alarm ≡ true = cc in
     let there : c.args.alarm < length c.args.self.now.states = raised_within _ _ on in
-    let same : length c.self.inside.states.items ≡ length c.args.self.now.states = ap (λ (b : Board). length b.states) c.self.view_is in
+    let same : length c.self.inside.states.items ≡ length c.args.self.now.states =
+    ap (λ (b : Board). length b.states) c.self.view_is in
     omega (arith, c.self.inside.states.ok)

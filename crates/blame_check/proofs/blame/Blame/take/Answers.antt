@@ -3,10 +3,11 @@ use Rattle.std.specs.Result.{OnOk}
 use Rattle.message_types.specs.declared.signed.Signed.{Signed}
 use Rattle.message_types.specs.declared.body.Body.{Body}
 use Rattle.message_types.specs.Parts.{parts}
-use Rattle.blame_check.specs.Kept.{HasTaken}
+use Rattle.blame_check.specs.Slots.{HasTaken}
 use Rattle.blame_check.proofs.blame.Blame.take.Goals as goal
 
 pub returns : goal.returns
 returns c =
-    subst (λ (ws : List (Signed Body)). OnOk c.take_parts.result ((n : ℕ) (words : List (Signed Body)) → HasTaken n words c.args.self.now → HasTaken n (words ++ ws) c.take_parts.new.self))
+    subst (λ (ws : List (Signed Body)). OnOk c.take_parts.result ((n : ℕ) (words : List (Signed Body)) →
+    HasTaken n words c.args.self.now → HasTaken n (words ++ ws) c.take_parts.new.self))
     (c.in_ok-parts.ensures ∙ ap parts c.frame.ensures.frame) c.take_parts.ensures

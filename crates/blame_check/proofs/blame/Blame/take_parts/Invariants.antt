@@ -1,7 +1,7 @@
 use Rattle.std.proofs.Common.{◌≡◌, ℕ, List, ◌++◌}
 use Rattle.message_types.specs.declared.signed.Signed.{Signed}
 use Rattle.message_types.specs.declared.body.Body.{Body}
-use Rattle.blame_check.specs.Kept.{HasTaken}
+use Rattle.blame_check.specs.Slots.{HasTaken}
 use Rattle.blame_check.proofs.blame.Blame.take_parts.Given as goal
 
 -- the parts so far are taken

@@ -1,3 +1,5 @@
+-- A fresh proxy has no votes, so nothing is done and no writes are kept; its device and points are the plant's.
+-- So what a proxy keeps true holds from the start.
 use Rattle.std.proofs.Common.{arith, ap, sym, refl, ◌∙◌, length}
 use Rattle.std.specs.Prelude.{map}
 use Rattle.std.specs.List.{list_all}
@@ -14,13 +16,18 @@ invariant_of-result c = (
   omega (arith, c.requires.few, ap length c.in_ok-points.ensures),
   ap length c.in_ok-none_said.ensures ∙ length-replicate _ _ ∙ c.len-count.ensures,
   ap (λ (v : Votes). v.f) c.new-2.ensures,
-  ap (map order_of) c.new-3.ensures.items ∙ sym (ap (λ (v : Votes). done c.args.sizes.n c.args.sizes.f v.votes) c.new-2.ensures ∙ done-none c.args.sizes.n c.args.sizes.f),
-  ap (λ (v : Votes). list_all (λ (vote : Vote). can_write c.in_ok-points.points c.args.client vote.voucher.order) v.votes) c.new-2.ensures,
+  ap (map order_of) c.new-3.ensures.items
+      ∙ sym (ap (λ (v : Votes). done c.args.sizes.n c.args.sizes.f v.votes) c.new-2.ensures
+      ∙ done-none c.args.sizes.n c.args.sizes.f),
+  ap (λ (v : Votes). list_all (λ (vote : Vote). can_write c.in_ok-points.points c.args.client vote.voucher.order)
+      v.votes) c.new-2.ensures,
   ap (λ (v : Votes). v.n) c.new-2.ensures,
 )
 
 pub returns-clause-made : goal.returns-clause-made
 returns-clause-made c =
-    fresh_is c.args.plant.now.devices c.args.client c.args.sizes.n c.args.sizes.f c.args.plant.now.points c.in_ok-points.points c.device_of-sizes_of_device.result
-    _ _ _ _ _ _ c.device_of-sizes_of_device.ensures c.in_ok-points.ensures c.in_ok-make.ensures c.new.ensures c.in_ok-none_said.ensures c.len-count.ensures
+    fresh_is c.args.plant.now.devices c.args.client c.args.sizes.n c.args.sizes.f c.args.plant.now.points
+    c.in_ok-points.points c.device_of-sizes_of_device.result
+    _ _ _ _ _ _ c.device_of-sizes_of_device.ensures c.in_ok-points.ensures c.in_ok-make.ensures c.new.ensures
+    c.in_ok-none_said.ensures c.len-count.ensures
     (ap (λ (v : Votes). v.votes) c.new-2.ensures) c.new-3.ensures.items

@@ -1,3 +1,5 @@
+-- The readings due, cut to the room, are what is said, what is told as last values and what is counted; the
+-- line keeps the exchanges of this poll. So the proxy is as the definition has it after a poll.
 use Rattle.std.proofs.Common.{arith, ap, sym, ◌∙◌, ◌≡◌, ◌+◌, length, take}
 use Rattle.std.proofs.lemmas.List.{take_at, length-take}
 use Rattle.field_proxy.specs.contracts.proxy.Proxy.{the_view}
@@ -12,33 +14,46 @@ use Rattle.field_proxy.proofs.proxy.Proxy.poll.Goals as goal
 pub returns-clause-says : goal.returns-clause-says
 returns-clause-says c =
     let read = c.in_ok-ops.ensures.ops
-    ∙ ap (λ points. readings c.self.inside.device c.self.inside.client points (last_in c.deref.result.now)) c.as_slice.ensures
-    ∙ ap (λ lasts. readings c.self.inside.device c.self.inside.client c.self.inside.points (last_in lasts)) c.deref.ensures.value in
-    let ops = polled_is (the_view c.self.inside) c.args.room _ _ read (c.deref-2.ensures.value ∙ c.truncate.ensures.items) in
+    ∙ ap (λ points. readings c.self.inside.device c.self.inside.client points (last_in c.deref.result.now))
+    c.as_slice.ensures
+    ∙ ap (λ lasts. readings c.self.inside.device c.self.inside.client c.self.inside.points (last_in lasts))
+    c.deref.ensures.value in
+    let ops = polled_is (the_view c.self.inside) c.args.room _ _ read
+    (c.deref-2.ensures.value ∙ c.truncate.ensures.items) in
     rw (← c.self.view_is) (c.in_ok-updates.ensures ∙ ap (numbered c.self.inside.client (c.self.inside.updates + 1)) ops)
 
 pub returns-clause-after : goal.returns-clause-after
 returns-clause-after c =
     let read = c.in_ok-ops.ensures.ops
-    ∙ ap (λ points. readings c.self.inside.device c.self.inside.client points (last_in c.deref.result.now)) c.as_slice.ensures
-    ∙ ap (λ lasts. readings c.self.inside.device c.self.inside.client c.self.inside.points (last_in lasts)) c.deref.ensures.value in
-    let ops = polled_is (the_view c.self.inside) c.args.room _ _ read (c.deref-3.ensures.value ∙ c.truncate.ensures.items) in
-    let lasts = take_at c.tell.new.lasts _ c.self.inside.lasts.len (omega (arith, c.tell.auto.lasts, c.deref_mut.ensures.len))
+    ∙ ap (λ points. readings c.self.inside.device c.self.inside.client points (last_in c.deref.result.now))
+    c.as_slice.ensures
+    ∙ ap (λ lasts. readings c.self.inside.device c.self.inside.client c.self.inside.points (last_in lasts))
+    c.deref.ensures.value in
+    let ops = polled_is (the_view c.self.inside) c.args.room _ _ read
+    (c.deref-3.ensures.value ∙ c.truncate.ensures.items) in
+    let lasts = take_at c.tell.new.lasts _ c.self.inside.lasts.len
+    (omega (arith, c.tell.auto.lasts, c.deref_mut.ensures.len))
     ∙ c.tell.ensures ∙ ap (λ l. told l c.deref-3.result.now) c.deref_mut.ensures.value in
     let passed = c.in_ok-ops.ensures.line
-    ∙ ap (λ points. line_after c.new-line.result c.self.inside.device (poll_requests c.self.inside.client points)) c.as_slice.ensures in
-    let line = asked_is c.self.inside.line c.new-line.result c.due_readings.new.line c.keep.new.self c.self.inside.device (poll_requests c.self.inside.client c.self.inside.points)
+    ∙ ap (λ points. line_after c.new-line.result c.self.inside.device (poll_requests c.self.inside.client points))
+    c.as_slice.ensures in
+    let line = asked_is c.self.inside.line c.new-line.result c.due_readings.new.line c.keep.new.self
+    c.self.inside.device (poll_requests c.self.inside.client c.self.inside.points)
     c.new-line.ensures passed c.keep.ensures.some c.keep.ensures.none in
-    rw (← c.self.view_is) (poll_after (the_view c.self.inside) c.args.room _ _ _ _ _ ops c.due_readings.ensures.same line lasts (omega (arith, c.len.ensures, c.deref-3.ensures.len)))
+    rw (← c.self.view_is) (poll_after (the_view c.self.inside) c.args.room _ _ _ _ _ ops c.due_readings.ensures.same
+    line lasts (omega (arith, c.len.ensures, c.deref-3.ensures.len)))
 
 pub returns-clause-room : goal.returns-clause-room
 returns-clause-room c =
-    let size : length c.in_ok-updates.updates.items ≡ length c.deref-2.result.now = ap length c.in_ok-updates.ensures ∙ length-numbered _ _ c.deref-2.result.now in
-    let cut : length c.deref-2.result.now ≡ length (take c.args.room c.in_ok-ops.ops.items) = ap length (c.deref-2.ensures.value ∙ c.truncate.ensures.items) in
+    let size : length c.in_ok-updates.updates.items ≡ length c.deref-2.result.now = ap length c.in_ok-updates.ensures
+    ∙ length-numbered _ _ c.deref-2.result.now in
+    let cut : length c.deref-2.result.now ≡ length (take c.args.room c.in_ok-ops.ops.items) =
+    ap length (c.deref-2.ensures.value ∙ c.truncate.ensures.items) in
     omega (arith, size, cut, length-take c.args.room c.in_ok-ops.ops.items)
 
 pub returns-clause-counted : goal.returns-clause-counted
 returns-clause-counted c =
-    let size : length c.in_ok-updates.updates.items ≡ length c.deref-2.result.now = ap length c.in_ok-updates.ensures ∙ length-numbered _ _ c.deref-2.result.now in
+    let size : length c.in_ok-updates.updates.items ≡ length c.deref-2.result.now = ap length c.in_ok-updates.ensures
+    ∙ length-numbered _ _ c.deref-2.result.now in
     let before : c.self.inside.updates ≡ c.args.self.now.updates = ap (λ (s : Front). s.updates) c.self.view_is in
     omega (arith, size, before, c.len.ensures, c.deref-2.ensures.len)

@@ -1,7 +1,10 @@
-use Rattle.std.proofs.Common.{◌∙◌, ap}
-use Rattle.protocol_rules.specs.Order.{offered}
-use Rattle.global_order.specs.Taken.{Taken}
+use Rattle.global_order.specs.OrderState.{IsOrderOf}
+use Rattle.global_order.specs.Held.{state_of}
+use Rattle.global_order.proofs.Alike.{inside}
 use Rattle.global_order.proofs.order.Order.offered.Goals as goal
 
 pub returns : goal.returns
-returns c = c.offered_in.ensures.value c.self.inside.facts.items c.self.invariant.offers ∙ ap (λ (t : Taken). offered t.facts c.args.v c.args.s) c.self.view_is
+returns c g facts said is =
+    let held : IsOrderOf g (state_of c.self.inside) facts said =
+    inside c.self.inside c.args.self.now c.self.view_is g facts said is in
+    c.offered_in.ensures.value facts held.offers

@@ -1,10 +1,13 @@
+-- A way made anew leads to the leaf of this number, so that what is signed along it is the key's signature of
+-- that number, of which it is known that it verifies and how long it is at most.
 use Rattle.std.proofs.Common.{◌≤◌, length, ◌∙◌, ap, subst, List, ℕ}
 use Rattle.hash_signatures.specs.Verification.{Verifies}
 use Rattle.hash_signatures.specs.Signatures.{Key, key_public, signature_at, longest_signature}
 use Rattle.hash_signatures.specs.State.{KeyUse, key_from}
-use Rattle.hash_signatures.specs.Kept.{key_of}
+use Rattle.hash_signatures.specs.KeyInside.{key_of}
 use Rattle.hash_signatures.specs.Path.{IsWayOf}
-use Rattle.hash_signatures.proofs.KeyLaws.{way_signs, signature_ok, signature_verifies, signature_short, verifies_ok, short_ok}
+use Rattle.hash_signatures.proofs.KeyLaws.{way_signs, signature_ok, signature_verifies, signature_short, verifies_ok}
+use Rattle.hash_signatures.proofs.KeyLaws.{short_ok}
 use Rattle.hash_signatures.proofs.key_state.KeyState.sign_at.Goals as goal
 
 pub returns-clause-signature : goal.returns-clause-signature
@@ -12,7 +15,8 @@ returns-clause-signature c =
     let key = key_of c.self.inside in
     let same = ap (λ (u : KeyUse). u.key) c.self.view_is in
     let leads : IsWayOf key c.args.m c.in_ok-way.way =
-    subst (λ (hs : List ℕ). IsWayOf (key_from c.self.inside.seed c.self.inside.id hs c.self.inside.ots) c.args.m c.in_ok-way.way)
+    subst (λ (hs : List ℕ). IsWayOf (key_from c.self.inside.seed c.self.inside.id hs c.self.inside.ots)
+    c.args.m c.in_ok-way.way)
     c.deref.ensures.value c.in_ok-way.ensures in
     let signed = way_signs key c.args.m c.args.message.now c.in_ok-way.way c.self.invariant.levels.0 leads
     ∙ ap (λ (k : Key). signature_at k c.args.m c.args.message.now) same in

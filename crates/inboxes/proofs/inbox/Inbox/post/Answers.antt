@@ -1,3 +1,5 @@
+-- A post is a step that keeps what holds of every inbox, whatever other posts and takes come between. What the
+-- queue tells of that step is what the pass knows from then on.
 use Rattle.inboxes.proofs.Keeping.{posts}
 use Rattle.inboxes.proofs.Telling.{posted_told, posted_live}
 use Rattle.inboxes.proofs.inbox.Inbox.post.Goals as goal

@@ -1,3 +1,5 @@
+-- A take is a step that keeps what holds of every inbox, and so is seeing it empty, whatever other steps come
+-- between. What the queue tells of the step is what the pass knows from then on.
 use Rattle.inboxes.proofs.Keeping.{takes, sees}
 use Rattle.inboxes.proofs.Telling.{took_told, took_live}
 use Rattle.inboxes.proofs.inbox.Inbox.take.Goals as goal

@@ -1,3 +1,5 @@
+-- An actor that isn't spent has a keeper that goes with its list, or is intruded and has none: so an entry can
+-- be added. It counts as spent while it is added, and stays so where memory ends in the midst.
 use Rattle.std.proofs.Common.{◌≡◌, true, sym, ◌∙◌, ap, subst}
 use Rattle.std.specs.Prelude.{is_some}
 use Rattle.std.specs.List.{list_all}
@@ -11,7 +13,8 @@ use Rattle.kept_lists.proofs.kept_actor.Kept.act.Goals as goal
 
 pub add-requires-clause-keeps : goal.add-requires-clause-keeps
 add-requires-clause-keeps c =
-    goes_on c.self.inside.bench c.self.inside.keeper c.self.inside.is_halted c.self.inside.is_spent c.args.self.now c.self.view_is c.self.invariant
+    goes_on c.self.inside.bench c.self.inside.keeper c.self.inside.is_halted c.self.inside.is_spent c.args.self.now
+    c.self.view_is c.self.invariant
     c.if-self.false c.requires.running
 
 pub add-requires-clause-scenario : goal.add-requires-clause-scenario
@@ -19,27 +22,52 @@ add-requires-clause-scenario c = c.requires.scenario ∙ sym (ap (λ (x : KeptSt
 
 pub add-requires-clause-fits : goal.add-requires-clause-fits
 add-requires-clause-fits c =
-    (seen_come c.self.inside.bench c.self.inside.keeper c.self.inside.is_spent c.args.self.now c.args.stamp (event_of c.args.event) c.self.view_is
-    (record { fits = c.requires.fits; later = c.requires.later; taken = c.requires.taken; short = c.requires.short })).fits
+    (seen_come c.self.inside.bench c.self.inside.keeper c.self.inside.is_spent c.args.self.now c.args.stamp
+    (event_of c.args.event) c.self.view_is
+    (record {
+      fits = c.requires.fits;
+      later = c.requires.later;
+      taken = c.requires.taken;
+      short = c.requires.short;
+    })).fits
 
 pub add-requires-clause-later : goal.add-requires-clause-later
 add-requires-clause-later c =
-    (seen_come c.self.inside.bench c.self.inside.keeper c.self.inside.is_spent c.args.self.now c.args.stamp (event_of c.args.event) c.self.view_is
-    (record { fits = c.requires.fits; later = c.requires.later; taken = c.requires.taken; short = c.requires.short })).later
+    (seen_come c.self.inside.bench c.self.inside.keeper c.self.inside.is_spent c.args.self.now c.args.stamp
+    (event_of c.args.event) c.self.view_is
+    (record {
+      fits = c.requires.fits;
+      later = c.requires.later;
+      taken = c.requires.taken;
+      short = c.requires.short;
+    })).later
 
 pub add-requires-clause-taken : goal.add-requires-clause-taken
 add-requires-clause-taken c =
-    (seen_come c.self.inside.bench c.self.inside.keeper c.self.inside.is_spent c.args.self.now c.args.stamp (event_of c.args.event) c.self.view_is
-    (record { fits = c.requires.fits; later = c.requires.later; taken = c.requires.taken; short = c.requires.short })).taken
+    (seen_come c.self.inside.bench c.self.inside.keeper c.self.inside.is_spent c.args.self.now c.args.stamp
+    (event_of c.args.event) c.self.view_is
+    (record {
+      fits = c.requires.fits;
+      later = c.requires.later;
+      taken = c.requires.taken;
+      short = c.requires.short;
+    })).taken
 
 pub add-requires-clause-short : goal.add-requires-clause-short
 add-requires-clause-short c =
-    (seen_come c.self.inside.bench c.self.inside.keeper c.self.inside.is_spent c.args.self.now c.args.stamp (event_of c.args.event) c.self.view_is
-    (record { fits = c.requires.fits; later = c.requires.later; taken = c.requires.taken; short = c.requires.short })).short
+    (seen_come c.self.inside.bench c.self.inside.keeper c.self.inside.is_spent c.args.self.now c.args.stamp
+    (event_of c.args.event) c.self.view_is
+    (record {
+      fits = c.requires.fits;
+      later = c.requires.later;
+      taken = c.requires.taken;
+      short = c.requires.short;
+    })).short
 
 pub returns-clause-entry : goal.returns-clause-entry
 returns-clause-entry c =
-    c.in_ok-said.ensures.entry ∙ ap (λ (x : KeptState). with_entry x.bench c.args.stamp (event_of c.args.event)) c.self.view_is
+    c.in_ok-said.ensures.entry ∙ ap (λ (x : KeptState). with_entry x.bench c.args.stamp (event_of c.args.event))
+    c.self.view_is
 
 pub returns-clause-frames : goal.returns-clause-frames
 returns-clause-frames c =
@@ -49,16 +77,20 @@ returns-clause-frames c =
 
 pub returns-clause-stand : goal.returns-clause-stand
 returns-clause-stand c =
-    ap (list_all (stands (setup_in c.args.self.now.bench))) (posted_or c.in_ok-said.said c.new.result c.unwrap_or.result c.new.ensures.items c.unwrap_or.ensures)
-    ∙ subst (λ (x : KeptState). list_all (stands (setup_in x.bench)) (posted c.in_ok-said.said) ≡ true) c.self.view_is c.in_ok-said.ensures.stand
+    ap (list_all (stands (setup_in c.args.self.now.bench)))
+    (posted_or c.in_ok-said.said c.new.result c.unwrap_or.result c.new.ensures.items c.unwrap_or.ensures)
+    ∙ subst (λ (x : KeptState). list_all (stands (setup_in x.bench)) (posted c.in_ok-said.said) ≡ true)
+    c.self.view_is c.in_ok-said.ensures.stand
 
 pub returns-clause-spent : goal.returns-clause-spent
-returns-clause-spent c spent = absurd (true≢false (sym spent ∙ sym (ap (λ (x : KeptState). x.is_spent) c.self.view_is) ∙ c.if-self.false))
+returns-clause-spent c spent =
+    absurd (true≢false (sym spent ∙ sym (ap (λ (x : KeptState). x.is_spent) c.self.view_is) ∙ c.if-self.false))
 
 pub invariant_of-self : goal.invariant_of-self
 invariant_of-self c spent = absurd (true≢false spent)
 
 pub invariant_of-self-2 : goal.invariant_of-self-2
 invariant_of-self-2 c works =
-    subst (Keeps c.add.new.bench c.add.new.keeper) (noted (is_some c.in_ok-said.said) c.is_none-self-inside.result c.is_none-self-inside.ensures)
+    subst (Keeps c.add.new.bench c.add.new.keeper)
+    (noted (is_some c.in_ok-said.said) c.is_none-self-inside.result c.is_none-self-inside.ensures)
     c.in_ok-said.ensures.keeps

@@ -4,9 +4,11 @@ use Rattle.kept_lists.proofs.kept_actor.Kept.make.Goals as goal
 
 pub invariant_of-result : goal.invariant_of-result
 invariant_of-result c works =
-    begins_together (contents c.args.scenario.now) c.args.actor c.in_ok-bench.bench c.in_ok-keeper.keeper c.requires.valid c.requires.there
+    begins_together (contents c.args.scenario.now) c.args.actor c.in_ok-bench.bench c.in_ok-keeper.keeper
+    c.requires.valid c.requires.there
     c.in_ok-bench.ensures c.in_ok-keeper.ensures
 
 pub returns : goal.returns
 returns c =
-    begun_state (contents c.args.scenario.now) c.args.actor c.in_ok-bench.bench c.in_ok-keeper.keeper c.in_ok-bench.ensures c.in_ok-keeper.ensures
+    begun_state (contents c.args.scenario.now) c.args.actor c.in_ok-bench.bench c.in_ok-keeper.keeper
+    c.in_ok-bench.ensures c.in_ok-keeper.ensures

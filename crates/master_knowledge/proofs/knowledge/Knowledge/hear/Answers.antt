@@ -1,3 +1,5 @@
+-- A frame that came is first counted as taken, which only pre-ordering goes by, and then learned with its parts
+-- like one of the master's own.
 use Rattle.std.proofs.Common.{[], ◌∷◌, ◌++◌, ◌∙◌, ap}
 use Rattle.std.proofs.lemmas.Result.{on_ok_weaker}
 use Rattle.protocol_rules.specs.Group.{Group}
@@ -13,12 +15,17 @@ recall-requires-clause-known c = record {
   known = c.requires.known.known;
   told = c.requires.known.told;
   said = c.requires.known.said;
-  knows = knows_taken c.requires.known.group c.requires.known.own c.args.self.now c.take_update.new.preorder c.requires.known.taken c.requires.known.known c.requires.known.told c.requires.known.said c.args.frame.now c.in_ok-take_update.ensures c.requires.known.knows;
+  knows = knows_taken c.requires.known.group c.requires.known.own c.args.self.now c.take_update.new.preorder
+      c.requires.known.taken c.requires.known.known c.requires.known.told c.requires.known.said c.args.frame.now
+      c.in_ok-take_update.ensures.ok c.requires.known.knows;
 }
 
 pub recall-requires-clause-whole : goal.recall-requires-clause-whole
-recall-requires-clause-whole c = ap (λ (g : Group). is_whole g c.args.frame.now) (ap (λ (t : Rattle.preorder.specs.Taken.Taken). t.group) c.in_ok-take_update.ensures) ∙ c.requires.whole
+recall-requires-clause-whole c = ap (λ (g : Group). is_whole g c.args.frame.now) c.in_ok-take_update.ensures.group
+    ∙ c.requires.whole
 
 pub returns : goal.returns
 returns c = on_ok_weaker c.recall.result (λ recalled g me taken known told said k.
-    recalled g me (taken ++ c.args.frame.now ∷ []) known told said (knows_taken g me c.args.self.now c.take_update.new.preorder taken known told said c.args.frame.now c.in_ok-take_update.ensures k)) c.recall.ensures
+    recalled g me (taken ++ c.args.frame.now ∷ []) known told said
+    (knows_taken g me c.args.self.now c.take_update.new.preorder taken known told said c.args.frame.now
+    c.in_ok-take_update.ensures.ok k)) c.recall.ensures

@@ -8,4 +8,5 @@ use Rattle.master_knowledge.proofs.knowledge.Knowledge.recall.Given as goal
 
 abbrev pub invariant-loop-part : goal.invariant-loop-part
 invariant-loop-part l = (g : Group) (me : ℕ) (taken known : List (Signed Body)) (told : List Told) (said : List Body)
-    → Knows g me l.fn.self taken known told said → Knows g me l.self taken (known ++ take l.part-index l.part-items) told said
+    → Knows g me l.fn.self taken known told said →
+    Knows g me l.self taken (known ++ take l.part-index l.part-items) told said

@@ -1,14 +1,14 @@
+-- What is certified is kept by pre-ordering of the words that the master knows, and a running master knows
+-- those of its entries so far, so the two answers are one.
 use Rattle.std.proofs.Common.{sym, ◌∙◌, ap, subst}
-use Rattle.history_rules.specs.Legal.{known_of}
-use Rattle.master_answers.proofs.Requests.{certified_now}
 use Rattle.master_node.specs.declared.running.Running.{Running}
-use Rattle.master_node.specs.Charge.{taken_by}
 use Rattle.master_node.specs.Node.{NodeState}
 use Rattle.master_node.specs.Running.{IsRunning}
 use Rattle.master_node.proofs.node.Node.certified.Goals as goal
 
 pub returns : goal.returns
 returns c charge before is =
-    let inside : IsRunning charge c.self.inside.running before = subst (λ (r : Running). IsRunning charge r before) (sym (ap (λ (n : NodeState). n.running) c.self.view_is)) is in
+    let inside : IsRunning charge c.self.inside.running before = subst (λ (r : Running). IsRunning charge r before)
+    (sym (ap (λ (n : NodeState). n.running) c.self.view_is)) is in
     c.certified.ensures
-    ∙ certified_now charge.group charge.me c.self.inside.running.speaker.knowledge.preorder (taken_by before) (known_of before) inside.keeps.counted inside.keeps.speaks.knows.preorder c.args.j c.args.k
+    ∙ inside.keeps.is_replica.knows.preorder.certified c.args.j c.args.k

@@ -8,5 +8,7 @@ use Rattle.master_node.proofs.node.Node.executions.Goals as goal
 
 pub returns : goal.returns
 returns c charge before is =
-    let inside : IsRunning charge c.self.inside.running before = subst (λ (r : Running). IsRunning charge r before) (sym (ap (λ (n : NodeState). n.running) c.self.view_is)) is in
-    executed_listed charge.group c.self.inside.running.speaker.knowledge (known_of before) c.list.result.now inside.caught c.list.ensures
+    let inside : IsRunning charge c.self.inside.running before = subst (λ (r : Running). IsRunning charge r before)
+    (sym (ap (λ (n : NodeState). n.running) c.self.view_is)) is in
+    executed_listed charge.group c.self.inside.running.replica.knowledge (known_of before)
+    c.list.result.now inside.caught c.list.ensures

@@ -7,5 +7,6 @@ use Rattle.master_node.proofs.node.Node.view.Goals as goal
 
 pub returns : goal.returns
 returns c charge before is =
-    let inside : IsRunning charge c.self.inside.running before = subst (λ (r : Running). IsRunning charge r before) (sym (ap (λ (n : NodeState). n.running) c.self.view_is)) is in
-    c.view.ensures charge.group charge.me (known_of before) inside.keeps.counted inside.keeps.speaks.knows.views
+    let inside : IsRunning charge c.self.inside.running before = subst (λ (r : Running). IsRunning charge r before)
+    (sym (ap (λ (n : NodeState). n.running) c.self.view_is)) is in
+    c.view.ensures charge.group charge.me (known_of before) inside.keeps.counted inside.keeps.is_replica.knows.views

@@ -1,3 +1,5 @@
+-- The updates executed before are a beginning of those executed now, so the rest is what the points haven't
+-- seen yet. Then all is known, executed and told that the answers go by.
 use Rattle.std.proofs.Common.{◌<◌, ◌≤◌, ◌*◌, Fits, w64, length, arith}
 use Rattle.std.proofs.lemmas.Result.{on_ok_weaker, IfOk-weaker}
 use Rattle.master_node.proofs.Plants.{tail_applied, tail_passes}
@@ -8,19 +10,23 @@ pub slice_bounds-apply_all-count : goal.slice_bounds-apply_all-count
 slice_bounds-apply_all-count c =
     let l = c.requires.learned in
     done_within l.charge c.args.self.now l.before l.took c.args.at_tick c.args.done c.list-executed.result.now l.is
-    (caught_list l.charge c.args.self.now c.catch_up.new.self l.before l.took c.args.at_tick c.args.done c.list-executed.result.now l.is c.in_ok-catch_up.ensures.caught c.list-executed.ensures)
+    (caught_list l.charge c.args.self.now c.catch_up.new.self l.before l.took c.args.at_tick c.args.done
+    c.list-executed.result.now l.is c.in_ok-catch_up.ensures.caught c.list-executed.ensures)
 
 pub slice_bounds-apply_all-start : goal.slice_bounds-apply_all-start
 slice_bounds-apply_all-start c =
     let l = c.requires.learned in
     done_within l.charge c.args.self.now l.before l.took c.args.at_tick c.args.done c.list-executed.result.now l.is
-    (caught_list l.charge c.args.self.now c.catch_up.new.self l.before l.took c.args.at_tick c.args.done c.list-executed.result.now l.is c.in_ok-catch_up.ensures.caught c.list-executed.ensures)
+    (caught_list l.charge c.args.self.now c.catch_up.new.self l.before l.took c.args.at_tick c.args.done
+    c.list-executed.result.now l.is c.in_ok-catch_up.ensures.caught c.list-executed.ensures)
 
 pub offset_bounds-executed-done : goal.offset_bounds-executed-done
 offset_bounds-executed-done c =
     let l = c.requires.learned in
-    let some : c.args.done ≤ length c.list-executed.result.now = done_within l.charge c.args.self.now l.before l.took c.args.at_tick c.args.done c.list-executed.result.now l.is
-    (caught_list l.charge c.args.self.now c.catch_up.new.self l.before l.took c.args.at_tick c.args.done c.list-executed.result.now l.is c.in_ok-catch_up.ensures.caught c.list-executed.ensures) in
+    let some : c.args.done ≤ length c.list-executed.result.now =
+    done_within l.charge c.args.self.now l.before l.took c.args.at_tick c.args.done c.list-executed.result.now l.is
+    (caught_list l.charge c.args.self.now c.catch_up.new.self l.before l.took c.args.at_tick c.args.done
+    c.list-executed.result.now l.is c.in_ok-catch_up.ensures.caught c.list-executed.ensures) in
     let all : length c.list-executed.result.now * 32 < 9223372036854775808 = c.list-executed.type_inv.1 in
     let small : Fits w64 (c.args.done * 32) = omega arith in
     small
@@ -28,13 +34,19 @@ offset_bounds-executed-done c =
 pub apply_all-requires : goal.apply_all-requires
 apply_all-requires c =
     let l = c.requires.learned in
-    tail_passes _ c.list-executed.result.now c.args.done (clients_there l.charge c.args.self.now l.before l.took c.args.at_tick c.args.done c.list-executed.result.now l.is
-    (caught_list l.charge c.args.self.now c.catch_up.new.self l.before l.took c.args.at_tick c.args.done c.list-executed.result.now l.is c.in_ok-catch_up.ensures.caught c.list-executed.ensures))
+    tail_passes _ c.list-executed.result.now c.args.done
+    (clients_there l.charge c.args.self.now l.before l.took c.args.at_tick c.args.done
+    c.list-executed.result.now l.is
+    (caught_list l.charge c.args.self.now c.catch_up.new.self l.before l.took c.args.at_tick c.args.done
+    c.list-executed.result.now l.is c.in_ok-catch_up.ensures.caught c.list-executed.ensures))
 
 pub tell-requires : goal.tell-requires
 tell-requires c =
     let l = c.requires.learned in
-    record { ticks = few_ticks l.charge c.args.self.now c.catch_up.new.self l.before l.took c.args.at_tick c.args.done l.is c.in_ok-catch_up.ensures.knows }
+    record {
+      ticks = few_ticks l.charge c.args.self.now c.catch_up.new.self l.before l.took c.args.at_tick c.args.done
+          l.is c.in_ok-catch_up.ensures.knows;
+    }
 
 pub say-requires : goal.say-requires
 say-requires c =
@@ -44,23 +56,32 @@ say-requires c =
         charge = l.charge;
         before = l.before;
         took = l.took;
-        is = gone_on l.charge c.args.self.now c.catch_up.new.self c.tell.new.knowledge c.apply_all.new.points l.before l.took c.args.at_tick c.args.done c.list-executed.result.now l.is
+        is = gone_on l.charge c.args.self.now c.catch_up.new.self c.tell.new.knowledge c.apply_all.new.points l.before
+            l.took c.args.at_tick c.args.done c.list-executed.result.now l.is
             c.in_ok-catch_up.ensures.knows c.in_ok-catch_up.ensures.caught
-            (caught_list l.charge c.args.self.now c.catch_up.new.self l.before l.took c.args.at_tick c.args.done c.list-executed.result.now l.is c.in_ok-catch_up.ensures.caught c.list-executed.ensures)
-            (tail_applied c.args.self.now.points c.apply_all.new.points c.list-executed.result.now c.args.done c.in_ok-apply_all.ensures) c.in_ok-tell.ensures.told c.in_ok-tell.ensures.run;
+            (caught_list l.charge c.args.self.now c.catch_up.new.self l.before l.took c.args.at_tick c.args.done
+            c.list-executed.result.now l.is c.in_ok-catch_up.ensures.caught c.list-executed.ensures)
+            (tail_applied c.args.self.now.points c.apply_all.new.points c.list-executed.result.now c.args.done
+            c.in_ok-apply_all.ensures) c.in_ok-tell.ensures.told c.in_ok-tell.ensures.run;
       };
     }
 
 pub returns-clause-said : goal.returns-clause-said
 returns-clause-said c = IfOk-weaker c.say.result _ _ (λ bodies said charge before took is. said charge before took
-    (gone_on charge c.args.self.now c.catch_up.new.self c.tell.new.knowledge c.apply_all.new.points before took c.args.at_tick c.args.done c.list-executed.result.now is
+    (gone_on charge c.args.self.now c.catch_up.new.self c.tell.new.knowledge c.apply_all.new.points before took
+    c.args.at_tick c.args.done c.list-executed.result.now is
     c.in_ok-catch_up.ensures.knows c.in_ok-catch_up.ensures.caught
-    (caught_list charge c.args.self.now c.catch_up.new.self before took c.args.at_tick c.args.done c.list-executed.result.now is c.in_ok-catch_up.ensures.caught c.list-executed.ensures)
-    (tail_applied c.args.self.now.points c.apply_all.new.points c.list-executed.result.now c.args.done c.in_ok-apply_all.ensures) c.in_ok-tell.ensures.told c.in_ok-tell.ensures.run)) c.say.ensures.said
+    (caught_list charge c.args.self.now c.catch_up.new.self before took c.args.at_tick c.args.done
+    c.list-executed.result.now is c.in_ok-catch_up.ensures.caught c.list-executed.ensures)
+    (tail_applied c.args.self.now.points c.apply_all.new.points c.list-executed.result.now c.args.done
+    c.in_ok-apply_all.ensures) c.in_ok-tell.ensures.told c.in_ok-tell.ensures.run)) c.say.ensures.said
 
 pub returns-clause-spoken : goal.returns-clause-spoken
 returns-clause-spoken c = on_ok_weaker c.say.result (λ spoken charge before took is. spoken charge before took
-    (gone_on charge c.args.self.now c.catch_up.new.self c.tell.new.knowledge c.apply_all.new.points before took c.args.at_tick c.args.done c.list-executed.result.now is
+    (gone_on charge c.args.self.now c.catch_up.new.self c.tell.new.knowledge c.apply_all.new.points before took
+    c.args.at_tick c.args.done c.list-executed.result.now is
     c.in_ok-catch_up.ensures.knows c.in_ok-catch_up.ensures.caught
-    (caught_list charge c.args.self.now c.catch_up.new.self before took c.args.at_tick c.args.done c.list-executed.result.now is c.in_ok-catch_up.ensures.caught c.list-executed.ensures)
-    (tail_applied c.args.self.now.points c.apply_all.new.points c.list-executed.result.now c.args.done c.in_ok-apply_all.ensures) c.in_ok-tell.ensures.told c.in_ok-tell.ensures.run)) c.say.ensures.spoken
+    (caught_list charge c.args.self.now c.catch_up.new.self before took c.args.at_tick c.args.done
+    c.list-executed.result.now is c.in_ok-catch_up.ensures.caught c.list-executed.ensures)
+    (tail_applied c.args.self.now.points c.apply_all.new.points c.list-executed.result.now c.args.done
+    c.in_ok-apply_all.ensures) c.in_ok-tell.ensures.told c.in_ok-tell.ensures.run)) c.say.ensures.spoken

@@ -7,5 +7,6 @@ use Rattle.master_node.proofs.running.Running.signed.Goals as goal
 
 pub returns : goal.returns
 returns c charge before took at_tick spoken own =
-    subst (λ (frames : List (Signed Body)). IsRunning charge (record c.args.self.now { unheard = frames }) (before ++ record { took = took; is_tick = at_tick; said = c.args.frames.now } ∷ []))
+    subst (λ (frames : List (Signed Body)). IsRunning charge (record c.args.self.now { unheard = frames })
+    (before ++ record { took = took; is_tick = at_tick; said = c.args.frames.now } ∷ []))
     (sym c.in_ok-self.ensures) (handed_so charge c.args.self.now before took at_tick c.args.frames.now spoken own)

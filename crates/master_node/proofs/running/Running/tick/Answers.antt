@@ -1,3 +1,5 @@
+-- A tick takes no frame, so only the own words said at earlier events are learned before it goes on. The count
+-- of ticks has room for one more.
 use Rattle.std.proofs.Common.{None, ◌∙◌, ap}
 use Rattle.std.specs.List.{list_all}
 use Rattle.std.proofs.lemmas.Result.{on_ok_weaker, IfOk-weaker}
@@ -9,7 +11,7 @@ use Rattle.master_node.proofs.running.Running.tick.Goals as goal
 pub recall_all-requires-clause-whole : goal.recall_all-requires-clause-whole
 recall_all-requires-clause-whole c =
     let r = c.requires.running in
-    ap (λ (h : Group). list_all (is_whole h) c.args.self.now.unheard) r.is.keeps.speaks.knows.preorder.group
+    ap (λ (h : Group). list_all (is_whole h) c.args.self.now.unheard) r.is.keeps.is_replica.knows.preorder.group
     ∙ own_whole r.charge.group r.before c.args.self.now.unheard r.is.unheard r.is.placed
 
 pub go_on-requires : goal.go_on-requires
@@ -20,7 +22,8 @@ go_on-requires c =
         charge = r.charge;
         before = r.before;
         took = None;
-        is = ticked_so r.charge c.args.self.now c.recall_all.new.knowledge c.new.result r.before c.list-done.result.now r.is
+        is = ticked_so r.charge c.args.self.now c.recall_all.new.knowledge c.new.result r.before
+            c.list-done.result.now r.is
             c.in_ok-recall_all.ensures c.requires.ticks c.new.ensures c.list-done.ensures;
       };
     }

@@ -6,7 +6,9 @@ use Rattle.operator_screen.proofs.screen.Screen.make.Goals as goal
 
 pub invariant_of-result : goal.invariant_of-result
 invariant_of-result c = (
-  c.new-2.ensures.items ∙ sym (ap notices (ap (λ (v : Votes). done c.args.sizes.n c.args.sizes.f v.votes) c.new.ensures ∙ done-none c.args.sizes.n c.args.sizes.f)),
+  c.new-2.ensures.items ∙ sym
+      (ap notices (ap (λ (v : Votes). done c.args.sizes.n c.args.sizes.f v.votes) c.new.ensures
+      ∙ done-none c.args.sizes.n c.args.sizes.f)),
   ap (λ (v : Votes). v.n) c.new.ensures,
   ap (λ (v : Votes). v.f) c.new.ensures,
 )

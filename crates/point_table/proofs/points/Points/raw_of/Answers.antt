@@ -1,3 +1,5 @@
+-- A number past the last point finds none, and one that finds a point is below the count. So the two refusals
+-- never mix, and the point's own raw value is the answer.
 use Rattle.std.proofs.Common.{ap, ◌≡◌, sym, arith, ◌<◌, length}
 use Rattle.std.proofs.lemmas.Option.{slice_get_within}
 use Rattle.point_table.specs.Table.{Table}
@@ -12,7 +14,8 @@ returns-in-Some-raw_of-clause-no_point c = (
   λ e. cc,
   λ low.
       let there : c.args.point < length c.self.inside.points = slice_get_within _ _ _ (sym c.in-Some.ensures) in
-      let same : length c.self.inside.points ≡ length c.args.self.now.points = ap (λ (t : Table). length t.points) c.self.view_is in
+      let same : length c.self.inside.points ≡ length c.args.self.now.points =
+      ap (λ (t : Table). length t.points) c.self.view_is in
       absurd (omega arith),
 )
 
@@ -21,6 +24,7 @@ returns-in-None-clause-no_point c = (
   λ e. cc,
   λ low.
       let there : c.args.point < length c.self.inside.points = slice_get_within _ _ _ (sym c.in-Some.ensures) in
-      let same : length c.self.inside.points ≡ length c.args.self.now.points = ap (λ (t : Table). length t.points) c.self.view_is in
+      let same : length c.self.inside.points ≡ length c.args.self.now.points =
+      ap (λ (t : Table). length t.points) c.self.view_is in
       absurd (omega arith),
 )

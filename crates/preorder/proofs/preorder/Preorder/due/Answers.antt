@@ -1,37 +1,57 @@
-use Rattle.std.proofs.Common.{◌≡◌, ◌++◌, List, ◌∙◌, ap, sym, subst, refl, ℕ, arith, length}
+-- The requests due go onto an empty list, and the acknowledgements due behind them: so all is what the rules say. Once
+-- all of it counts as said nothing is pending, and each first request is acknowledged.
+use Rattle.std.proofs.Common.{◌≡◌, ◌++◌, List, ◌∙◌, ap, sym, subst, ℕ}
 use Rattle.message_types.specs.declared.body.Body.{Body}
-use Rattle.protocol_rules.specs.Group.{group_of}
+use Rattle.protocol_rules.specs.Group.{Group, group_of}
 use Rattle.protocol_rules.specs.Words.{numbers_from}
 use Rattle.protocol_rules.specs.Preorder.{requests_due, acks_due}
-use Rattle.preorder.specs.Index.{HasFirsts, IsPending}
-use Rattle.preorder.specs.Counted.{IsCounted}
+use Rattle.preorder.specs.contracts.preorder.Preorder.{the_view}
+use Rattle.preorder.specs.Index.{HasFirsts}
+use Rattle.preorder.proofs.Viewed.{viewed}
 use Rattle.preorder.proofs.Others.{pending-none}
-use Rattle.preorder.proofs.Settled.{firsts-after, idle-after, counted-after}
+use Rattle.preorder.proofs.Settled.{pushed-all, due-is, only-known, idle-after, counted-after}
 use Rattle.preorder.proofs.preorder.Preorder.due.Goals as goal
 
-pub invariant_of-self-2 : goal.invariant_of-self-2
-invariant_of-self-2 c =
+pub returns-clause-due : goal.returns-clause-due
+returns-clause-due c g me taken known said is =
     let a = c.self.inside in
-    let g = group_of a.sizes a.clients in
+    let old = viewed g me (the_view a) c.args.self.now taken known said c.self.view_is is in
+    let size : g.n ≡ a.sizes.n = sym (ap (λ (h : Group). h.n) old.group) in
+    due-is g (group_of a.sizes a.clients) me a.me taken known said c.push_acks.new.bodies.items old.group old.own
+    (pushed-all c.new-bodies.result.items c.push_requests.new.bodies.items c.push_acks.new.bodies.items
+    _ _ c.new-bodies.ensures.items
+    (c.in_ok-push_requests.ensures.added taken said old.updates old.counted)
+    (c.in_ok-push_acks.ensures g known said size old.firsts old.pending))
+
+pub returns-clause-said : goal.returns-clause-said
+returns-clause-said c g me taken known said is =
+    let a = c.self.inside in
+    let old = viewed g me (the_view a) c.args.self.now taken known said c.self.view_is is in
+    let size : g.n ≡ a.sizes.n = sym (ap (λ (h : Group). h.n) old.group) in
     let clients : List ℕ = numbers_from 0 a.clients in
-    let requests : List Body = requests_due g a.me a.took.items a.said.items clients in
+    let requests : List Body = requests_due (group_of a.sizes a.clients) a.me taken said clients in
     let bodies : List Body = c.push_acks.new.bodies.items in
-    let first = c.in_ok-push_requests.ensures.added a.took.items a.said.items c.self.invariant.updates c.self.invariant.counted in
-    let all : bodies ≡ requests ++ acks_due g a.took.items a.said.items =
-    c.in_ok-push_acks.ensures g a.took.items a.said.items refl (let count : c.len.result ≡ length a.said.items = omega (arith, c.len.ensures) in count) c.self.invariant.firsts c.self.invariant.pending
-    ∙ ap (λ xs. xs ++ acks_due g a.took.items a.said.items) (first ∙ ap (λ xs. xs ++ requests) c.new-bodies.ensures.items) in
-    let said_is : a.said.items ++ bodies ≡ c.append.new.self.items =
-    sym (rw c.in_ok-append.was at c.append.ensures.items ∙ ap (λ xs. a.said.items ++ xs) c.in_ok-again.ensures) in
+    let all : bodies ≡ requests ++ acks_due g known said =
+    pushed-all c.new-bodies.result.items c.push_requests.new.bodies.items bodies requests (acks_due g known said)
+    c.new-bodies.ensures.items
+    (c.in_ok-push_requests.ensures.added taken said old.updates old.counted)
+    (c.in_ok-push_acks.ensures g known said size old.firsts old.pending) in
     record {
-      few_clients = c.self.invariant.few_clients;
-      updates = c.self.invariant.updates;
-      firsts = subst (λ s. HasFirsts g a.took.items s a.firsts) said_is (firsts-after g a.me a.took.items a.said.items bodies clients a.firsts all c.self.invariant.firsts);
-      ballots = c.self.invariant.ballots;
-      certified = c.self.invariant.certified;
-      reach = c.self.invariant.reach;
-      pending = pending-none a.took.items c.append.new.self.items _ _ c.none_pending-self-inside.ensures.low c.none_pending-self-inside.ensures.high
-          (λ j k pending. idle-after g a.me a.took.items a.said.items bodies clients a.firsts all c.self.invariant.firsts j k (subst (λ s. IsPending a.took.items s j k) (sym said_is) pending));
-      counted = subst (λ s. IsCounted s c.push_requests.new.counts) said_is
-          (counted-after g a.took.items a.said.items requests bodies c.push_requests.new.counts all
-          (c.in_ok-push_requests.ensures.counted a.took.items a.said.items c.self.invariant.updates c.self.invariant.counted));
+      group = old.group;
+      own = old.own;
+      updates = old.updates;
+      firsts = subst (λ (xs : List Body). HasFirsts g known (said ++ xs) c.note_said.new.firsts.entries)
+          c.deref.ensures.value
+          (c.note_said.ensures g known said
+          (only-known g (group_of a.sizes a.clients) a.me taken known said c.deref.result.now clients
+          (c.deref.ensures.value ∙ all)) old.firsts);
+      ballots = old.ballots;
+      certified = old.certified;
+      reach = old.reach;
+      pending = pending-none known (said ++ bodies) _ _ c.none_pending-self-inside.ensures.low
+          c.none_pending-self-inside.ensures.high
+          (idle-after g (group_of a.sizes a.clients) a.me taken known said bodies clients
+          a.firsts.entries all old.firsts);
+      counted = counted-after g known said requests bodies c.push_requests.new.counts all
+          (c.in_ok-push_requests.ensures.counted taken said old.updates old.counted);
     }

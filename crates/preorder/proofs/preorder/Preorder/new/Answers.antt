@@ -1,6 +1,9 @@
 use Rattle.std.proofs.Common.{refl}
-use Rattle.preorder.proofs.Beginning.{is_held-new}
+use Rattle.protocol_rules.specs.Group.{group_of}
+use Rattle.preorder.proofs.Beginning.{starts}
 use Rattle.preorder.proofs.preorder.Preorder.new.Goals as goal
 
-pub invariant_of-result : goal.invariant_of-result
-invariant_of-result c = is_held-new _ c.requires.few_clients c.new.ensures.items c.new-2.ensures.items c.new-3.ensures.empty c.new-4.ensures.empty c.new-5.ensures.empty c.new-6.ensures.empty refl refl refl (refl, refl)
+pub returns : goal.returns
+returns c = starts (group_of c.args.sizes c.args.clients) c.args.me _ refl refl c.new.ensures.empty
+    c.new-2.ensures.empty c.new-3.ensures.empty c.new-4.ensures.empty refl
+    c.none_pending.ensures.low c.none_pending.ensures.high refl refl

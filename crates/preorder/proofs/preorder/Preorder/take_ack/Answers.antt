@@ -1,41 +1,41 @@
-use Rattle.std.proofs.Common.{◌≡◌, ◌++◌, ◌∷◌, [], List, ◌<◌, ◌∙◌, ap, sym, subst, refl, arith, cond, None}
+-- The ballot takes the vote, and what it has a quorum for now is certified. An acknowledgement of another master adds
+-- nothing to first requests or to what is due.
+use Rattle.std.proofs.Common.{◌++◌, ◌∷◌, [], List, ◌∙◌, ap, sym, subst, refl, cond, None}
 use Rattle.message_types.specs.declared.signed.Signed.{Signed}
 use Rattle.message_types.specs.declared.body.Body.{Body}
 use Rattle.message_types.specs.declared.body.Body.TheVariants as body
 use Rattle.message_types.specs.Parts.{as_frame}
-use Rattle.protocol_rules.specs.Group.{group_of}
+use Rattle.protocol_rules.specs.Group.{Group}
 use Rattle.protocol_rules.specs.Preorder.{is_acked}
-use Rattle.preorder.specs.Taken.{Taken}
-use Rattle.preorder.specs.Index.{HasUpdates, HasFirsts, HasBallots, HasCertified, HasReach, HasPending}
-use Rattle.preorder.proofs.Others.{updates-other, firsts-other, pending-other, certified-entries}
+use Rattle.preorder.specs.contracts.preorder.Preorder.{the_view}
+use Rattle.preorder.specs.Index.{HasCertified}
+use Rattle.preorder.proofs.Viewed.{viewed}
+use Rattle.preorder.proofs.Others.{firsts-other, pending-other}
 use Rattle.preorder.proofs.Certified.{certifies-ack}
 use Rattle.preorder.proofs.preorder.Preorder.take_ack.Goals as goal
 
-pub invariant_of-self-2 : goal.invariant_of-self-2
-invariant_of-self-2 c =
+pub returns-clause-learned : goal.returns-clause-learned
+returns-clause-learned c g me taken known said is =
     let a = c.self.inside in
     let x = c.args.frame.now in
-    let g = group_of a.sizes a.clients in
-    let size = ap (λ (t : Taken). t.group.n) c.self.view_is in
-    let in_group : x.signer < g.n = rw size c.requires.signer in
-    let small : x.signer < 14 = omega arith in
-    let pushed = rw c.unwrap.ensures at c.push.ensures.items in
-    let after : List (Signed Body) = a.took.items ++ as_frame body.PoAck x ∷ [] in
-    let took_is : a.took.items ++ as_frame body.PoAck x ∷ [] ≡ c.push.new.self.items =
-    sym (pushed ∙ ap (λ xs. xs ++ c.in_ok-own.own ∷ []) c.reserve.ensures.items ∙ ap (λ own. a.took.items ++ own ∷ []) c.in_ok-own.ensures) in
-    let votes = c.is_acked-has_votes.ensures after (c.in_ok-note_vote.ensures.noted a.took.items c.self.invariant.ballots) in
-    let found = c.requested-update.ensures after (c.in_ok-note_vote.ensures.noted a.took.items c.self.invariant.ballots) in
+    let old = viewed g me (the_view a) c.args.self.now taken known said c.self.view_is is in
+    let after : List (Signed Body) = known ++ as_frame body.PoAck x ∷ [] in
+    let ballots = c.in_ok-note_vote.ensures.noted known old.ballots in
+    let votes = c.is_acked-has_votes.ensures after ballots
+    ∙ ap (λ (h : Group). is_acked h after x.body.j x.body.k x.body.digest) old.group in
     let candidate = c.if_acked-candidate.ensures ∙ ap (λ b. cond b c.requested-update.result None) votes
-    ∙ ap (λ o. cond (is_acked g after x.body.j x.body.k x.body.digest) o None) found in
-    let certified = c.certify.ensures g a.took.items after (certifies-ack g a.took.items x c.if_acked-candidate.result candidate)
-    (certified-entries g a.took.items a.certificates c.reserve-2.new.self c.reserve-2.ensures.entries c.self.invariant.certified) c.self.invariant.reach in
+    ∙ ap (λ o. cond (is_acked g after x.body.j x.body.k x.body.digest) o None)
+    (c.requested-update.ensures after ballots) in
+    let certified = c.certify.ensures g known after (certifies-ack g known x c.if_acked-candidate.result candidate)
+    (subst (HasCertified g known) (sym c.reserve.ensures.entries) old.certified) old.reach in
     record {
-      few_clients = c.self.invariant.few_clients;
-      updates = subst (λ t. HasUpdates t a.updates) took_is (updates-other a.took.items (as_frame body.PoAck x) a.updates (λ i t. refl) c.self.invariant.updates);
-      firsts = subst (λ t. HasFirsts g t a.said.items a.firsts) took_is (firsts-other g a.took.items a.said.items (as_frame body.PoAck x) a.firsts (λ j k. refl) c.self.invariant.firsts);
-      ballots = subst (λ t. HasBallots t c.note_vote.new.ballots) took_is (c.in_ok-note_vote.ensures.noted a.took.items c.self.invariant.ballots);
-      certified = subst (λ t. HasCertified g t c.certify.new.certificates) took_is certified.0;
-      reach = subst (λ t. HasReach g t c.certify.new.reach) took_is certified.1;
-      pending = subst (λ t. HasPending t a.said.items a.pending.low a.pending.high) took_is (pending-other a.took.items a.said.items (as_frame body.PoAck x) a.pending.low a.pending.high (λ j k. refl) c.self.invariant.pending);
-      counted = c.self.invariant.counted;
+      group = old.group;
+      own = old.own;
+      updates = old.updates;
+      firsts = firsts-other g known said (as_frame body.PoAck x) a.firsts.entries (λ j k. refl) old.firsts;
+      ballots = ballots;
+      certified = certified.0;
+      reach = certified.1;
+      pending = pending-other known said (as_frame body.PoAck x) a.pending.low a.pending.high (λ j k. refl) old.pending;
+      counted = old.counted;
     }

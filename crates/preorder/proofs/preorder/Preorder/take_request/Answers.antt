@@ -1,47 +1,57 @@
-use Rattle.std.proofs.Common.{◌≡◌, ◌++◌, ◌∷◌, [], List, ◌<◌, ◌∙◌, ap, sym, subst, refl, arith, cond, Some, None, length, set, min}
+-- Each part of the index takes the request by its own clause: it may be the first for its number, one of a ballot, and
+-- certified where its ballot has a quorum already. The range of numbers due grows to hold it.
+use Rattle.std.proofs.Common.{◌≡◌, ◌++◌, ◌∷◌, [], List, ◌<◌, ◌≤◌, ◌∙◌, ap, sym, subst, arith, cond, Some, None, set}
+use Rattle.std.proofs.Common.{min}
 use Rattle.std.specs.Prelude.{slice_index}
 use Rattle.message_types.specs.declared.signed.Signed.{Signed}
 use Rattle.message_types.specs.declared.body.Body.{Body}
 use Rattle.message_types.specs.declared.body.Body.TheVariants as body
+use Rattle.message_types.specs.Digests.{digest_of_update}
 use Rattle.message_types.specs.Parts.{as_frame}
-use Rattle.protocol_rules.specs.Group.{group_of}
+use Rattle.quorum_sets.proofs.Numbered.{masters_few}
+use Rattle.protocol_rules.specs.Group.{Group, group_of}
 use Rattle.protocol_rules.specs.Preorder.{is_acked}
-use Rattle.preorder.specs.Taken.{Taken}
-use Rattle.preorder.specs.Index.{HasUpdates, HasFirsts, HasBallots, HasCertified, HasReach, HasPending}
-use Rattle.preorder.proofs.Others.{updates-other, pending-request, firsts-entries, certified-entries}
+use Rattle.preorder.specs.contracts.preorder.Preorder.{the_view}
+use Rattle.preorder.specs.Index.{HasFirsts, HasCertified, HasPending}
+use Rattle.preorder.proofs.Viewed.{viewed}
+use Rattle.preorder.proofs.Others.{pending-request}
 use Rattle.preorder.proofs.Certified.{certifies-request}
 use Rattle.preorder.proofs.preorder.Preorder.take_request.Goals as goal
 
-pub invariant_of-self-2 : goal.invariant_of-self-2
-invariant_of-self-2 c =
+pub returns-clause-learned : goal.returns-clause-learned
+returns-clause-learned c g me taken known said is =
     let a = c.self.inside in
     let x = c.args.frame.now in
-    let g = group_of a.sizes a.clients in
-    let size = ap (λ (t : Taken). t.group.n) c.self.view_is in
-    let in_group : x.signer < g.n = rw size c.requires.signer in
+    let old = viewed g me (the_view a) c.args.self.now taken known said c.self.view_is is in
+    let masters : c.args.self.now.group.n ≡ g.n = ap (λ (h : Group). h.n) is.group in
+    let size : a.sizes.n ≡ g.n = ap (λ (h : Group). h.n) old.group in
+    let few : a.sizes.n ≤ 14 = masters_few a.sizes in
+    let signer : x.signer < c.args.self.now.group.n = c.requires.signer in
+    let in_group : x.signer < g.n = omega arith in
     let small : x.signer < 14 = omega arith in
-    let pushed = rw c.unwrap.ensures at c.push.ensures.items in
-    let after : List (Signed Body) = a.took.items ++ as_frame body.PoRequest x ∷ [] in
-    let took_is : a.took.items ++ as_frame body.PoRequest x ∷ [] ≡ c.push.new.self.items =
-    sym (pushed ∙ ap (λ xs. xs ++ c.in_ok-own.own ∷ []) c.reserve.ensures.items ∙ ap (λ own. a.took.items ++ own ∷ []) c.in_ok-own.ensures) in
+    let after : List (Signed Body) = known ++ as_frame body.PoRequest x ∷ [] in
     let u = x.body.update.body in
-    let count : c.len.result ≡ length a.said.items = omega (arith, c.len.ensures) in
-    let votes = c.is_acked-has_votes.ensures a.took.items c.self.invariant.ballots ∙ ap (is_acked g a.took.items x.signer x.body.k) c.update_digest-digest.ensures in
+    let votes = c.is_acked-has_votes.ensures known old.ballots
+    ∙ ap (is_acked (group_of a.sizes a.clients) known x.signer x.body.k) c.update_digest-digest.ensures
+    ∙ ap (λ (h : Group). is_acked h known x.signer x.body.k (digest_of_update u)) old.group in
     let candidate = c.if_acked-candidate.ensures ∙ ap (λ b. cond b (Some u) None) votes in
-    let certified = c.certify.ensures g a.took.items after (certifies-request g a.took.items x c.if_acked-candidate.result candidate)
-    (certified-entries g a.took.items a.certificates c.reserve-3.new.self c.reserve-3.ensures.entries c.self.invariant.certified) c.self.invariant.reach in
-    let widened = pending-request a.took.items a.said.items x a.pending.low a.pending.high small c.requires.first c.requires.last c.self.invariant.pending in
+    let certified = c.certify.ensures g known after
+    (certifies-request g known x c.if_acked-candidate.result candidate)
+    (subst (HasCertified g known) (sym c.reserve-2.ensures.entries) old.certified) old.reach in
+    let widened = pending-request known said x a.pending.low a.pending.high small c.requires.first
+    c.requires.last old.pending in
     record {
-      few_clients = c.self.invariant.few_clients;
-      updates = subst (λ t. HasUpdates t a.updates) took_is (updates-other a.took.items (as_frame body.PoRequest x) a.updates (λ i t. refl) c.self.invariant.updates);
-      firsts = subst (λ t. HasFirsts g t a.said.items c.note_first.new.firsts) took_is
-          (c.note_first.ensures g a.took.items a.said.items in_group count
-          (firsts-entries g a.took.items a.said.items a.firsts c.reserve-2.new.self c.reserve-2.ensures.entries c.self.invariant.firsts));
-      ballots = subst (λ t. HasBallots t c.note_requested.new.ballots) took_is (c.in_ok-note_requested.ensures.noted a.took.items c.self.invariant.ballots);
-      certified = subst (λ t. HasCertified g t c.certify.new.certificates) took_is certified.0;
-      reach = subst (λ t. HasReach g t c.certify.new.reach) took_is certified.1;
-      pending = subst (λ t. HasPending t a.said.items c.widen.new.pending.low c.widen.new.pending.high) took_is
-          (subst (λ l. HasPending after a.said.items l c.widen.new.pending.high) (sym c.widen.ensures.low)
-          (subst (λ h. HasPending after a.said.items (set a.pending.low x.signer (min (slice_index a.pending.low x.signer) x.body.k)) h) (sym c.widen.ensures.high) widened));
-      counted = c.self.invariant.counted;
+      group = old.group;
+      own = old.own;
+      updates = old.updates;
+      firsts = c.note_first.ensures g known said in_group
+          (subst (HasFirsts g known said) (sym c.reserve.ensures.entries) old.firsts);
+      ballots = c.in_ok-note_requested.ensures.noted known old.ballots;
+      certified = certified.0;
+      reach = certified.1;
+      pending = subst (λ l. HasPending after said l c.widen.new.pending.high) (sym c.widen.ensures.low)
+          (subst (λ h. HasPending after said
+          (set a.pending.low x.signer (min (slice_index a.pending.low x.signer) x.body.k)) h)
+          (sym c.widen.ensures.high) widened);
+      counted = old.counted;
     }

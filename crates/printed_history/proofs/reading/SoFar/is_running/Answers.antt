@@ -1,3 +1,5 @@
+-- An actor that is there has a count of its keeper's calls, and runs as long as none of them fails. One that
+-- isn't there has no count and never runs.
 use Rattle.std.proofs.Common.{List, ℕ, sym, ◌∙◌, ap}
 use Rattle.std.specs.Prelude.{slice_get}
 use Rattle.printed_history.proofs.Nexts.{runs_by, none_runs}
@@ -8,9 +10,11 @@ pub returns-in-Some : goal.returns-in-Some
 returns-in-Some c =
     runs_by c.args.self.now c.args.actor c.in-Some.calls.now c.fails.result c.requires
     (ap (λ (xs : List ℕ). slice_get xs c.args.actor) (sym c.deref.ensures.value)
-    ∙ found_at c.deref.result.now c.args.actor c.in-Some.calls.now c.in-Some.ensures.lookup.0 c.in-Some.ensures.lookup.1) c.fails.ensures
+    ∙ found_at c.deref.result.now c.args.actor c.in-Some.calls.now c.in-Some.ensures.lookup.0
+    c.in-Some.ensures.lookup.1) c.fails.ensures
 
 pub returns-in-None : goal.returns-in-None
 returns-in-None c =
     none_runs c.args.self.now c.args.actor c.requires
-    (ap (λ (xs : List ℕ). slice_get xs c.args.actor) (sym c.deref.ensures.value) ∙ missing_at c.deref.result.now c.args.actor c.in-None.ensures.lookup.0)
+    (ap (λ (xs : List ℕ). slice_get xs c.args.actor) (sym c.deref.ensures.value)
+    ∙ missing_at c.deref.result.now c.args.actor c.in-None.ensures.lookup.0)

@@ -4,8 +4,13 @@ use Rattle.script_plays.proofs.Begun.{cast_actors, begin_few}
 use Rattle.replica_threads.proofs.course.Course.actors.Goals as goal
 
 pub returns-clause-actors : goal.returns-clause-actors
-returns-clause-actors c = cast_actors c.args.self.now.scenario.now c.cast.result c.actors.result c.cast.ensures c.actors.ensures
+returns-clause-actors c = cast_actors c.args.self.now.scenario.now c.cast.result c.actors.result
+    c.cast.ensures c.actors.ensures
 
 pub returns-clause-few : goal.returns-clause-few
 returns-clause-few c =
-    omega (arith, begin_few (contents c.args.self.now.scenario.now) c.actors.result c.requires (cast_actors c.args.self.now.scenario.now c.cast.result c.actors.result c.cast.ensures c.actors.ensures))
+    omega (
+      arith,
+      begin_few (contents c.args.self.now.scenario.now) c.actors.result c.requires
+          (cast_actors c.args.self.now.scenario.now c.cast.result c.actors.result c.cast.ensures c.actors.ensures),
+    )

@@ -7,5 +7,6 @@ use Rattle.scenario_file.proofs.scenario.Scenario.s1.Goals as goal
 pub returns : goal.returns
 returns c =
     c.with_plant.ensures
-    ∙ whole-of (settings_shown c.in_ok-smallest_group.field-0) smallest.settings c.empty_plant.result smallest.plant c.in_ok-failing.failing smallest.failing
+    ∙ whole-of (settings_shown c.in_ok-smallest_group.field-0) smallest.settings c.empty_plant.result smallest.plant
+    c.in_ok-failing.failing smallest.failing
     c.in_ok-smallest_group.ensures c.empty_plant.ensures (c.in_ok-failing.ensures ∙ no-failing)

@@ -6,5 +6,6 @@ returns-then-which-eq0 c = λ actors posts waiting there is. none_named posts c.
 
 pub returns : goal.returns
 returns c = λ actors posts waiting there is.
-    named_there actors posts waiting c.args.self.now c.args.which c.slot_at.result c.index.result.now c.deref.result.now _ is there c.requires.kind c.if-which-eq0.false c.slot_at.ensures c.requires.there
+    named_there actors posts waiting c.args.self.now c.args.which c.slot_at.result c.index.result.now
+    c.deref.result.now _ is there c.requires.kind c.if-which-eq0.false c.slot_at.ensures c.requires.there
     c.index.ensures c.deref.ensures.value c.get_held.ensures

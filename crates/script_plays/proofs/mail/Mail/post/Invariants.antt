@@ -1,3 +1,5 @@
+-- The number of slots never changes, so each sender and kind keeps its own. What is posted and on its way is
+-- what was there before, and behind it the frames gone over.
 use Rattle.std.proofs.Common.{◌≡◌, ℕ, ◌++◌, List, length, take}
 use Rattle.std.specs.List.{flat_map}
 use Rattle.script_plays.specs.declared.mail.Post.{Post}
@@ -11,4 +13,5 @@ abbrev pub invariant-loop-post : goal.invariant-loop-post
 invariant-loop-post l =
     (length l.self.slots.items ≡ length l.initial.self.slots.items)
     × ((actors : ℕ) (before : List Post) (waiting : List Delivery) → IsMail actors before waiting l.initial.self
-    → IsMail actors (before ++ new_posts l.is_new (take l.post-index l.posts)) (waiting ++ flat_map sent (take l.post-index l.posts)) l.self)
+    → IsMail actors (before ++ new_posts l.is_new (take l.post-index l.posts))
+    (waiting ++ flat_map sent (take l.post-index l.posts)) l.self)

@@ -1,3 +1,5 @@
+-- The first seat counts those made, so the next one's number is new, and there are no more than the source has
+-- seats. With all of them made it answers none and nothing changes.
 use Rattle.std.proofs.Common.{◌≡◌, sym, ap, ◌∙◌, subst, arith}
 use Rattle.stamps.specs.Seats.{Drawer, Source}
 use Rattle.stamps.proofs.Keeping.{splits}

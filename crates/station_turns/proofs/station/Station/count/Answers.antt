@@ -4,8 +4,10 @@ use Rattle.station_turns.proofs.station.Station.count.Goals as goal
 
 pub returns-clause-made : goal.returns-clause-made
 returns-clause-made g c =
-    count_seen (stationed c.self.inside.live) c.args.self.now c.self.inside.given_up c.self.inside.live.used c.self.inside.live.count g.N.Naming.name c.self.view_is c.self.invariant
+    count_seen (stationed c.self.inside.live) c.args.self.now c.self.inside.given_up c.self.inside.live.used
+    c.self.inside.live.count g.N.Naming.name c.self.view_is c.self.invariant
 
 pub returns-clause-most : goal.returns-clause-most
 returns-clause-most g c =
-    most_seen (stationed c.self.inside.live) c.args.self.now c.self.inside.given_up c.self.inside.live.used c.self.inside.live.count g.N.Naming.name c.self.view_is c.self.invariant
+    most_seen (stationed c.self.inside.live) c.args.self.now c.self.inside.given_up c.self.inside.live.used
+    c.self.inside.live.count g.N.Naming.name c.self.view_is c.self.invariant

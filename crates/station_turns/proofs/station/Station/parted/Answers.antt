@@ -4,8 +4,10 @@ use Rattle.station_turns.proofs.station.Station.parted.Goals as goal
 
 pub returns-clause-alive : goal.returns-clause-alive
 returns-clause-alive g c working =
-    (lives_seen (stationed c.self.inside.live) c.args.self c.self.inside.given_up c.self.inside.live.used c.self.inside.live.count g.N.Naming.name c.self.view_is c.self.invariant working).0
+    (lives_seen (stationed c.self.inside.live) c.args.self c.self.inside.given_up c.self.inside.live.used
+    c.self.inside.live.count g.N.Naming.name c.self.view_is c.self.invariant working).0
 
 pub returns-clause-run : goal.returns-clause-run
 returns-clause-run g c working =
-    (lives_seen (stationed c.self.inside.live) c.args.self c.self.inside.given_up c.self.inside.live.used c.self.inside.live.count g.N.Naming.name c.self.view_is c.self.invariant working).1
+    (lives_seen (stationed c.self.inside.live) c.args.self c.self.inside.given_up c.self.inside.live.used
+    c.self.inside.live.count g.N.Naming.name c.self.view_is c.self.invariant working).1

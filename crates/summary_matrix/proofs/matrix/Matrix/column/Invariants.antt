@@ -4,4 +4,5 @@ use Rattle.summary_matrix.specs.Held.{rows_at}
 use Rattle.summary_matrix.proofs.matrix.Matrix.column.Given as goal
 
 abbrev pub invariant-loop-master : goal.invariant-loop-master
-invariant-loop-master l = (length l.numbers ≡ 14) × (take l.master l.numbers ≡ column (rows_at l.master l.self-inside.latest) l.place)
+invariant-loop-master l = (length l.numbers ≡ 14)
+    × (take l.master l.numbers ≡ column (rows_at l.master l.self-inside.latest) l.place)

@@ -1,3 +1,4 @@
+-- A matrix without any summary is that of no words known: every master's place is empty, so each row of it is.
 use Rattle.std.proofs.Common.{◌≡◌, ℕ, zero, suc, Option, None, get_or, refl}
 use Rattle.protocol_rules.specs.Group.{group_of}
 use Rattle.message_types.specs.declared.signed.Signed.{Signed}

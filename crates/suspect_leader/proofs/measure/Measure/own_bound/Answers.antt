@@ -1,43 +1,58 @@
+-- The round trips told by the other masters are put in order one by one. With fewer than q - 1 of them there is
+-- no bound, and else it is the (f + 1)st from above.
 use Rattle.std.proofs.Common.{◌≡◌, ◌<◌, ◌≤◌, ◌+◌, ℕ, length, reverse, sym, ap, ◌∙◌, arith, rules}
 use Rattle.std.specs.Prelude.{slice_index}
 use Rattle.std.specs.List.{filter_map}
 use Rattle.std.specs.Option.{option_to_list}
 use Rattle.quorum_sets.specs.Masters.{numbers_below}
 use Rattle.protocol_rules.specs.Words.{in_order}
-use Rattle.suspect_leader.specs.Kept.{Kept, figure_at, put_each, figures_kept}
+use Rattle.suspect_leader.specs.MeasureState.{MeasureState, figure_at, put_each, figures_kept}
 use Rattle.suspect_leader.proofs.Ranks.{some_more, nothing_in_order}
-use Rattle.suspect_leader.proofs.Masters.{masters_few, quorum_size, filter_map_more, filter_map_start, ranked_some, bound_some, bound_none}
+use Rattle.suspect_leader.proofs.Masters.{quorum_size, ranked_some, bound_some, bound_none}
+use Rattle.quorum_sets.proofs.Numbered.{filter_map_start, filter_map_more, masters_few}
 use Rattle.suspect_leader.proofs.measure.Measure.own_bound.Goals as goal
 
 pub loop-master-init : goal.loop-master-init
-loop-master-init c = c.new-figures.ensures ∙ sym (ap in_order (filter_map_start (figure_at c.args.self.now)) ∙ nothing_in_order)
+loop-master-init c = c.new-figures.ensures
+    ∙ sym (ap in_order (filter_map_start (figure_at c.args.self.now)) ∙ nothing_in_order)
 
 pub put_if-requires : goal.put_if-requires
 put_if-requires c =
     let few : c.self.inside.sizes.n ≤ 14 = masters_few c.self.inside.sizes in
-    let same : length c.loop-master.figures ≡ length (in_order (filter_map (figure_at c.args.self.now) (numbers_below c.loop-master.master))) = ap length c.loop-master.invariant in
-    let most : length (in_order (filter_map (figure_at c.args.self.now) (numbers_below c.loop-master.master))) ≤ c.loop-master.master = ranked_some (figure_at c.args.self.now) c.loop-master.master in
+    let same : length c.loop-master.figures ≡ length
+    (in_order (filter_map (figure_at c.args.self.now) (numbers_below c.loop-master.master))) =
+    ap length c.loop-master.invariant in
+    let most : length (in_order (filter_map (figure_at c.args.self.now) (numbers_below c.loop-master.master))) ≤
+    c.loop-master.master = ranked_some (figure_at c.args.self.now) c.loop-master.master in
     omega arith
 
 pub loop-master-preserved : goal.loop-master-preserved
 loop-master-preserved c =
     c.put_if.ensures ∙ ap (λ o. put_each (option_to_list o) c.loop-master.figures) c.figure.ensures
     ∙ ap (put_each (option_to_list (figure_at c.args.self.now c.loop-master.master))) c.loop-master.invariant
-    ∙ sym (ap in_order (filter_map_more (figure_at c.args.self.now) c.loop-master.master) ∙ some_more (filter_map (figure_at c.args.self.now) (numbers_below c.loop-master.master)) (figure_at c.args.self.now c.loop-master.master))
+    ∙ sym (ap in_order (filter_map_more (figure_at c.args.self.now) c.loop-master.master)
+    ∙ some_more (filter_map (figure_at c.args.self.now) (numbers_below c.loop-master.master))
+    (figure_at c.args.self.now c.loop-master.master))
 
 pub overflow_add-len : goal.overflow_add-len
 overflow_add-len c =
     let few : c.self.inside.sizes.n ≤ 14 = masters_few c.self.inside.sizes in
-    let same : c.len.result ≡ length (in_order (filter_map (figure_at c.args.self.now) (numbers_below c.loop-master.master))) = c.len.ensures ∙ ap length c.loop-master.invariant in
-    let most : length (in_order (filter_map (figure_at c.args.self.now) (numbers_below c.loop-master.master))) ≤ c.loop-master.master = ranked_some (figure_at c.args.self.now) c.loop-master.master in
+    let same : c.len.result ≡ length
+    (in_order (filter_map (figure_at c.args.self.now) (numbers_below c.loop-master.master))) =
+    c.len.ensures ∙ ap length c.loop-master.invariant in
+    let most : length (in_order (filter_map (figure_at c.args.self.now) (numbers_below c.loop-master.master))) ≤
+    c.loop-master.master = ranked_some (figure_at c.args.self.now) c.loop-master.master in
     let small : c.len.result + 1 < 18446744073709551616 = omega arith in
     search rules
 
 pub returns-then-len-self : goal.returns-then-len-self
 returns-then-len-self c =
-    let ended : c.loop-master.master ≡ c.args.self.now.group.n = (let at_end : c.loop-master.master ≡ c.self.inside.sizes.n = omega arith in at_end ∙ ap (λ (k : Kept). k.group.n) c.self.view_is) in
-    let ranked : c.loop-master.figures ≡ in_order (figures_kept c.args.self.now) = c.loop-master.invariant ∙ ap (λ (n : ℕ). in_order (filter_map (figure_at c.args.self.now) (numbers_below n))) ended in
-    let same : c.self.inside.sizes.q ≡ c.args.self.now.group.q = ap (λ (k : Kept). k.group.q) c.self.view_is in
+    let ended : c.loop-master.master ≡ c.args.self.now.group.n =
+    (let at_end : c.loop-master.master ≡ c.self.inside.sizes.n = omega arith in
+    at_end ∙ ap (λ (k : MeasureState). k.group.n) c.self.view_is) in
+    let ranked : c.loop-master.figures ≡ in_order (figures_kept c.args.self.now) = c.loop-master.invariant
+    ∙ ap (λ (n : ℕ). in_order (filter_map (figure_at c.args.self.now) (numbers_below n))) ended in
+    let same : c.self.inside.sizes.q ≡ c.args.self.now.group.q = ap (λ (k : MeasureState). k.group.q) c.self.view_is in
     let count : c.len.result ≡ length c.loop-master.figures = c.len.ensures in
     bound_none c.args.self.now c.loop-master.figures ranked (omega arith)
 
@@ -49,9 +64,13 @@ highest-requires c =
 
 pub returns : goal.returns
 returns c =
-    let ended : c.loop-master.master ≡ c.args.self.now.group.n = (let at_end : c.loop-master.master ≡ c.self.inside.sizes.n = omega arith in at_end ∙ ap (λ (k : Kept). k.group.n) c.self.view_is) in
-    let ranked : c.loop-master.figures ≡ in_order (figures_kept c.args.self.now) = c.loop-master.invariant ∙ ap (λ (n : ℕ). in_order (filter_map (figure_at c.args.self.now) (numbers_below n))) ended in
-    let same : c.self.inside.sizes.q ≡ c.args.self.now.group.q = ap (λ (k : Kept). k.group.q) c.self.view_is in
+    let ended : c.loop-master.master ≡ c.args.self.now.group.n =
+    (let at_end : c.loop-master.master ≡ c.self.inside.sizes.n = omega arith in
+    at_end ∙ ap (λ (k : MeasureState). k.group.n) c.self.view_is) in
+    let ranked : c.loop-master.figures ≡ in_order (figures_kept c.args.self.now) = c.loop-master.invariant
+    ∙ ap (λ (n : ℕ). in_order (filter_map (figure_at c.args.self.now) (numbers_below n))) ended in
+    let same : c.self.inside.sizes.q ≡ c.args.self.now.group.q = ap (λ (k : MeasureState). k.group.q) c.self.view_is in
     let count : c.len.result ≡ length c.loop-master.figures = c.len.ensures in
     bound_some c.args.self.now c.loop-master.figures c.highest.result ranked (omega arith)
-    (c.highest.ensures ∙ ap (λ (f : ℕ). slice_index (reverse c.loop-master.figures) f) (ap (λ (k : Kept). k.group.f) c.self.view_is))
+    (c.highest.ensures ∙ ap (λ (f : ℕ). slice_index (reverse c.loop-master.figures) f)
+    (ap (λ (k : MeasureState). k.group.f) c.self.view_is))

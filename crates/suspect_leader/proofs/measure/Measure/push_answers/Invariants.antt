@@ -1,6 +1,6 @@
 use Rattle.std.proofs.Common.{◌≡◌, ◌++◌}
 use Rattle.std.specs.List.{filter_map}
-use Rattle.suspect_leader.specs.Kept.{answer_to}
+use Rattle.suspect_leader.specs.MeasureState.{answer_to}
 use Rattle.suspect_leader.proofs.measure.Measure.push_answers.Given as goal
 
 abbrev pub invariant-loop-saying : goal.invariant-loop-saying

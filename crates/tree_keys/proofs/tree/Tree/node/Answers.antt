@@ -1,3 +1,5 @@
+-- The nodes are stored from the last one down to the root, so node r stands as many places behind the first as
+-- r is below the last number.
 use Rattle.std.proofs.Common.{◌≡◌, ◌-◌, ◌*◌, ◌^◌, ◌∙◌, ℕ, ap, length, arith}
 use Rattle.tree_keys.specs.Nodes.{TreeSeed, node}
 use Rattle.tree_keys.specs.Built.{seed_of}
@@ -21,6 +23,7 @@ returns c =
     let low = c.requires.low in
     let high = c.requires.high in
     c.index.ensures
-    ∙ stored-node tree (2 * 2 ^ c.self.inside.height - 1) (2 * c.leaf_count.result - 1 - c.args.r) c.args.r c.self.inside.nodes.items _ c.self.invariant.1
+    ∙ stored-node tree (2 * 2 ^ c.self.inside.height - 1) (2 * c.leaf_count.result - 1 - c.args.r)
+    c.args.r c.self.inside.nodes.items _ c.self.invariant.1
     (omega (arith, leaves)) (omega (arith, leaves))
     ∙ ap (λ (t : TreeSeed). node t c.args.r) c.self.view_is

@@ -1,3 +1,5 @@
+-- Below the root nodes come in pairs of an even number and the odd one after it. So the sibling is one more or
+-- one less, and both are in the tree.
 use Rattle.std.proofs.Common.{◌≡◌, ◌+◌, ◌/◌, ◌^◌, ℕ, ap, arith}
 use Rattle.tree_keys.specs.Nodes.{TreeSeed}
 use Rattle.tree_keys.proofs.NodeLaws.{below_root}

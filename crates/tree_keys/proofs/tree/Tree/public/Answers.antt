@@ -1,3 +1,5 @@
+-- The stored node 1 is the root that the definition computes, so type codes, identifier and root are the bytes
+-- of the tree's public key.
 use Rattle.std.proofs.Common.{◌∙◌, ap, sym, ◌++◌, ℕ, List}
 use Rattle.wire_parts.specs.Fields.{u32_bytes}
 use Rattle.ots_keys.specs.Parameters.{type_code}

@@ -1,3 +1,5 @@
+-- Leaf number, one-time signature, type code and path are appended in the order of a signature, each as its own
+-- definition has it.
 use Rattle.std.proofs.Common.{refl, ◌≡◌, ◌∙◌, ap, sym, ◌++◌, List, ℕ}
 use Rattle.wire_parts.specs.Fields.{u32_bytes}
 use Rattle.ots_keys.specs.Keys.{joined, signature}

@@ -1,3 +1,5 @@
+-- The count is read ahead, so that a refusal leaves the reader where it was. A count above the most is told
+-- just where two bytes are there and spell such a one.
 use Rattle.std.proofs.Common.{arith, refl, ◌<◌, ◌^◌}
 use Rattle.wire_parts.proofs.ListLength.{is_above, is_not_above}
 use Rattle.wire_parts.proofs.reader.Reader.list_len.Goals as goal

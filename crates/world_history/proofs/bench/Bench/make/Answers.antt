@@ -1,3 +1,5 @@
+-- A seat that was just begun has no entry and signed nothing, so the bench over it is that of the actor before
+-- its first event.
 use Rattle.std.proofs.Common.{false}
 use Rattle.world_history.proofs.bench.Bench.make.Goals as goal
 

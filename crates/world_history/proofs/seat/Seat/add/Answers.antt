@@ -1,3 +1,5 @@
+-- The role says what the rules have it say, cut to the leaves that are left, and signs it with the next ones.
+-- So role, key, list and frames are again those of the list with one more entry.
 use Rattle.std.proofs.lemmas.List.{map-append}
 use Rattle.std.proofs.Common.{◌≡◌, ◌++◌, ◌∷◌, ◌+◌, [], length, List, true, map, refl, ◌∙◌, ap, arith}
 use Rattle.hash_signatures.specs.Signatures.{all_leaves}
@@ -12,14 +14,16 @@ use Rattle.bench_rules.proofs.Leaving.{leaves_are_few}
 use Rattle.message_types.specs.declared.body.Body.{Body}
 use Rattle.world_history.specs.Seats.{world_in, list_in, entry_of_seat}
 use Rattle.world_history.proofs.Roles.{can_answer}
-use Rattle.world_history.proofs.Acting.{comes_next, room_left, said_can_be_signed, leaves_there, frames_made, made_stand, made_all_stand, seated_next}
+use Rattle.world_history.proofs.Acting.{comes_next, room_left, said_can_be_signed, leaves_there, frames_made}
+use Rattle.world_history.proofs.Acting.{made_stand, made_all_stand, seated_next}
 use Rattle.world_history.proofs.seat.Seat.add.Goals as goal
 
 pub room_for-room-requires : goal.room_for-room-requires
 room_for-room-requires c =
     let seated = c.requires.seated in
     let few = leaves_are_few (world_in c.args.self.now) c.args.self.now.actor seated.scenario in
-    let key : all_leaves c.args.self.now.key.key ≡ all_leaves (key_in (world_in c.args.self.now) c.args.self.now.actor) =
+    let key : all_leaves c.args.self.now.key.key ≡ all_leaves
+    (key_in (world_in c.args.self.now) c.args.self.now.actor) =
     ap (λ (k : KeyUse). all_leaves k.key) seated.key in
     let left = c.left.ensures.left in
     omega arith
@@ -28,19 +32,24 @@ pub answer-requires : goal.answer-requires
 answer-requires c =
     let s = c.args.self.now in
     let seated = c.requires.seated in
-    let comes = comes_next s c.args.stamp (event_of c.args.event) seated c.requires.fits c.requires.later c.requires.taken c.requires.short
+    let comes = comes_next s c.args.stamp (event_of c.args.event) seated c.requires.fits c.requires.later
+    c.requires.taken c.requires.short
     c.event_carries_well.ensures in
-    can_answer (world_in s) s.actor (list_in s) (entry_of_seat s c.args.stamp (event_of c.args.event)) s.role comes seated.role
+    can_answer (world_in s) s.actor (list_in s) (entry_of_seat s c.args.stamp (event_of c.args.event))
+    s.role comes seated.role
 
 pub sign_all-requires-clause-fit : goal.sign_all-requires-clause-fit
 sign_all-requires-clause-fit c =
     let s = c.args.self.now in
     let seated = c.requires.seated in
     let e = entry_of_seat s c.args.stamp (event_of c.args.event) in
-    let comes = comes_next s c.args.stamp (event_of c.args.event) seated c.requires.fits c.requires.later c.requires.taken c.requires.short
+    let comes = comes_next s c.args.stamp (event_of c.args.event) seated c.requires.fits c.requires.later
+    c.requires.taken c.requires.short
     c.event_carries_well.ensures in
-    let many : is_correct (setup_of (world_in s)) s.actor ≡ true → c.room_for-room.result ≡ room (setup_of (world_in s)) (list_in s) =
-    λ right. c.room_for-room.ensures ∙ ap (room_of (shares_leaves (world_in s))) c.left.ensures.left ∙ room_left s seated right in
+    let many : is_correct (setup_of (world_in s)) s.actor ≡ true →
+    c.room_for-room.result ≡ room (setup_of (world_in s)) (list_in s) =
+    λ right. c.room_for-room.ensures ∙ ap (room_of (shares_leaves (world_in s))) c.left.ensures.left
+    ∙ room_left s seated right in
     said_can_be_signed s e c.deref.result.now seated comes
     (c.deref.ensures.value ∙ c.in_ok-bodies.ensures.said (world_in s) s.actor (list_in s) e comes refl many seated.role)
 
@@ -49,23 +58,31 @@ sign_all-requires-clause-left c =
     let s = c.args.self.now in
     let seated = c.requires.seated in
     let e = entry_of_seat s c.args.stamp (event_of c.args.event) in
-    let comes = comes_next s c.args.stamp (event_of c.args.event) seated c.requires.fits c.requires.later c.requires.taken c.requires.short
+    let comes = comes_next s c.args.stamp (event_of c.args.event) seated c.requires.fits c.requires.later
+    c.requires.taken c.requires.short
     c.event_carries_well.ensures in
-    let many : is_correct (setup_of (world_in s)) s.actor ≡ true → c.room_for-room.result ≡ room (setup_of (world_in s)) (list_in s) =
-    λ right. c.room_for-room.ensures ∙ ap (room_of (shares_leaves (world_in s))) c.left.ensures.left ∙ room_left s seated right in
+    let many : is_correct (setup_of (world_in s)) s.actor ≡ true →
+    c.room_for-room.result ≡ room (setup_of (world_in s)) (list_in s) =
+    λ right. c.room_for-room.ensures ∙ ap (room_of (shares_leaves (world_in s))) c.left.ensures.left
+    ∙ room_left s seated right in
     leaves_there s e c.deref.result.now seated comes
-    (c.deref.ensures.value ∙ c.in_ok-bodies.ensures.said (world_in s) s.actor (list_in s) e comes refl many seated.role) c.left.ensures.within
+    (c.deref.ensures.value ∙ c.in_ok-bodies.ensures.said (world_in s) s.actor (list_in s)
+    e comes refl many seated.role) c.left.ensures.within
 
 pub standing-requires : goal.standing-requires
 standing-requires c =
     let s = c.args.self.now in
     let seated = c.requires.seated in
     let e = entry_of_seat s c.args.stamp (event_of c.args.event) in
-    let comes = comes_next s c.args.stamp (event_of c.args.event) seated c.requires.fits c.requires.later c.requires.taken c.requires.short
+    let comes = comes_next s c.args.stamp (event_of c.args.event) seated c.requires.fits c.requires.later
+    c.requires.taken c.requires.short
     c.event_carries_well.ensures in
-    let many : is_correct (setup_of (world_in s)) s.actor ≡ true → c.room_for-room.result ≡ room (setup_of (world_in s)) (list_in s) =
-    λ right. c.room_for-room.ensures ∙ ap (room_of (shares_leaves (world_in s))) c.left.ensures.left ∙ room_left s seated right in
-    let said = c.deref.ensures.value ∙ c.in_ok-bodies.ensures.said (world_in s) s.actor (list_in s) e comes refl many seated.role in
+    let many : is_correct (setup_of (world_in s)) s.actor ≡ true →
+    c.room_for-room.result ≡ room (setup_of (world_in s)) (list_in s) =
+    λ right. c.room_for-room.ensures ∙ ap (room_of (shares_leaves (world_in s))) c.left.ensures.left
+    ∙ room_left s seated right in
+    let said = c.deref.ensures.value ∙ c.in_ok-bodies.ensures.said (world_in s) s.actor (list_in s)
+    e comes refl many seated.role in
     made_all_stand s e c.deref-3.result.now seated comes
     (c.deref-3.ensures.value ∙ c.in_ok-frames.ensures.frames ∙ frames_made s e c.deref.result.now seated comes said)
 
@@ -74,14 +91,24 @@ returns-clause-list c =
     let s = c.args.self.now in
     let seated = c.requires.seated in
     let e = entry_of_seat s c.args.stamp (event_of c.args.event) in
-    let comes = comes_next s c.args.stamp (event_of c.args.event) seated c.requires.fits c.requires.later c.requires.taken c.requires.short
+    let comes = comes_next s c.args.stamp (event_of c.args.event) seated c.requires.fits c.requires.later
+    c.requires.taken c.requires.short
     c.event_carries_well.ensures in
-    let many : is_correct (setup_of (world_in s)) s.actor ≡ true → c.room_for-room.result ≡ room (setup_of (world_in s)) (list_in s) =
-    λ right. c.room_for-room.ensures ∙ ap (room_of (shares_leaves (world_in s))) c.left.ensures.left ∙ room_left s seated right in
-    let bodies : c.in_ok-bodies.bodies.items ≡ e.said = c.in_ok-bodies.ensures.said (world_in s) s.actor (list_in s) e comes refl many seated.role in
+    let many : is_correct (setup_of (world_in s)) s.actor ≡ true →
+    c.room_for-room.result ≡ room (setup_of (world_in s)) (list_in s) =
+    λ right. c.room_for-room.ensures ∙ ap (room_of (shares_leaves (world_in s))) c.left.ensures.left
+    ∙ room_left s seated right in
+    let bodies : c.in_ok-bodies.bodies.items ≡ e.said = c.in_ok-bodies.ensures.said (world_in s) s.actor (list_in s)
+    e comes refl many seated.role in
     let put = rw c.in_ok-push-2.was at c.push-2.ensures.items in
     ap (map entry_of) put ∙ map-append entry_of s.list.items _
-    ∙ ap (λ (bs : List Body). list_in s ++ record { stamp = c.args.stamp; actor = s.actor; event = event_of c.args.event; said = bs } ∷ [])
+    ∙ ap (λ (bs : List Body). list_in s ++ record {
+      stamp = c.args.stamp;
+      actor = s.actor;
+      event =
+          event_of c.args.event;
+      said = bs;
+    } ∷ [])
     (c.from_vec.ensures ∙ bodies)
 
 pub returns-clause-frames : goal.returns-clause-frames
@@ -89,11 +116,15 @@ returns-clause-frames c =
     let s = c.args.self.now in
     let seated = c.requires.seated in
     let e = entry_of_seat s c.args.stamp (event_of c.args.event) in
-    let comes = comes_next s c.args.stamp (event_of c.args.event) seated c.requires.fits c.requires.later c.requires.taken c.requires.short
+    let comes = comes_next s c.args.stamp (event_of c.args.event) seated c.requires.fits c.requires.later
+    c.requires.taken c.requires.short
     c.event_carries_well.ensures in
-    let many : is_correct (setup_of (world_in s)) s.actor ≡ true → c.room_for-room.result ≡ room (setup_of (world_in s)) (list_in s) =
-    λ right. c.room_for-room.ensures ∙ ap (room_of (shares_leaves (world_in s))) c.left.ensures.left ∙ room_left s seated right in
-    let said = c.deref.ensures.value ∙ c.in_ok-bodies.ensures.said (world_in s) s.actor (list_in s) e comes refl many seated.role in
+    let many : is_correct (setup_of (world_in s)) s.actor ≡ true →
+    c.room_for-room.result ≡ room (setup_of (world_in s)) (list_in s) =
+    λ right. c.room_for-room.ensures ∙ ap (room_of (shares_leaves (world_in s))) c.left.ensures.left
+    ∙ room_left s seated right in
+    let said = c.deref.ensures.value ∙ c.in_ok-bodies.ensures.said (world_in s) s.actor (list_in s)
+    e comes refl many seated.role in
     c.in_ok-frames.ensures.frames ∙ frames_made s e c.deref.result.now seated comes said
 
 pub returns-clause-stand : goal.returns-clause-stand
@@ -101,23 +132,32 @@ returns-clause-stand c =
     let s = c.args.self.now in
     let seated = c.requires.seated in
     let e = entry_of_seat s c.args.stamp (event_of c.args.event) in
-    let comes = comes_next s c.args.stamp (event_of c.args.event) seated c.requires.fits c.requires.later c.requires.taken c.requires.short
+    let comes = comes_next s c.args.stamp (event_of c.args.event) seated c.requires.fits c.requires.later
+    c.requires.taken c.requires.short
     c.event_carries_well.ensures in
-    let many : is_correct (setup_of (world_in s)) s.actor ≡ true → c.room_for-room.result ≡ room (setup_of (world_in s)) (list_in s) =
-    λ right. c.room_for-room.ensures ∙ ap (room_of (shares_leaves (world_in s))) c.left.ensures.left ∙ room_left s seated right in
-    let said = c.deref.ensures.value ∙ c.in_ok-bodies.ensures.said (world_in s) s.actor (list_in s) e comes refl many seated.role in
-    made_stand s e c.in_ok-frames.frames.items seated comes (c.in_ok-frames.ensures.frames ∙ frames_made s e c.deref.result.now seated comes said)
+    let many : is_correct (setup_of (world_in s)) s.actor ≡ true →
+    c.room_for-room.result ≡ room (setup_of (world_in s)) (list_in s) =
+    λ right. c.room_for-room.ensures ∙ ap (room_of (shares_leaves (world_in s))) c.left.ensures.left
+    ∙ room_left s seated right in
+    let said = c.deref.ensures.value ∙ c.in_ok-bodies.ensures.said (world_in s) s.actor (list_in s)
+    e comes refl many seated.role in
+    made_stand s e c.in_ok-frames.frames.items seated comes
+    (c.in_ok-frames.ensures.frames ∙ frames_made s e c.deref.result.now seated comes said)
 
 pub returns-clause-seated : goal.returns-clause-seated
 returns-clause-seated c =
     let s = c.args.self.now in
     let seated = c.requires.seated in
     let e = entry_of_seat s c.args.stamp (event_of c.args.event) in
-    let comes = comes_next s c.args.stamp (event_of c.args.event) seated c.requires.fits c.requires.later c.requires.taken c.requires.short
+    let comes = comes_next s c.args.stamp (event_of c.args.event) seated c.requires.fits c.requires.later
+    c.requires.taken c.requires.short
     c.event_carries_well.ensures in
-    let many : is_correct (setup_of (world_in s)) s.actor ≡ true → c.room_for-room.result ≡ room (setup_of (world_in s)) (list_in s) =
-    λ right. c.room_for-room.ensures ∙ ap (room_of (shares_leaves (world_in s))) c.left.ensures.left ∙ room_left s seated right in
-    let bodies : c.in_ok-bodies.bodies.items ≡ e.said = c.in_ok-bodies.ensures.said (world_in s) s.actor (list_in s) e comes refl many seated.role in
+    let many : is_correct (setup_of (world_in s)) s.actor ≡ true →
+    c.room_for-room.result ≡ room (setup_of (world_in s)) (list_in s) =
+    λ right. c.room_for-room.ensures ∙ ap (room_of (shares_leaves (world_in s))) c.left.ensures.left
+    ∙ room_left s seated right in
+    let bodies : c.in_ok-bodies.bodies.items ≡ e.said = c.in_ok-bodies.ensures.said (world_in s) s.actor (list_in s)
+    e comes refl many seated.role in
     let said = c.deref.ensures.value ∙ bodies in
     let new : Seat = record {
       alloc = s.alloc;
@@ -132,13 +172,21 @@ returns-clause-seated c =
     let put = rw c.in_ok-push-2.was at c.push-2.ensures.items in
     let list : list_in new ≡ list_in s ++ e ∷ [] =
     ap (map entry_of) put ∙ map-append entry_of s.list.items _
-    ∙ ap (λ (bs : List Body). list_in s ++ record { stamp = c.args.stamp; actor = s.actor; event = event_of c.args.event; said = bs } ∷ [])
+    ∙ ap (λ (bs : List Body). list_in s ++ record {
+      stamp = c.args.stamp;
+      actor = s.actor;
+      event =
+          event_of c.args.event;
+      said = bs;
+    } ∷ [])
     (c.from_vec.ensures ∙ bodies) in
     let made = c.in_ok-frames.ensures.frames ∙ frames_made s e c.deref.result.now seated comes said in
     let ready = c.in_ok-bodies.ensures.ready (world_in s) s.actor (list_in s) e comes refl many seated.role in
-    let role = c.in_ok-close.ensures (world_in s) s.actor (list_in s) e comes refl (c.deref-2.ensures.value ∙ made) ready in
+    let role = c.in_ok-close.ensures (world_in s) s.actor (list_in s) e comes refl
+    (c.deref-2.ensures.value ∙ made) ready in
     let key = c.in_ok-frames.ensures.used
-    ∙ ap (λ (bs : List Body). key_use s.key.key (s.key.used + groups_for (group_size (shares_leaves (world_in s))) (length bs))) said in
+    ∙ ap (λ (bs : List Body). key_use s.key.key
+    (s.key.used + groups_for (group_size (shares_leaves (world_in s))) (length bs))) said in
     let kept = rw c.in_ok-push.was at c.push.ensures.items in
     seated_next s new e c.in_ok-checked.checked seated comes (refl, refl, refl) list role key
     (c.in_ok-checked.ensures ∙ c.deref-3.ensures.value ∙ made) kept

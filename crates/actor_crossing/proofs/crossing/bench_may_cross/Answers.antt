@@ -1,9 +1,0 @@
-use denote.Param.Send.{sendable}
-use Rattle.actor_crossing.proofs.Threads.{bench_send, bench_sync}
-use Rattle.actor_crossing.proofs.crossing.bench_may_cross.Goals as goal
-
-pub moves-requires-send-T : goal.moves-requires-send-T
-moves-requires-send-T c κs = search (bench_send, sendable)
-
-pub lends-requires-sync-T : goal.lends-requires-sync-T
-lends-requires-sync-T c κs = search (bench_sync, sendable)

@@ -1,7 +1,0 @@
-use Rattle.std.proofs.Common.{◌≡◌, take}
-use Rattle.gifts.specs.Giving.{numbers_in}
-use Rattle.gifts.proofs.giving.numbers_wanted.Given as goal
-
--- those of what was gone over so far are there
-abbrev pub invariant-loop-one : goal.invariant-loop-one
-invariant-loop-one l = l.numbers.items ≡ numbers_in (take l.one-index l.wanted)

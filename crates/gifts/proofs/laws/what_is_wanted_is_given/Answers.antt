@@ -1,8 +1,0 @@
-use Rattle.gifts.proofs.Joined.{requests_join, numbers_join}
-use Rattle.gifts.proofs.laws.what_is_wanted_is_given.Goals as goal
-
-pub returns-clause-requests : goal.returns-clause-requests
-returns-clause-requests c = requests_join
-
-pub returns-clause-numbers : goal.returns-clause-numbers
-returns-clause-numbers c = numbers_join

@@ -1,5 +1,0 @@
-use Rattle.leader_offers.proofs.Vouching.{clients-apart}
-use Rattle.leader_offers.proofs.laws.clients_stand_apart.Goals as goal
-
-pub returns : goal.returns
-returns c = clients-apart

@@ -1,0 +1,3 @@
+pub mod Orders
+pub mod Booleans
+pub mod Lists

@@ -1,0 +1,12 @@
+pub mod Limits
+pub mod Facts
+pub mod Ordering
+pub mod Requesting
+pub mod Reporting
+pub mod Measuring
+pub mod Speaking
+pub mod Lasting
+pub mod Spelled
+pub mod Standing
+pub mod Signing
+pub mod PlanRows

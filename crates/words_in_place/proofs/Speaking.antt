@@ -1,0 +1,218 @@
+-- All that a master says, and each frame inside it, is in its place.
+use Rattle.std.proofs.Common.{◌≡◌, ℕ, ◌+◌, ◌^◌, ◌<◌, ◌≤◌, Bool, true, List, [], ◌∷◌, ◌++◌, Option, length, filter}
+use Rattle.std.proofs.Common.{nat_eq, nat_lt, sym, ◌∙◌, subst, inl, inr, ◌⊎◌, arith}
+use Rattle.std.specs.List.{list_all, list_any, flat_map}
+use Rattle.std.proofs.lemmas.Bool.{false≢true, and_from, le-leb, lt-ltb, eqb-true}
+use Rattle.quorum_sets.specs.Masters.{numbers_below}
+use Rattle.message_types.specs.declared.signed.Signed.{Signed}
+use Rattle.message_types.specs.declared.updates.Update.{Update}
+use Rattle.message_types.specs.declared.vouchers.Order.{Order}
+use Rattle.message_types.specs.declared.body.Body.{Body}
+use Rattle.message_types.specs.declared.body.Body.TheVariants as body
+use Rattle.message_types.specs.Parts.{parts}
+use Rattle.protocol_rules.specs.declared.facts.OrderFact.{OrderFact}
+use Rattle.protocol_rules.specs.Group.{Group}
+use Rattle.protocol_rules.specs.Places.{in_place, word_in_place, is_view}
+use Rattle.protocol_rules.specs.Facts.{facts_of}
+use Rattle.protocol_rules.specs.Views.{view, is_open}
+use Rattle.protocol_rules.specs.Measures.{Told, ticks_of, waited}
+use Rattle.protocol_rules.specs.Master.{Heard, learned, taken_frames, known_at, taken_at, said_before, answers}
+use Rattle.protocol_rules.specs.Master.{told_of, vouchers_from, vouchers_said, vouchers_due, executed}
+use Rattle.history_rules.specs.Audit.{IsIn}
+use Rattle.agreement.proofs.Lists.{Each, none_in, each_none, each_one, each_append, each_if, each_flat_map}
+use Rattle.agreement.proofs.Lists.{in_cons_cases, in_cases, in_left, in_right, in_map, in_flat_map, in_flat_map_from}
+use Rattle.agreement.proofs.Lists.{in_take}
+use Rattle.agreement.proofs.Quorums.{below_from}
+use Rattle.agreement.proofs.Spoken.{answers_are_due}
+use Rattle.agreement.proofs.Inside.{closed_parts, due_inside}
+use Rattle.agreement.proofs.Origin.{known_closed, taken_known}
+use Rattle.words_in_place.specs.Laws.{KnownIsClosed, PartsAreClosed, KnowsPlaced, RowsAreInPlace, OrderedAreInPlace}
+use Rattle.words_in_place.specs.Laws.{OfferedAreInPlace, PlansAreInPlace, MaySpeak, AnswersAreInPlace, IsSaid}
+use Rattle.words_in_place.specs.Laws.{OwnPartsAreInPlace, KnownStaysInPlace}
+use Rattle.words_in_place.proofs.Limits.{all_from, all_each, filter_more, view_within, some_in_quorum}
+use Rattle.words_in_place.proofs.Facts.{FactPlaced, facts_placed, rows_placed, ordered_placed, offered_placed}
+use Rattle.words_in_place.proofs.Facts.{plan_known_placed}
+use Rattle.words_in_place.proofs.Ordering.{WordPlaced, prepares_placed, commits_placed, marks_placed}
+use Rattle.words_in_place.proofs.Ordering.{preprepares_placed, ask_order_placed, gives_ordered_placed}
+use Rattle.words_in_place.proofs.Requesting.{requests_placed, acks_placed, summaries_placed, waiting_placed}
+use Rattle.words_in_place.proofs.Requesting.{ask_update_placed, gives_placed}
+use Rattle.words_in_place.proofs.Reporting.{report_placed, new_view_placed}
+use Rattle.words_in_place.proofs.Measuring.{ticks_told, waited_within, tat_bounds_placed, pings_placed, pongs_placed}
+use Rattle.words_in_place.proofs.Measuring.{round_trips_placed, tat_reports_placed, suspects_placed}
+
+pub known_is_closed : KnownIsClosed
+known_is_closed before took = known_closed before took
+
+pub parts_are_closed : PartsAreClosed
+parts_are_closed frames = closed_parts frames
+
+facts_known : (g : Group) (known : List (Signed Body)) → KnowsPlaced g known → Each (FactPlaced g) (facts_of g known)
+facts_known g known well = facts_placed g known well.0 (all_each (in_place g) known well.1)
+
+pub rows_are_in_place : RowsAreInPlace
+rows_are_in_place g known well = all_from _ _ (rows_placed g (facts_of g known) (facts_known g known well))
+
+pub ordered_are_in_place : OrderedAreInPlace
+ordered_are_in_place g known well s rows e = ordered_placed g (facts_of g known) (facts_known g known well) s rows e
+
+pub offered_are_in_place : OfferedAreInPlace
+offered_are_in_place g known well v s rows e = offered_placed g (facts_of g known) (facts_known g known well) v s rows e
+
+pub plans_are_in_place : PlansAreInPlace
+plans_are_in_place g known well v plan e =
+    let placed = plan_known_placed g (facts_of g known) (facts_known g known well) v plan e in
+    (all_from _ plan.rows placed.0, placed.1)
+
+module _ (g : Group) (me : ℕ) (said : List Body) where
+  vouchers_from_placed : (c : ℕ) → c < g.clients → (x : ℕ) → 1 ≤ x → (rest : List Order) →
+      Each (WordPlaced g me) (vouchers_from said c x rest)
+  vouchers_from_placed c below x low [] = each_none (WordPlaced g me)
+  vouchers_from_placed c below x low (order ∷ rest) = each_append (WordPlaced g me) _ _
+      (each_if (WordPlaced g me) (list_any (vouchers_said c x) said) []
+      (body.Voucher record { client = c; number = x; order = order } ∷ []) (λ _. each_none (WordPlaced g me))
+      (λ _. each_one (WordPlaced g me) (body.Voucher record { client = c; number = x; order = order })
+      (and_from _ _ (lt-ltb c g.clients below) (le-leb 1 x low))))
+      (vouchers_from_placed c below (x + 1) (omega arith) rest)
+
+  vouchers_placed : (orders : List Update → ℕ → List Order) (known : List (Signed Body)) →
+      Each (WordPlaced g me) (vouchers_due g orders known said)
+  vouchers_placed orders known = each_flat_map (WordPlaced g me) _ (numbers_below g.clients) (λ c h.
+      vouchers_from_placed c (below_from g.clients c h) 1 (omega arith) (orders (executed g known) c))
+
+-- what is known at the next event: known at the last, a part of what was said there, or of the frame taken now
+known_next : (before : List Heard) (e : Heard) (next : Option (Signed Body)) (p : Signed Body) →
+    IsIn p (known_at (before ++ e ∷ []) next)
+    → IsIn p (known_at before e.took) ⊎ (IsIn p (flat_map parts e.said) ⊎ IsIn p (flat_map parts (taken_frames next)))
+unfolding known_at
+known_next before e next p h = elim (in_cases (flat_map learned (before ++ e ∷ [])) h) [
+  | inr now ↦ inr (inr now)
+  | inl earlier ↦
+      let found = in_flat_map_from learned (before ++ e ∷ []) earlier in
+      elim (in_cases before found.1) [
+        | inl older ↦ inl (in_left (flat_map parts (taken_frames e.took)) (in_flat_map learned older found.2))
+        | inr last ↦ elim (in_cons_cases last) [
+          | inl same ↦ elim (in_cases (flat_map parts (taken_frames e.took))
+              (subst (λ (d : Heard). IsIn p (learned d)) same found.2)) [
+                | inl taken ↦ inl (in_right (flat_map learned before) taken)
+                | inr said ↦ inr (inl said)
+              ]
+          | inr none ↦ absurd (none_in none)
+        ]
+      ]
+]
+
+-- a master's word in its place, as a frame of its own
+framed : (g : Group) (signer : ℕ) (b : Body) (sig : List ℕ) → signer < g.n → WordPlaced g signer b →
+    in_place g record { signer = signer; body = b; sig = sig } ≡ true
+framed g signer (body.Update b) sig below placed = absurd (false≢true placed)
+framed g signer b sig below placed = and_from (nat_lt signer g.n) (word_in_place g signer b)
+    (lt-ltb signer g.n below) placed
+
+-- a frame said is one's own, of one of the answers
+pub said_word : (g : Group) (orders : List Update → ℕ → List Order) (me : ℕ) (before : List Heard)
+    (took : Option (Signed Body)) (at_tick : Bool) (count : ℕ) (frames : List (Signed Body))
+    → IsSaid g orders me before took at_tick count frames → (f : Signed Body) → IsIn f frames →
+    (f.signer ≡ me) × IsIn f.body (answers g orders me before took at_tick)
+said_word g orders me before took at_tick count frames is f h = (
+  eqb-true f.signer me (all_each (λ f. nat_eq f.signer me) frames is.own f h),
+  in_take count _ (subst (λ (bs : List Body). IsIn f.body bs) is.words (in_map (λ (f : Signed Body). f.body) h)),
+)
+
+module _ (g : Group) (orders : List Update → ℕ → List Order) (me : ℕ) (before : List Heard)
+    (took : Option (Signed Body)) (at_tick : Bool) (speaks : MaySpeak g me before took at_tick) where
+  known_placed : Each (λ p. in_place g p ≡ true) (known_at before took)
+  known_placed = all_each (in_place g) (known_at before took) speaks.placed
+
+  few_ticks : ticks_of (told_of g [] (before ++ record { took = took; is_tick = at_tick; said = [] } ∷ [])) ≤ 2 ^ 32
+  few_ticks =
+      let all : ticks_of (told_of g [] (before ++ record { took = took; is_tick = at_tick; said = [] } ∷ [])) ≡ length
+      (filter (λ e. e.is_tick) (before ++ record { took = took; is_tick = at_tick; said = [] } ∷ [])) =
+      ticks_told g [] (before ++ record { took = took; is_tick = at_tick; said = [] } ∷ []) in
+      subst (λ (k : ℕ). k ≤ 2 ^ 32)
+      (sym (all ∙ filter_more (λ (e : Heard). e.is_tick) before record {
+        took = took;
+        is_tick =
+            at_tick;
+        said = [];
+      })) speaks.ticks
+
+  words_placed : Each (WordPlaced g me) (answers g orders me before took at_tick)
+  unfolding answers
+  words_placed =
+      let known : List (Signed Body) = known_at before took in
+      let taken : List (Signed Body) = taken_at before took in
+      let said : List Body = said_before before in
+      let facts : List OrderFact = facts_of g known in
+      let told : List Told = told_of g [] (before ++ record { took = took; is_tick = at_tick; said = [] } ∷ []) in
+      let v : ℕ = view g known in
+      let P = λ (b : Body). WordPlaced g me b in
+      let some : 1 ≤ g.q = some_in_quorum g speaks.sizes in
+      let placed = facts_placed g known (known_closed before took) known_placed in
+      let within : is_view v ≡ true = view_within g known known_placed in
+      let few : ticks_of told ≤ 2 ^ 32 = few_ticks in
+      let waiting : waited v told ≤ ticks_of told = waited_within v told in
+      each_append P _ _ (each_append P _ _ (each_append P _ _ (each_append P _ _ (each_append P _ _
+      (each_append P _ _ (each_append P _ _ (each_append P _ _ (each_append P _ _ (each_append P _ _
+      (each_append P _ _ (each_append P _ _ (each_append P _ _ (each_append P _ _ (each_append P _ _
+      (each_append P _ _ (each_append P _ _ (each_append P _ _ (each_append P _ _
+      (requests_placed g me known taken said said (numbers_below g.clients))
+      (acks_placed g me known taken said))
+      (summaries_placed g me known taken said at_tick))
+      (preprepares_placed g some facts placed me said known within at_tick))
+      (prepares_placed g some facts placed me said v within (is_open g known)))
+      (commits_placed g some facts placed me said v within))
+      (pings_placed g me known said (ticks_of told) at_tick))
+      (pongs_placed g me known said))
+      (round_trips_placed g me known said (ticks_of told) few))
+      (tat_reports_placed g me known said v (waited v told) at_tick within (omega arith)))
+      (tat_bounds_placed g me known known_placed said v at_tick within))
+      (suspects_placed g me known said v at_tick))
+      (report_placed g some facts placed me known said within))
+      (new_view_placed g me known said within))
+      (ask_update_placed g me known taken said
+      (waiting_placed g known (λ s rows e. ordered_placed g facts placed s rows e)) at_tick))
+      (gives_placed g me known taken said))
+      (ask_order_placed g some facts placed me said at_tick))
+      (gives_ordered_placed g some facts placed me said known))
+      (vouchers_placed g me said orders known))
+      (marks_placed g some facts placed me said)
+
+  pub answers_placed : list_all (λ b. in_place g record { signer = me; body = b; sig = [] })
+      (answers g orders me before took at_tick) ≡ true
+  answers_placed = all_from _ (answers g orders me before took at_tick)
+      (λ b h. framed g me b [] speaks.master (words_placed b h))
+
+  -- a frame of one's own, and the frames inside it, which were known
+  pub own_frame : (f : Signed Body) → f.signer ≡ me → IsIn f.body (answers g orders me before took at_tick) →
+      Each (λ p. in_place g p ≡ true) (parts f)
+  own_frame f by h p k = elim (in_cons_cases k) [
+    | inl e ↦ subst (λ (z : Signed Body). in_place g z ≡ true) (sym e)
+        (framed g f.signer f.body f.sig (subst (λ (x : ℕ). x < g.n) (sym by) speaks.master)
+        (subst (λ (x : ℕ). WordPlaced g x f.body) (sym by) (words_placed f.body h)))
+    | inr deeper ↦ known_placed p (due_inside g orders (known_at before took) (taken_at before took)
+        (said_before before) (taken_known before took) (known_closed before took) f.body
+        (answers_are_due g orders me before took at_tick f.body h) p deeper)
+  ]
+
+  own_placed : (count : ℕ) (frames : List (Signed Body)) → IsSaid g orders me before took at_tick count frames →
+      Each (λ p. in_place g p ≡ true) (flat_map parts frames)
+  own_placed count frames is = each_flat_map (λ p. in_place g p ≡ true) parts frames (λ f h. let word =
+      said_word g orders me before took at_tick count frames is f h in own_frame f word.0 word.1)
+
+pub answers_are_in_place : AnswersAreInPlace
+answers_are_in_place g orders me before took at_tick speaks = answers_placed g orders me before took at_tick speaks
+
+pub own_parts_are_in_place : OwnPartsAreInPlace
+own_parts_are_in_place g orders me before took at_tick speaks count frames is =
+    all_from (in_place g) (flat_map parts frames) (own_placed g orders me before took at_tick speaks count frames is)
+
+pub known_stays_in_place : KnownStaysInPlace
+known_stays_in_place g orders me before took at_tick speaks count frames is next taken =
+    let event : Heard = record { took = took; is_tick = at_tick; said = frames } in
+    all_from (in_place g) (known_at (before ++ event ∷ []) next) (λ p h. elim (known_next before event next p h) [
+      | inl known ↦ all_each (in_place g) (known_at before took) speaks.placed p known
+      | inr new ↦ elim new [
+        | inl own ↦ own_placed g orders me before took at_tick speaks count frames is p own
+        | inr now ↦ all_each (in_place g) (flat_map parts (taken_frames next)) taken p now
+      ]
+    ])
