@@ -8,13 +8,12 @@ ghost use Rattle.world_rules.specs.Scenarios.{setup_of};
 use crate::lanes::lanes_of;
 use crate::picture::{Mark, Picture, What};
 use checked_frames::Checked;
-use history_benches::all_benches;
 use plain_lists::{Copied, Same, Want};
 use run_lines::kind_of;
 use scenario_file::Scenario;
 use std::alloc::Global;
 use world_entries::{Entry, Event, History};
-use world_history::Bench;
+use world_history::{Bench, all_benches};
 
 /// What happened in a legal history, and to whom.
 pub fn picture_of(alloc: Global, scenario: &Scenario, history: &History) -> Result<Picture, Want>

@@ -1,8 +1,8 @@
 //! What masters say once they know how slow they are, and what they ask others for.
 use crate::scripts::{last_of, last_said, played};
-use kept_lists::Kept;
 use message_types::Body;
 use std::test::Fail;
+use world_history::Kept;
 
 const ONE_SCREEN: &str = "screens = 1\n";
 

@@ -6,14 +6,13 @@ ghost use Rattle.scenario_file.specs.Valid.{IsScenario};
 ghost use Rattle.world_entries.specs.Entries.{entry_of, event_of};
 ghost use Rattle.world_rules.specs.Scenarios.{group_in};
 ghost use Rattle.world_history.specs.State.{setup_in};
-ghost use Rattle.kept_lists.specs.State.{halted_in};
+ghost use Rattle.world_history.specs.KeptState.{halted_in};
 
 use crate::common::{has_actor, is_later};
-use kept_lists::Kept;
 use message_types::{Frame, Op};
 use scenario_file::Scenario;
 use std::test::Fail;
-use world_history::Event;
+use world_history::{Event, Kept};
 
 /// Masters 0 to 3 and a screen as actor 4, of whose keeper the second call fails.
 const ONE_FAULT: &str =

@@ -1,11 +1,10 @@
 //! Small plays.
 use crate::scripts::{last_of, last_said, played};
-use kept_lists::Kept;
 use message_types::Body;
 use script_plays::PlayAnswer;
 use std::alloc::Global;
 use std::test::Fail;
-use world_history::Event;
+use world_history::{Event, Kept};
 
 /// A screen as actor 4. Few hashes make the keys.
 const ALL_CORRECT: &str = "levels = [5]\nscreens = 1\n";

@@ -1,5 +1,4 @@
 //! Plays for the tests to look at.
-use kept_lists::Kept;
 use message_types::Body;
 use scenario_file::Scenario;
 use script_laws::laws::{read_lines_are_of_scenario, read_words_are_of_scenario};
@@ -7,7 +6,7 @@ use script_lines::{Script, Words};
 use script_plays::{PlayAnswer, play};
 use std::alloc::Global;
 use std::test::Fail;
-use world_history::Entry;
+use world_history::{Entry, Kept};
 
 /// What each scenario begins with: masters 0 to 3.
 const BEGINNING: &str =

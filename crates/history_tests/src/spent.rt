@@ -1,9 +1,9 @@
 //! Keys of 32 leaves, each for one signature, that are spent: their actors go on and say nothing more.
 use crate::asking::executed;
 use crate::scripts::{last_of, played};
-use kept_lists::Kept;
 use std::alloc::Global;
 use std::test::Fail;
+use world_history::Kept;
 
 /// A command that is seen through while its leader has leaves.
 const ROUND: &str = "command s0 ack 0\nflow 4\ntick masters\nflow 1\ntick m0\nflow 5\n";

@@ -1,9 +1,9 @@
 //! What a new view takes over.
 use crate::scripts::played;
-use kept_lists::Kept;
 use message_types::{Body, NewView};
 use std::alloc::Global;
 use std::test::Fail;
+use world_history::Kept;
 
 /// A command that is seen through.
 const ROUND: &str = "command s0 ack 0\nflow 4\ntick masters\nflow 1\ntick m0\nflow 5\n";

@@ -18,7 +18,7 @@ use Rattle.history_rules.specs.Events.{Entry}
 use Rattle.history_rules.specs.Setup.{Setup}
 use Rattle.world_rules.specs.Scenarios.{group_in, masters_in, setup_of}
 use Rattle.world_history.specs.State.{BenchState, certified_shown}
-use Rattle.history_benches.specs.Benches.{actors_in, bench_in, benches_of, unsigned, AreBenches}
+use Rattle.world_history.specs.Benches.{actors_in, bench_in, benches_of, unsigned, AreBenches}
 use Rattle.part_runs.specs.Parts.{certified_by, first_certified}
 use Rattle.quorum_sets.proofs.Numbered.{numbered_at, length-numbered}
 

@@ -3,7 +3,7 @@ ghost use Rattle.std.specs.Prelude.{◌≡◌, ◌<◌, ℕ, List, option_copied
 ghost use Rattle.scenario_file.specs.Reading.{Contents};
 ghost use Rattle.history_rules.specs.Events.{Entry};
 ghost use Rattle.world_rules.specs.Scenarios.{masters_in, setup_of};
-ghost use Rattle.history_benches.specs.Benches.{AreBenches};
+ghost use Rattle.world_history.specs.Benches.{AreBenches};
 ghost use Rattle.part_runs.specs.Parts.{certified_by, first_certified};
 
 use message_types::Update;

@@ -5,7 +5,7 @@ ghost use Rattle.message_types.specs.Texts.{update_text};
 ghost use Rattle.scenario_file.specs.Reading.{Contents, contents};
 ghost use Rattle.history_rules.specs.Events.{Entry};
 ghost use Rattle.world_rules.specs.Scenarios.{masters_in, setup_of};
-ghost use Rattle.history_benches.specs.Benches.{AreBenches};
+ghost use Rattle.world_history.specs.Benches.{AreBenches};
 ghost use Rattle.part_lines.specs.Laws.{own_part};
 ghost use Rattle.part_lines.specs.Texts.{part_words, line_of};
 ghost use Rattle.part_runs.specs.Parts.{part_if, parts_by, parts_in};

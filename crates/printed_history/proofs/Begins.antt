@@ -17,7 +17,7 @@ use Rattle.own_histories.proofs.Building.{none_is_legal}
 use Rattle.world_rules.specs.Frames.{frames_at_stamp}
 use Rattle.world_rules.specs.Scenarios.{setup_of}
 use Rattle.world_history.specs.State.{BenchState}
-use Rattle.history_benches.specs.Benches.{actors_in, bench_in, benches_of}
+use Rattle.world_history.specs.Benches.{actors_in, bench_in, benches_of}
 use Rattle.printed_history.specs.declared.reading.SoFar.{SoFar}
 use Rattle.printed_history.specs.Reading.{calls_by, standing_frame, frame_in, contents_in, IsAtHand, IsSoFar}
 use Rattle.quorum_sets.proofs.Numbered.{length-numbered}

@@ -12,7 +12,7 @@ use Rattle.run_lines.specs.declared.refusal.HistoryRefusal.{HistoryRefusal}
 use Rattle.run_lines.specs.declared.refusal.HistoryRefusal.TheVariants as refusal
 use Rattle.run_lines.specs.Runs.{Reading, run_in, RefusesRun, ReadsRun}
 use Rattle.world_history.specs.State.{BenchState}
-use Rattle.history_benches.specs.Benches.{benches_of}
+use Rattle.world_history.specs.Benches.{benches_of}
 use Rattle.printed_history.specs.declared.reading.SoFar.{SoFar}
 use Rattle.printed_history.specs.Histories.{entry_from, entries_from, not_legal, history_of, history_in}
 use Rattle.printed_history.specs.Reading.{contents_in, world_in, IsSoFar, Comes}

@@ -29,7 +29,7 @@ use Rattle.world_rules.specs.Scenarios.{setup_of}
 use Rattle.world_rules.proofs.Fields.{group_is}
 use Rattle.bench_rules.specs.Lists.{ring_in}
 use Rattle.world_history.specs.State.{BenchState, setup_in, entry_at, with_entry}
-use Rattle.history_benches.specs.Benches.{actors_in, bench_in, benches_of}
+use Rattle.world_history.specs.Benches.{actors_in, bench_in, benches_of}
 use Rattle.run_lines.specs.declared.entry_line.EntryLine.{EntryLine}
 use Rattle.printed_history.specs.declared.reading.SoFar.{SoFar}
 use Rattle.printed_history.specs.Histories.{is_running, are_kinds, entry_with, entry_by, entry_of_event, entry_from}
@@ -40,7 +40,7 @@ use Rattle.printed_history.proofs.Framing.{frames_more}
 use Rattle.quorum_sets.proofs.Numbered.{numbered_set, numbered_at, length-numbered}
 use Rattle.agreement.proofs.Places.{stands_last}
 use Rattle.history_rules.proofs.Entries.{own_fewer}
-use Rattle.history_benches.proofs.Steps.{bench_at, bench_stays, bench_with}
+use Rattle.world_history.proofs.Steps.{bench_at, bench_stays, bench_with}
 use Rattle.history_rules.proofs.Frames.{calls_few}
 
 -- the entry that the actor's event makes

@@ -4,7 +4,7 @@ ghost use Rattle.scenario_file.specs.Reading.{contents};
 ghost use Rattle.scenario_file.specs.Valid.{IsScenario};
 ghost use Rattle.history_rules.specs.Legal.{IsLegal};
 ghost use Rattle.world_rules.specs.Scenarios.{setup_of};
-ghost use Rattle.history_benches.specs.Benches.{benches_of};
+ghost use Rattle.world_history.specs.Benches.{benches_of};
 ghost use Rattle.run_lines.specs.Runs.{ReadsRun};
 ghost use Rattle.printed_history.specs.Histories.{entries_from, history_in};
 ghost use Rattle.printed_history.specs.Reading.{told_history};

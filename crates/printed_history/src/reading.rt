@@ -10,7 +10,6 @@ ghost use Rattle.printed_history.specs.Reading.{IsSoFar, Comes, contents_in, wor
 use crate::acting::act_at;
 use crate::histories::Replay;
 use checked_frames::{Checked, KeyRing};
-use history_benches::all_benches;
 use message_types::Body;
 use plain_lists::{Items, Want};
 use printed_run::{calls_at, fails};
@@ -19,7 +18,7 @@ use scenario_file::Scenario;
 use script_grammar::Kind;
 use std::alloc::Global;
 use world_entries::{Event, History};
-use world_history::{Bench, ring_of};
+use world_history::{Bench, all_benches, ring_of};
 
 /// The entries read so far, with what is at hand of them.
 pub struct SoFar<'a> {

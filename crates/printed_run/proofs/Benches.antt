@@ -7,7 +7,7 @@ use Rattle.quorum_sets.specs.Masters.{numbers_below}
 use Rattle.scenario_file.specs.Reading.{Contents}
 use Rattle.history_rules.specs.Events.{Entry}
 use Rattle.world_history.specs.State.{BenchState}
-use Rattle.history_benches.specs.Benches.{actors_in, bench_in, unsigned, AreBenches}
+use Rattle.world_history.specs.Benches.{actors_in, bench_in, unsigned, AreBenches}
 use Rattle.printed_run.specs.Printed.{actors_text, bench_lines, IsOf}
 use Rattle.quorum_sets.proofs.Numbered.{numbered_at, length-numbered}
 

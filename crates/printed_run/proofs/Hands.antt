@@ -19,7 +19,7 @@ use Rattle.world_rules.specs.Scenarios.{setup_of}
 use Rattle.world_rules.proofs.Fields.{group_is}
 use Rattle.world_history.specs.Seats.{frames_of_each}
 use Rattle.world_history.specs.State.{BenchState, setup_in}
-use Rattle.history_benches.specs.Benches.{actors_in, bench_in, unsigned, AreBenches}
+use Rattle.world_history.specs.Benches.{actors_in, bench_in, unsigned, AreBenches}
 use Rattle.printed_run.specs.Places.{places_from, IsAtHand}
 use Rattle.printed_run.specs.Printed.{is_frame}
 use Rattle.printed_run.proofs.Cries.{kept_there}

@@ -7,7 +7,7 @@ use Rattle.history_rules.specs.Setup.{own}
 use Rattle.history_rules.specs.Legal.{IsLegal}
 use Rattle.world_rules.specs.Scenarios.{setup_of}
 use Rattle.world_history.specs.State.{BenchState}
-use Rattle.history_benches.specs.Benches.{AreBenches}
+use Rattle.world_history.specs.Benches.{AreBenches}
 
 -- the places of these entries in their actors' own lists, `before` being the entries before them
 abbrev pub places_from : List Entry → List Entry → List ℕ

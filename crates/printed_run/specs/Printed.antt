@@ -20,7 +20,7 @@ use Rattle.world_rules.specs.Frames.{frames_at_stamp}
 use Rattle.world_rules.specs.Headline.{agrees}
 use Rattle.world_rules.specs.Scenarios.{setup_of, masters_in, proxies_in}
 use Rattle.world_history.specs.State.{BenchState}
-use Rattle.history_benches.specs.Benches.{actors_in}
+use Rattle.world_history.specs.Benches.{actors_in}
 use Rattle.run_lines.specs.Texts.{intruded_text, master_text, proxy_text, screen_text, audit_text, agree_text}
 use Rattle.run_lines.specs.Texts.{count_text, entry_text}
 

@@ -7,7 +7,7 @@ ghost use Rattle.history_rules.specs.Legal.{IsLegal};
 ghost use Rattle.world_entries.specs.Entries.{entry_of};
 ghost use Rattle.world_rules.specs.Scenarios.{setup_of};
 ghost use Rattle.printed_run.specs.Places.{IsAtHand};
-ghost use Rattle.history_benches.specs.Benches.{AreBenches};
+ghost use Rattle.world_history.specs.Benches.{AreBenches};
 ghost use Rattle.printed_run.specs.Printed.{entry_line, totals_text, text_of};
 
 use crate::places::own_places;
@@ -15,13 +15,12 @@ use crate::said::AtHand;
 use crate::states::put_states;
 use history_audit::audit;
 use history_audit::laws::legal_are_spelled;
-use history_benches::{agree_benches, replayed};
 use plain_lists::Want;
 use run_lines::{put_agree, put_audit, put_count, put_entry};
 use scenario_file::Scenario;
 use std::alloc::Global;
 use world_entries::History;
-use world_history::Bench;
+use world_history::{Bench, agree_benches, replayed};
 
 /// The text of a legal history: what each actor came to, the audit, and the entries. The history is replayed for it.
 pub fn write_run(alloc: Global, scenario: &Scenario, history: &History) -> Result<Vec<u8>, Want>

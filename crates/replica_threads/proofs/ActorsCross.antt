@@ -26,7 +26,7 @@ use Rattle.scenario_file.specs.contracts.scenario.Scenario as Scenario
 use Rattle.world_history.specs.contracts.role.Role as Role
 use Rattle.world_history.specs.contracts.seat.Seat as Seat
 use Rattle.world_history.specs.contracts.bench.Bench as Bench
-use Rattle.kept_lists.specs.contracts.kept_actor.Kept as Kept
+use Rattle.world_history.specs.contracts.kept_actor.Kept as Kept
 use Rattle.station_turns.specs.declared.naming.Naming as naming
 use Rattle.station_turns.specs.contracts.live.Live as Live
 use Rattle.station_turns.specs.contracts.station.Station as Station

@@ -5,13 +5,13 @@ use Rattle.std.proofs.lemmas.List.{length_push}
 use Rattle.std.proofs.lemmas.List.Elements.{All-push}
 use Rattle.std.specs.List.{slice_index_or}
 use Rattle.script_laws.specs.Accepted.{actors_in}
-use Rattle.kept_lists.specs.State.{halted_in}
+use Rattle.world_history.specs.KeptState.{halted_in}
 use Rattle.station_turns.specs.Pace.{turns_made}
 use Rattle.station_turns.specs.Turns.{Stationed}
 use Rattle.station_turns.specs.Naming.{RunName}
-use Rattle.run_hands.specs.declared.shared.Shared.{Shared}
-use Rattle.run_hands.specs.Hands.{IsShared}
-use Rattle.ended_runs.specs.Ended.{HasEnded}
+use Rattle.replica_threads.specs.declared.shared.Shared.{Shared}
+use Rattle.replica_threads.specs.Hands.{IsShared}
+use Rattle.replica_threads.specs.Ended.{HasEnded}
 use Rattle.replica_threads.specs.declared.job.Job.{Job}
 use Rattle.replica_threads.specs.Courses.{IsJob, CanTurn}
 

@@ -21,10 +21,10 @@ use Rattle.world_rules.proofs.Fields.{group_is}
 use Rattle.world_history.specs.State.{BenchState}
 use Rattle.script_laws.specs.Accepted.{actors_in}
 use Rattle.script_plays.proofs.Standing.{few_actors}
-use Rattle.history_benches.specs.Benches.{lists_of, AreOfAll}
+use Rattle.world_history.specs.Benches.{lists_of, AreOfAll}
 use Rattle.station_turns.specs.Pace.{is_skip, turns_made, IsPaced, begins, turns, halts}
 use Rattle.station_turns.proofs.Counting.{turn_more, turn_same}
-use Rattle.ended_runs.specs.Ended.{IsActor, IsRun}
+use Rattle.replica_threads.specs.Ended.{IsActor, IsRun}
 use Rattle.replica_threads.proofs.Numbers.{one_each, few_in_all}
 
 -- skips are no turns

@@ -7,3 +7,13 @@ mod Texts
 mod Ends
 mod Threads
 mod ActorsCross
+mod Lists
+mod HandPasses
+mod Sending
+mod Frames
+mod TakenByHands
+mod Turning
+mod Counted
+mod Taken
+mod Joining
+mod Runs

@@ -12,8 +12,8 @@ use Rattle.quorum_sets.specs.Masters.{numbers_below}
 use Rattle.inboxes.specs.declared.inbox.Inbox.{Inbox}
 use Rattle.inboxes.specs.declared.pass.InboxPass.{InboxPass}
 use Rattle.inboxes.specs.Passes.{IsPassOf}
-use Rattle.run_hands.specs.declared.posted.Posted.{Posted}
-use Rattle.run_hands.specs.Hands.{ArePassesOf}
+use Rattle.replica_threads.specs.declared.posted.Posted.{Posted}
+use Rattle.replica_threads.specs.Hands.{ArePassesOf}
 use Rattle.replica_threads.specs.declared.job.Job.{Job}
 use Rattle.replica_threads.specs.Courses.{IsJob, hands_at, all_hands}
 use Rattle.replica_threads.proofs.Numbers.{pairs_push, pairs_next, pairs_set}

@@ -11,10 +11,10 @@ use Rattle.scenario_file.specs.Valid.{IsScenario}
 use Rattle.history_rules.specs.Events.{Entry}
 use Rattle.history_rules.specs.Counts.{merged}
 use Rattle.world_history.specs.State.{BenchState}
-use Rattle.kept_lists.specs.State.{KeptState}
-use Rattle.history_benches.specs.Benches.{lists_of}
+use Rattle.world_history.specs.KeptState.{KeptState}
+use Rattle.world_history.specs.Benches.{lists_of}
 use Rattle.printed_run.specs.Printed.{text_of}
-use Rattle.ended_runs.specs.Ended.{IsRun, IsHistoryOf, RunsStampOnce}
+use Rattle.replica_threads.specs.Ended.{IsRun, IsHistoryOf, RunsStampOnce}
 use Rattle.replica_threads.specs.Texts.{CanBePrinted}
 use Rattle.replica_threads.proofs.Lengths.{run_is_short}
 

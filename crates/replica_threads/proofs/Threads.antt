@@ -5,9 +5,9 @@ use Rattle.std.proofs.Crossing.{crosses}
 use Rattle.replica_threads.proofs.ActorsCross.{scenario_sync}
 use Rattle.checked_frames.proofs.key_ring.KeyRing.TheSendSync as ring
 use Rattle.inboxes.proofs.inbox.Inbox.TheSendSync as inbox
-use Rattle.run_hands.proofs.posted.Posted.TheSendSync as posted
+use Rattle.replica_threads.proofs.posted.Posted.TheSendSync as posted
 use Rattle.stamps.proofs.source.Stamps.TheSendSync as stamps
-use Rattle.run_hands.specs.contracts.shared.Shared as Shared
+use Rattle.replica_threads.specs.contracts.shared.Shared as Shared
 
 pub shared_sync : (a : NamedLft) → IsSync (Shared.the_row a)
 shared_sync a = search (

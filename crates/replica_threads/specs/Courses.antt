@@ -13,9 +13,9 @@ use Rattle.stamps.specs.Seats.{Source, Drawer}
 use Rattle.inboxes.specs.declared.inbox.Inbox.{Inbox}
 use Rattle.station_turns.specs.Pace.{fit_inputs}
 use Rattle.station_turns.specs.Naming.{RunName}
-use Rattle.run_hands.specs.declared.posted.Posted.{Posted}
-use Rattle.run_hands.specs.declared.shared.Shared.{Shared}
-use Rattle.run_hands.specs.Hands.{IsShared, ArePassesOf}
+use Rattle.replica_threads.specs.declared.posted.Posted.{Posted}
+use Rattle.replica_threads.specs.declared.shared.Shared.{Shared}
+use Rattle.replica_threads.specs.Hands.{IsShared, ArePassesOf}
 use Rattle.replica_threads.specs.declared.course.Course.{Course}
 use Rattle.replica_threads.specs.declared.job.Job.{Job}
 

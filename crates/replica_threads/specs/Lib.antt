@@ -1,2 +1,5 @@
 pub mod Courses
 pub mod Texts
+pub mod Hands
+pub mod Letters
+pub mod Ended

@@ -4,7 +4,7 @@ use Rattle.scenario_file.specs.Reading.{Contents}
 use Rattle.history_rules.specs.Counts.{merged}
 use Rattle.own_histories.specs.Own.{HasEachStampOnce}
 use Rattle.world_history.specs.State.{BenchState}
-use Rattle.history_benches.specs.Benches.{lists_of, AreOfAll}
+use Rattle.world_history.specs.Benches.{lists_of, AreOfAll}
 
 -- They are those of all actors, no two of their entries have one stamp, and there are not too many entries.
 pub record CanBePrinted (c : Contents) (benches : List BenchState) : Type 0 where

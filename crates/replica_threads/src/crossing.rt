@@ -1,11 +1,10 @@
 //! What the lock of an actor holds moves to the thread that takes it. (Rattle shows this by itself of each type that reaches no
 //! type that holds itself, as the tree of a rule does.)
 
-use kept_lists::Kept;
 use scenario_file::Scenario;
 use station_turns::{Naming, Station};
 use std::sync::Mutex;
-use world_history::Bench;
+use world_history::{Bench, Kept};
 
 fn moves<T: Send>(_value: &T) {}
 

@@ -1,12 +1,12 @@
 //! The stations once all their turns are made.
 ghost use Rattle.std.specs.Prelude.{◌≡◌, ◌≤◌, ◌<◌, length, All, IfOk};
 ghost use Rattle.script_laws.specs.Accepted.{actors_in};
-ghost use Rattle.ended_runs.specs.Ended.{HasEnded};
-ghost use Rattle.run_hands.specs.Hands.{IsShared, ArePassesOf};
+ghost use Rattle.replica_threads.specs.Ended.{HasEnded};
+ghost use Rattle.replica_threads.specs.Hands.{IsShared, ArePassesOf};
 
+use crate::{Posted, Shared, lacking};
 use inboxes::InboxPass;
 use plain_lists::Want;
-use run_hands::{Posted, Shared, lacking};
 use station_turns::{Naming, Station};
 use std::sync::{Mutex, Wait};
 

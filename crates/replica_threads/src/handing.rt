@@ -5,8 +5,8 @@ ghost use Rattle.replica_threads.specs.declared.job.Job.{Job as Work};
 ghost use Rattle.replica_threads.specs.Courses.{CanTurn};
 
 use crate::job::Job;
+use crate::{Gate, Shared, hand};
 use plain_lists::Want;
-use run_hands::{Gate, Shared, hand};
 use station_turns::{Naming, Station};
 use std::sync::{Mutex, Wait};
 use std::thread;

@@ -1,5 +1,5 @@
+use crate::Posted;
 use inboxes::InboxPass;
-use run_hands::Posted;
 
 /// A hand of an actor, with a pass of each inbox.
 #[derive(Drop)]

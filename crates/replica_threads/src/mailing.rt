@@ -2,14 +2,14 @@
 ghost use Rattle.std.specs.Prelude.{◌≡◌, ◌≤◌, ◌<◌, ◌++◌, length, map, replicate, Some, slice_get, All, IfOk, OnOk};
 ghost use Rattle.inboxes.specs.Passes.{IsPassOf};
 ghost use Rattle.inboxes.specs.declared.inbox.Inbox.{Inbox as Box};
-ghost use Rattle.run_hands.specs.declared.posted.Posted.{Posted as Frame};
-ghost use Rattle.run_hands.specs.Hands.{ArePassesOf};
+ghost use Rattle.replica_threads.specs.declared.posted.Posted.{Posted as Frame};
+ghost use Rattle.replica_threads.specs.Hands.{ArePassesOf};
 ghost use Rattle.replica_threads.specs.Courses.{IsJob, hands_at, all_hands};
 
+use crate::Posted;
 use crate::job::Job;
 use inboxes::{Inbox, InboxPass};
 use plain_lists::Want;
-use run_hands::Posted;
 use std::alloc::Global;
 
 /// An inbox for each of so many actors, with the passes that all others are split off from.

@@ -3,7 +3,7 @@ ghost use Rattle.std.specs.Prelude.{◌≡◌, ◌≤◌, ◌+◌, false, length
 ghost use Rattle.scenario_file.specs.Reading.{contents};
 ghost use Rattle.scenario_file.specs.Valid.{IsScenario};
 ghost use Rattle.script_laws.specs.Accepted.{actors_in};
-ghost use Rattle.ended_runs.specs.Ended.{HasEnded, IsRun};
+ghost use Rattle.replica_threads.specs.Ended.{HasEnded, IsRun};
 ghost use Rattle.replica_threads.specs.Courses.{AreFit, IsCourse, seats_made};
 
 use crate::course::Course;
@@ -11,11 +11,9 @@ use crate::finishing::all_finished;
 use crate::handing::make_all_turns;
 use crate::mailing::{empty_inboxes, jobs};
 use crate::seating::stations;
-use ended_runs::ended;
-use kept_lists::Kept;
+use crate::{Gate, Shared, ended};
 use plain_lists::Want;
 use play_words::Input;
-use run_hands::{Gate, Shared};
 use scenario_file::Scenario;
 use stamps::{StampSeat, Stamps};
 use station_turns::{Naming, Station};
@@ -23,7 +21,7 @@ use std::alloc::Global;
 use std::marker::Brand;
 use std::sync::{Mutex, Wait};
 use std::thread::Threads;
-use world_history::ring_of;
+use world_history::{Kept, ring_of};
 
 /// The stations once their actors have made all turns: first those of the hands, and then those that an actor still lacks.
 fn all_turned<N: Naming + Send + Sync, R: Threads + Wait + Sync, G: Gate + Sync>(

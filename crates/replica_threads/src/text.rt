@@ -5,25 +5,23 @@ ghost use Rattle.scenario_file.specs.Valid.{IsScenario};
 ghost use Rattle.script_laws.specs.Accepted.{are_lines_of, are_sayings_of};
 ghost use Rattle.history_rules.specs.Events.{Entry};
 ghost use Rattle.history_rules.specs.Counts.{merged};
-ghost use Rattle.history_benches.specs.Benches.{lists_of};
+ghost use Rattle.world_history.specs.Benches.{lists_of};
 ghost use Rattle.printed_run.specs.Printed.{text_of};
-ghost use Rattle.ended_runs.specs.Ended.{IsRun, IsHistoryOf};
+ghost use Rattle.replica_threads.specs.Ended.{IsRun, IsHistoryOf};
 ghost use Rattle.replica_threads.specs.Courses.{inputs_given};
 ghost use Rattle.replica_threads.specs.Texts.{CanBePrinted};
 
+use crate::laws::runs_are_legal;
 use crate::running::run;
-use ended_runs::laws::runs_are_legal;
-use history_benches::merge;
-use kept_lists::{Kept, benches_of};
+use crate::{Gate, PaceGate};
 use plain_lists::Want;
 use printed_run::write_run_of;
-use run_hands::{Gate, PaceGate};
 use scenario_file::Scenario;
 use script_lines::{Script, Words, inputs};
 use std::alloc::Global;
 use std::sync::Wait;
 use std::thread::Threads;
-use world_history::Bench;
+use world_history::{Bench, Kept, benches_of, merge};
 
 /// The text of the history that the benches of all actors merge to. They have each entry once, and nothing is replayed.
 fn text_of_benches(alloc: Global, scenario: &Scenario, benches: &[Bench]) -> Result<Vec<u8>, Want>

@@ -6,3 +6,7 @@ pub mod Entering
 pub mod Frames
 pub mod Again
 pub mod Whole
+pub mod Posted
+pub mod Placed
+pub mod Steps
+pub mod Plays

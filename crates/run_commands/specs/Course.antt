@@ -84,7 +84,7 @@ rebuild_step r scenario pieces (a ∷ b ∷ more) = with_scenario a (λ c. with_
 abbrev pub RebuildCourse : Readers → List ℕ → List ℕ → List (List ℕ) → Step → Type 0
 RebuildCourse r scenario pieces contents step = step ≡ rebuild_step r scenario pieces contents
 
--- What comes next in a command, after the contents of the files loaded so far. Runs in threads are `thread_commands`'
+-- What comes next in a command, after the contents of the files loaded so far. Runs in threads are `spire`'s
 -- matter, and are refused here.
 abbrev pub CommandStep : Readers → Wanted → List (List ℕ) → Step → Type 0
 CommandStep r (play scenario script words) contents step = step ≡ play_step r scenario script words contents

@@ -87,7 +87,7 @@ fn run_text<R: Runs, F: Files>(
             signature,
         } => verify(alloc, public, message, signature, files),
         Asked::Rebuild { scenario, pieces } => rebuild(alloc, runs, scenario, pieces, files),
-        // Runs in threads are the matter of `thread_commands`.
+        // Runs in threads are the matter of `spire`.
         _ => Err(Refusal::Usage),
     }
 }

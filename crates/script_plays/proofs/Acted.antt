@@ -15,7 +15,7 @@ use Rattle.world_rules.specs.Frames.{addressees}
 use Rattle.world_rules.specs.Scenarios.{setup_of, fits_in}
 use Rattle.world_rules.proofs.Fields.{setup_goes_by}
 use Rattle.world_history.specs.State.{BenchState, setup_in, with_entry}
-use Rattle.kept_lists.specs.State.{KeptState, halted_in, frames_kept}
+use Rattle.world_history.specs.KeptState.{KeptState, halted_in, frames_kept}
 use Rattle.script_laws.specs.Accepted.{actors_in, is_there, may_do}
 use Rattle.script_plays.specs.declared.answer.StepRefusal.{StepRefusal}
 use Rattle.script_plays.specs.declared.answer.StepRefusal.TheVariants as stop

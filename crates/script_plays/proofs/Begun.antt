@@ -12,8 +12,8 @@ use Rattle.scenario_file.specs.declared.scenario.Scenario.{Scenario}
 use Rattle.scenario_file.specs.declared.actors.Cast.{Cast}
 use Rattle.scenario_file.specs.Actors.{actors_of}
 use Rattle.history_rules.specs.Setup.{own}
-use Rattle.kept_lists.specs.Lists.{replayed}
-use Rattle.kept_lists.specs.State.{KeptState, first_state}
+use Rattle.world_history.specs.Lists.{replayed}
+use Rattle.world_history.specs.KeptState.{KeptState, first_state}
 use Rattle.script_lines.specs.declared.saying.Saying.{Saying}
 use Rattle.script_lines.specs.Given.{own_words}
 use Rattle.script_laws.specs.Accepted.{actors_in}

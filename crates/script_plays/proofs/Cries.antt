@@ -21,7 +21,7 @@ use Rattle.play_words.specs.declared.words.Word.{Word}
 use Rattle.play_words.specs.declared.words.Word.TheVariants as word
 use Rattle.world_history.specs.State.{BenchState, entry_at, with_entry, with_word, word_body, word_frame, after_word}
 use Rattle.world_history.specs.State.{spoken}
-use Rattle.kept_lists.specs.State.{KeptState}
+use Rattle.world_history.specs.KeptState.{KeptState}
 use Rattle.script_lines.specs.declared.saying.Saying.{Saying}
 use Rattle.script_lines.specs.Given.{own_words}
 use Rattle.script_laws.specs.Accepted.{actors_in}

@@ -3,7 +3,7 @@ use Rattle.std.proofs.Common.{◌≡◌, ℕ, true, List, Result, Ok, drop, get_
 use Rattle.scenario_file.specs.Reading.{Contents}
 use Rattle.script_lines.specs.declared.step.Step.{Step}
 use Rattle.script_lines.specs.Given.{own_words}
-use Rattle.kept_lists.specs.State.{KeptState}
+use Rattle.world_history.specs.KeptState.{KeptState}
 use Rattle.script_laws.specs.Accepted.{actors_in, is_step_of}
 use Rattle.script_plays.specs.declared.answer.StepRefusal.{StepRefusal}
 use Rattle.script_plays.specs.declared.mail.Mail.{Mail}

@@ -7,7 +7,7 @@ use Rattle.std.proofs.lemmas.List.{drop_all, length-map, get_or-map, same_lists}
 use Rattle.quorum_sets.specs.Masters.{numbers_below}
 use Rattle.history_rules.specs.Events.{Entry}
 use Rattle.world_history.specs.State.{BenchState}
-use Rattle.kept_lists.specs.State.{KeptState}
+use Rattle.world_history.specs.KeptState.{KeptState}
 use Rattle.scenario_file.specs.Reading.{Contents}
 use Rattle.script_lines.specs.declared.saying.Saying.{Saying}
 use Rattle.script_lines.specs.declared.script.Line.{Line}

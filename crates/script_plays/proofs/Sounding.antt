@@ -25,8 +25,8 @@ use Rattle.world_rules.specs.Scenarios.{setup_of, group_in, fits_in}
 use Rattle.world_rules.specs.Laws.{GoesBy}
 use Rattle.world_rules.proofs.Fields.{group_is, setup_goes_by}
 use Rattle.world_history.specs.State.{BenchState, entry_at}
-use Rattle.kept_lists.specs.Lists.{last_of}
-use Rattle.kept_lists.specs.State.{frames_kept}
+use Rattle.world_history.specs.Lists.{last_of}
+use Rattle.world_history.specs.KeptState.{frames_kept}
 use Rattle.script_plays.specs.declared.mail.Held.{Held}
 use Rattle.script_plays.specs.declared.mail.Post.{Post}
 use Rattle.script_plays.specs.declared.mail.Delivery.{Delivery}

@@ -22,7 +22,7 @@ use Rattle.world_rules.proofs.Fields.{setup_goes_by}
 use Rattle.play_words.specs.Accepted.{is_accepted}
 use Rattle.play_words.specs.declared.words.Word.{Word}
 use Rattle.world_history.specs.State.{BenchState, setup_in, with_entry, word_body, after_word, spoken}
-use Rattle.kept_lists.specs.State.{KeptState, halted_in}
+use Rattle.world_history.specs.KeptState.{KeptState, halted_in}
 use Rattle.script_lines.specs.declared.saying.Saying.{Saying}
 use Rattle.script_lines.specs.Given.{own_words}
 use Rattle.script_laws.specs.Accepted.{actors_in, is_there, is_intruded, is_saying_of, are_sayings_of}

@@ -20,7 +20,7 @@ use Rattle.own_histories.proofs.Building.{one_more_is_legal, own_entry_is_legal}
 use Rattle.world_rules.specs.Scenarios.{setup_of, group_in, masters_in, fits_in}
 use Rattle.world_rules.proofs.Fields.{group_is, setup_goes_by}
 use Rattle.world_history.specs.State.{BenchState, entry_at, with_entry}
-use Rattle.kept_lists.specs.State.{KeptState, frames_kept}
+use Rattle.world_history.specs.KeptState.{KeptState, frames_kept}
 use Rattle.script_lines.specs.declared.saying.Saying.{Saying}
 use Rattle.script_lines.specs.Given.{own_words}
 use Rattle.script_plays.specs.declared.mail.Post.{Post}

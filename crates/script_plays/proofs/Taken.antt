@@ -11,7 +11,7 @@ use Rattle.history_rules.specs.Legal.{TakesWell}
 use Rattle.world_rules.specs.Scenarios.{setup_of}
 use Rattle.world_entries.specs.declared.entry.Event.{Event as Happening}
 use Rattle.world_entries.specs.Entries.{event_of}
-use Rattle.kept_lists.specs.State.{KeptState, halted_in}
+use Rattle.world_history.specs.KeptState.{KeptState, halted_in}
 use Rattle.script_laws.specs.Accepted.{actors_in, is_there, may_do, is_named}
 use Rattle.script_plays.specs.declared.answer.StepRefusal.{StepRefusal}
 use Rattle.script_plays.specs.declared.answer.StepRefusal.TheVariants as stop

@@ -29,7 +29,7 @@ use Rattle.world_rules.specs.Frames.{cried, overheard}
 use Rattle.world_rules.specs.Scenarios.{setup_of, masters_in}
 use Rattle.world_rules.proofs.Fields.{group_is, sizes_of_group}
 use Rattle.world_history.specs.State.{BenchState, entry_at, spoken}
-use Rattle.kept_lists.specs.State.{frames_kept}
+use Rattle.world_history.specs.KeptState.{frames_kept}
 use Rattle.script_lines.specs.declared.saying.Saying.{Saying}
 use Rattle.script_lines.specs.declared.script.Line.{Line}
 use Rattle.script_lines.specs.declared.step.Step.{Step}

@@ -14,8 +14,8 @@ use Rattle.agreement.proofs.Lists.{some_same}
 use Rattle.agreement.proofs.Known.{signed_from_in}
 use Rattle.words_in_place.proofs.Limits.{slice_in}
 use Rattle.world_history.specs.State.{BenchState, setup_in, entry_at, frames_said}
-use Rattle.kept_lists.specs.Lists.{last_of, before_last, frames_at, frames_of_last}
-use Rattle.kept_lists.specs.State.{frames_kept}
+use Rattle.world_history.specs.Lists.{last_of, before_last, frames_at, frames_of_last}
+use Rattle.world_history.specs.KeptState.{frames_kept}
 use Rattle.play_words.specs.declared.words.Ref.{Ref}
 use Rattle.script_plays.specs.declared.mail.Held.{Held}
 use Rattle.script_plays.specs.declared.mail.Post.{Post}

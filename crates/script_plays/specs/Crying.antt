@@ -5,7 +5,7 @@ use Rattle.play_words.specs.declared.words.Word.{Word}
 use Rattle.script_lines.specs.declared.saying.Saying.{Saying}
 use Rattle.script_lines.specs.Given.{own_words}
 use Rattle.world_history.specs.State.{after_word, with_entry}
-use Rattle.kept_lists.specs.State.{KeptState}
+use Rattle.world_history.specs.KeptState.{KeptState}
 
 -- The master's first word from a place on stands at this one.
 pub record IsNextWord (words : List Saying) (from master place : ℕ) : Type 0 where

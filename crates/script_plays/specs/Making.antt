@@ -14,8 +14,8 @@ use Rattle.history_rules.specs.Setup.{own}
 use Rattle.world_rules.specs.Frames.{cried}
 use Rattle.world_rules.specs.Scenarios.{setup_of, masters_in}
 use Rattle.world_history.specs.State.{BenchState, entry_at, spoken}
-use Rattle.kept_lists.specs.Lists.{last_of}
-use Rattle.kept_lists.specs.State.{halted_in, frames_kept}
+use Rattle.world_history.specs.Lists.{last_of}
+use Rattle.world_history.specs.KeptState.{halted_in, frames_kept}
 use Rattle.script_lines.specs.declared.saying.Saying.{Saying}
 use Rattle.script_lines.specs.declared.script.Line.{Line}
 use Rattle.script_lines.specs.declared.step.Step.{Step}

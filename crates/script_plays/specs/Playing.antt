@@ -12,7 +12,7 @@ use Rattle.history_rules.specs.Setup.{Setup, stands, own}
 use Rattle.history_rules.specs.Legal.{IsLegal}
 use Rattle.world_rules.specs.Scenarios.{setup_of}
 use Rattle.bench_rules.specs.Lists.{ring_in}
-use Rattle.kept_lists.specs.State.{KeptState, first_state}
+use Rattle.world_history.specs.KeptState.{KeptState, first_state}
 use Rattle.world_entries.specs.declared.entry.Event.{Event as Happening}
 use Rattle.world_entries.specs.Entries.{event_of}
 use Rattle.script_lines.specs.declared.saying.Saying.{Saying}

@@ -8,7 +8,7 @@ ghost use Rattle.history_rules.specs.Legal.{TakesWell};
 ghost use Rattle.world_entries.specs.Entries.{event_of};
 ghost use Rattle.world_rules.specs.Scenarios.{setup_of};
 ghost use Rattle.world_history.specs.State.{setup_in, with_entry};
-ghost use Rattle.kept_lists.specs.State.{halted_in, frames_kept};
+ghost use Rattle.world_history.specs.KeptState.{halted_in, frames_kept};
 ghost use Rattle.script_laws.specs.Accepted.{may_do};
 ghost use Rattle.script_plays.specs.Making.{Making, is_cry, has_halted, most_entries, stamp_said, after, does};
 ghost use Rattle.script_plays.specs.Playing.{IsWorld, given_in, IsMaking, IsPlaying, Goes};
@@ -16,10 +16,9 @@ ghost use Rattle.script_plays.specs.Playing.{IsWorld, given_in, IsMaking, IsPlay
 use crate::answer::StepRefusal;
 use crate::playing::{Playing, World};
 use crate::posting::posts_of;
-use kept_lists::Kept;
 use message_types::Frame;
 use plain_lists::Want;
-use world_history::{Bench, Event};
+use world_history::{Bench, Event, Kept};
 
 /// The most entries that a play may have.
 pub(crate) const MOST_ENTRIES: u64 = 50_000;

@@ -7,7 +7,7 @@ ghost use Rattle.scenario_file.specs.Reading.{contents};
 ghost use Rattle.history_rules.specs.Events.{Cry};
 ghost use Rattle.world_rules.specs.Scenarios.{masters_in};
 ghost use Rattle.world_history.specs.State.{setup_in, spoken, after_word, with_entry};
-ghost use Rattle.kept_lists.specs.State.{KeptState, halted_in};
+ghost use Rattle.world_history.specs.KeptState.{KeptState, halted_in};
 ghost use Rattle.script_lines.specs.Given.{own_words};
 ghost use Rattle.script_laws.specs.Accepted.{is_intruded};
 ghost use Rattle.script_plays.specs.Making.{Making, most_entries, times_over, cries};
@@ -18,11 +18,10 @@ use crate::acting::MOST_ENTRIES;
 use crate::answer::StepRefusal;
 use crate::playing::{Playing, World};
 use crate::posting::cried_posts;
-use kept_lists::Kept;
 use plain_lists::{Bytes, Copied, Want};
 use play_words::Word;
 use script_lines::Saying;
-use world_history::Event;
+use world_history::{Event, Kept};
 
 /// Where the first word of a master stands, from a place in the list of all words on.
 fn next_word(words: &[Saying], from: usize, master: u32) -> Option<usize>

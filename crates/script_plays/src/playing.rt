@@ -9,12 +9,11 @@ ghost use Rattle.script_plays.specs.Playing.{IsWorld, given_in, IsMaking, AreNew
 
 use crate::mail::Mail;
 use checked_frames::KeyRing;
-use kept_lists::Kept;
 use plain_lists::Want;
 use scenario_file::Scenario;
 use script_lines::Saying;
 use std::alloc::Global;
-use world_history::ring_of;
+use world_history::{Kept, ring_of};
 
 /// What a play goes by from its beginning to its end.
 #[derive(Drop)]

@@ -10,10 +10,10 @@ ghost use Rattle.script_plays.specs.Playing.{IsWorld, given_in, IsMaking, IsPlay
 use crate::answer::PlayAnswer;
 use crate::playing::{Playing, World};
 use crate::steps::goes;
-use kept_lists::Kept;
 use scenario_file::Scenario;
 use script_lines::{Line, Script, Words};
 use std::alloc::Global;
+use world_history::Kept;
 
 /// What a line does, or the answer of a play that stops at it.
 fn play_line(world: &World<'_>, playing: &mut Playing, line: &Line) -> Result<(), PlayAnswer>

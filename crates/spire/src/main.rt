@@ -1,11 +1,42 @@
 //! The program: runs the command that its words are, over real files and standard output.
 #![tactic(auto)]
 
+mod asking;
+pub mod call;
+#[cfg(test)]
+mod calls;
+#[cfg(test)]
+mod devices;
+#[cfg(test)]
+mod made;
+#[cfg(test)]
+mod named_files;
+#[cfg(test)]
+mod ordered;
+#[cfg(test)]
+mod plays;
+#[cfg(test)]
+mod printed_parts;
+#[cfg(test)]
+mod questions;
+#[cfg(test)]
+mod raw;
+#[cfg(test)]
+mod rebuilt_parts;
+#[cfg(test)]
+mod refused;
+#[cfg(test)]
+mod replayed;
+mod running;
+#[cfg(test)]
+mod runs;
+mod thread_runs;
+
+use crate::call::spire;
 use command_ends::no_words::{WordsRefusal, spire_without_words};
 use outside::{RealErr, RealFiles, RealOut};
 use std::process::ExitCode;
 use std::{env, io};
-use thread_commands::call::spire;
 
 fn main(rt: HostRuntime) -> ExitCode {
     let alloc = rt.alloc();

@@ -15,7 +15,7 @@ use Rattle.history_rules.specs.Setup.{stands}
 use Rattle.world_rules.specs.Scenarios.{setup_of}
 use Rattle.world_rules.specs.Frames.{cried}
 use Rattle.world_history.specs.State.{BenchState, setup_in, entry_at, with_entry}
-use Rattle.kept_lists.specs.State.{KeptState, halted_in, frames_kept}
+use Rattle.world_history.specs.KeptState.{KeptState, halted_in, frames_kept}
 use Rattle.world_entries.specs.declared.entry.Event.{Event as Happening}
 use Rattle.world_entries.specs.Entries.{event_of}
 use Rattle.std.proofs.lemmas.Option.{slice_get_read}
@@ -28,7 +28,7 @@ use Rattle.station_turns.proofs.Counting.{input_more, input_same, signed_same, s
 use Rattle.station_turns.proofs.Given.{after_given, after_none, after_input_all, given_outside, given_fits}
 use Rattle.station_turns.proofs.Given.{outside_takes, inside_fits, inside_not_outside, inside_cries_nothing}
 use Rattle.station_turns.proofs.Steady.{entry_so, steady_more, entered_bench}
-use Rattle.kept_lists.proofs.Acting.{event_at}
+use Rattle.world_history.proofs.KeptActing.{event_at}
 use Rattle.plain_lists.proofs.Lists.{all_at_place}
 use Rattle.world_history.proofs.Signing.{signed_so}
 

@@ -15,7 +15,7 @@ use Rattle.world_rules.specs.Scenarios.{setup_of}
 use Rattle.stamps.specs.Seats.{Source, Drawer}
 use Rattle.world_history.specs.State.{BenchState, setup_in}
 use Rattle.history_rules.specs.Events.{Event}
-use Rattle.kept_lists.specs.State.{KeptState, halted_in, first_state}
+use Rattle.world_history.specs.KeptState.{KeptState, halted_in, first_state}
 use Rattle.play_words.specs.declared.input.Input.{Input}
 use Rattle.station_turns.specs.declared.held.Held.{Held}
 use Rattle.station_turns.specs.declared.held.Turned.{Turned}

@@ -11,7 +11,7 @@ use Rattle.play_words.specs.declared.input.Input.{Input}
 use Rattle.history_rules.specs.Events.{Event, Skip, Entry}
 use Rattle.stamps.specs.Seats.{Drawer}
 use Rattle.world_history.specs.State.{BenchState, setup_in, entry_at, with_entry}
-use Rattle.kept_lists.specs.State.{KeptState, halted_in}
+use Rattle.world_history.specs.KeptState.{KeptState, halted_in}
 use Rattle.station_turns.specs.declared.held.Held.{Held}
 use Rattle.station_turns.specs.Pace.{is_skip, is_outside, turns_made, inputs_used, words_signed, AreFewSkips}
 use Rattle.station_turns.specs.Turns.{Stationed, IsSteady, CanAdd, IsAlive, is_early, with_skips, drew, AreSkips}
@@ -19,7 +19,7 @@ use Rattle.station_turns.specs.Turns.{HasSkipped, DrawsLast, DrawsOne, Draws}
 use Rattle.station_turns.proofs.Counting.{turn_same, input_same, signed_same}
 use Rattle.station_turns.proofs.Given.{skip_fits}
 use Rattle.station_turns.proofs.Steady.{steady_more, drawn_can, drawn_few}
-use Rattle.kept_lists.proofs.Acting.{event_at}
+use Rattle.world_history.proofs.KeptActing.{event_at}
 use Rattle.world_history.proofs.Signing.{signed_so}
 
 -- the entries of skips

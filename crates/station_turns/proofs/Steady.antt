@@ -14,10 +14,10 @@ use Rattle.own_histories.proofs.Building.{one_more_is_own}
 use Rattle.script_laws.specs.Accepted.{actors_in}
 use Rattle.stamps.specs.Seats.{Drawer}
 use Rattle.world_history.specs.State.{BenchState, setup_in, entry_at, with_entry}
-use Rattle.kept_lists.specs.State.{KeptState, halted_in}
+use Rattle.world_history.specs.KeptState.{KeptState, halted_in}
 use Rattle.station_turns.specs.Pace.{fit_inputs, words_signed, bench_after}
 use Rattle.station_turns.specs.Turns.{Stationed, IsSteady, CanAdd}
-use Rattle.kept_lists.proofs.Acting.{stamp_at}
+use Rattle.world_history.proofs.KeptActing.{stamp_at}
 use Rattle.world_history.proofs.Signing.{signed_so}
 
 pub entry_so : (b : BenchState) (n stamp : ℕ) (event : Event) →

@@ -11,7 +11,7 @@ use Rattle.scenario_file.specs.Reading.{Contents}
 use Rattle.history_rules.specs.Events.{Event}
 use Rattle.script_laws.specs.Accepted.{is_there, is_intruded}
 use Rattle.world_history.specs.State.{BenchState, entry_at}
-use Rattle.kept_lists.specs.State.{halted_in}
+use Rattle.world_history.specs.KeptState.{halted_in}
 use Rattle.station_turns.specs.declared.held.Held.{Held}
 use Rattle.station_turns.specs.declared.held.Turned.{Turned}
 use Rattle.station_turns.specs.Naming.{RunName, IsOf}
@@ -21,7 +21,7 @@ use Rattle.station_turns.proofs.Counting.{turn_more}
 use Rattle.station_turns.proofs.Skipped.{skips_turns}
 use Rattle.station_turns.proofs.Seen.{of_turned}
 use Rattle.station_turns.proofs.WholeTurns.{next_no_skip}
-use Rattle.kept_lists.proofs.Acting.{event_at}
+use Rattle.world_history.proofs.KeptActing.{event_at}
 
 -- an input that fits names actors that are there
 fit_there : (c : Contents) (actor : ℕ) (x : Input) → fits_input c actor x ≡ true →

@@ -18,7 +18,7 @@ use Rattle.history_rules.specs.Setup.{Setup, stands}
 use Rattle.history_rules.specs.Legal.{TakesWell}
 use Rattle.world_rules.specs.Scenarios.{setup_of}
 use Rattle.world_history.specs.State.{BenchState, setup_in, entry_at}
-use Rattle.kept_lists.specs.State.{halted_in}
+use Rattle.world_history.specs.KeptState.{halted_in}
 use Rattle.station_turns.specs.declared.held.Held.{Held}
 use Rattle.station_turns.specs.declared.held.Turned.{Turned}
 use Rattle.station_turns.specs.declared.turning.Due.{Due}
@@ -33,7 +33,7 @@ use Rattle.station_turns.proofs.Given.{given_outside, outside_no_skip, inside_no
 use Rattle.station_turns.proofs.Steady.{steady_bench}
 use Rattle.station_turns.proofs.Skipped.{skip_entries, skips_list, skips_length, skips_few, skips_world, skips_turns}
 use Rattle.station_turns.proofs.Skipped.{skips_inputs}
-use Rattle.kept_lists.proofs.Acting.{event_at}
+use Rattle.world_history.proofs.KeptActing.{event_at}
 
 -- which event is due, by its kind
 

@@ -16,8 +16,8 @@ use Rattle.script_laws.specs.Accepted.{actors_in}
 use Rattle.own_histories.specs.Own.{IsOwnHistory}
 use Rattle.stamps.specs.Seats.{Source, Drawer}
 use Rattle.world_history.specs.State.{BenchState, setup_in, entry_at, with_entry}
-use Rattle.kept_lists.specs.Lists.{last_of}
-use Rattle.kept_lists.specs.State.{KeptState, halted_in, frames_kept}
+use Rattle.world_history.specs.Lists.{last_of}
+use Rattle.world_history.specs.KeptState.{KeptState, halted_in, frames_kept}
 use Rattle.station_turns.specs.declared.held.Held.{Held}
 use Rattle.station_turns.specs.declared.held.Turned.{Turned}
 use Rattle.station_turns.specs.declared.live.Live.{Live}

@@ -10,17 +10,16 @@ ghost use Rattle.world_entries.specs.Entries.{event_of};
 ghost use Rattle.world_rules.specs.Frames.{cried};
 ghost use Rattle.world_history.specs.Roles.{is_want, optional};
 ghost use Rattle.world_history.specs.State.{setup_in, with_entry};
-ghost use Rattle.kept_lists.specs.State.{halted_in};
+ghost use Rattle.world_history.specs.KeptState.{halted_in};
 ghost use Rattle.station_turns.specs.Turns.{stamp_posted, frames_posted, cries_frame};
 
-use kept_lists::Kept;
 use message_forms::{FormRefusal, read_frame};
 use message_types::Frame;
 use plain_lists::Want;
 use scenario_file::Scenario;
 use std::alloc::Global;
 use world_entries::Event;
-use world_history::Bench;
+use world_history::{Bench, Kept};
 
 /// The stamp at which the frames were said that are posted at an event.
 fn stamp_posted(bench: &Bench, stamp: u64, event: &Event) -> u64

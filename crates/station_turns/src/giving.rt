@@ -9,11 +9,11 @@ ghost use Rattle.world_history.specs.State.{setup_in, spoken, after_word};
 ghost use Rattle.station_turns.specs.Pace.{fits_input, event_given, after_input};
 ghost use Rattle.station_turns.specs.Turns.{named};
 
-use kept_lists::Kept;
 use plain_lists::{Bytes, Copied, Vector, Want};
 use play_words::{Input, Word};
 use std::alloc::Global;
 use world_entries::Event;
+use world_history::Kept;
 
 /// The cry of a word. None where the master can't say it.
 fn say(alloc: Global, kept: &mut Kept, word: &Word) -> Result<Option<Event>, Want>

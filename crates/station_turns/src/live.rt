@@ -1,9 +1,9 @@
 ghost use Rattle.std.specs.Prelude.{◌≡◌};
 
-use kept_lists::Kept;
 use play_words::Input;
 use stamps::StampSeat;
 use std::alloc::Global;
+use world_history::Kept;
 
 /// An actor with its seat and the inputs that it is given, while memory lasts.
 pub struct Live {

@@ -1,7 +1,7 @@
 //! The stamps that a turn draws, and its skips.
 ghost use Rattle.std.specs.Prelude.{◌≡◌, ◌<◌, false, IfOk};
 ghost use Rattle.scenario_file.specs.Reading.{contents};
-ghost use Rattle.kept_lists.specs.State.{halted_in};
+ghost use Rattle.world_history.specs.KeptState.{halted_in};
 ghost use Rattle.station_turns.specs.Turns.{stationed, IsAlive, is_early, Draws};
 
 use crate::held::Held;

@@ -7,7 +7,7 @@ ghost use Rattle.scenario_file.specs.Valid.{IsScenario};
 ghost use Rattle.history_rules.specs.Setup.{stands};
 ghost use Rattle.world_rules.specs.Scenarios.{setup_of};
 ghost use Rattle.script_laws.specs.Accepted.{actors_in, is_there};
-ghost use Rattle.kept_lists.specs.State.{halted_in, first_state};
+ghost use Rattle.world_history.specs.KeptState.{halted_in, first_state};
 ghost use Rattle.station_turns.specs.Pace.{fit_inputs, turns_made, inputs_used};
 ghost use Rattle.station_turns.specs.Turns.{Stationed, IsAlive, Turns};
 ghost use Rattle.station_turns.specs.Naming.{IsOf};
@@ -16,13 +16,13 @@ use crate::held::{Held, Turned};
 use crate::live::Live;
 use crate::naming::Naming;
 use crate::turning::turn;
-use kept_lists::Kept;
 use plain_lists::Want;
 use play_words::Input;
 use scenario_file::Scenario;
 use stamps::{StampSeat, Stamps};
 use std::alloc::Global;
 use std::marker::{Model, PhantomData};
+use world_history::Kept;
 
 /// An actor with its keeper, its seat and the inputs that it is given, in the run of this name. After want of memory it is given
 /// up.

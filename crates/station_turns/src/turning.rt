@@ -7,7 +7,7 @@ ghost use Rattle.history_rules.specs.Setup.{stands};
 ghost use Rattle.history_rules.specs.Legal.{TakesWell};
 ghost use Rattle.world_entries.specs.Entries.{event_of};
 ghost use Rattle.world_history.specs.State.{setup_in};
-ghost use Rattle.kept_lists.specs.State.{halted_in};
+ghost use Rattle.world_history.specs.KeptState.{halted_in};
 ghost use Rattle.station_turns.specs.Pace.{is_inside, turns_made, inputs_used};
 ghost use Rattle.station_turns.specs.Turns.{stationed, IsAlive, CanAdd, TakesAt, Enters, Turns, event_next, held_back, event_from_input, kind_due};
 

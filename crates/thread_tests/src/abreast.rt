@@ -3,7 +3,7 @@
 use crate::runs::{run_small, turns_made};
 use crate::waiting::Waits;
 use plain_lists::Want;
-use run_hands::Gate;
+use replica_threads::Gate;
 use std::alloc::Global;
 use std::sync::Wait;
 use std::sync::atomic::{AtomicU64, Ordering};

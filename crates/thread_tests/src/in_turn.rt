@@ -2,15 +2,14 @@
 //! turn, the oldest first.
 use crate::runs::run_small;
 use crate::waiting::Waits;
-use kept_lists::Kept;
 use plain_lists::Want;
-use run_hands::Gate;
+use replica_threads::Gate;
 use std::alloc::Global;
 use std::sync::Wait;
 use std::sync::atomic::{AtomicU64, Ordering};
 use std::test::Fail;
 use std::thread::Threads;
-use world_history::{Entry, Event};
+use world_history::{Entry, Event, Kept};
 
 /// The actors make their first turns in the order of their numbers, then their second ones, and so on. They make their last
 /// turns all at once.

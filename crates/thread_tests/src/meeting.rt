@@ -1,7 +1,7 @@
 //! Two masters that wait for each other inside their turns. One thread for all hands, or one lock round all actors, can't do that.
 use crate::runs::{run_small, turns_made};
 use crate::waiting::Waits;
-use run_hands::Gate;
+use replica_threads::Gate;
 use std::sync::Wait;
 use std::sync::atomic::{AtomicU64, Ordering};
 use std::test::Fail;

@@ -1,9 +1,7 @@
 //! Runs of a small scenario.
 ghost use Rattle.std.specs.Prelude.{◌≤◌};
 
-use kept_lists::Kept;
-use replica_threads::run_script;
-use run_hands::Gate;
+use replica_threads::{Gate, run_script};
 use scenario_file::Scenario;
 use script_laws::laws::{read_lines_are_of_scenario, read_words_are_of_scenario};
 use script_lines::{Script, Words};
@@ -11,7 +9,7 @@ use std::alloc::Global;
 use std::sync::Wait;
 use std::test::Fail;
 use std::thread::Threads;
-use world_history::Event;
+use world_history::{Event, Kept};
 
 /// Masters 0 to 3 and a screen as actor 4. Few hashes make the keys.
 const SMALL: &str =

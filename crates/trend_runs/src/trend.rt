@@ -1,6 +1,6 @@
 //! The text of a point's changes among a history's executions.
 ghost use Rattle.std.specs.Prelude.{◌≡◌, List};
-ghost use Rattle.history_benches.specs.Benches.{AreBenches};
+ghost use Rattle.world_history.specs.Benches.{AreBenches};
 ghost use Rattle.history_rules.specs.Events.{Entry};
 ghost use Rattle.scenario_file.specs.Reading.{contents};
 ghost use Rattle.scenario_file.specs.Valid.{IsScenario};

@@ -19,8 +19,8 @@ use Rattle.world_rules.specs.Scenarios.{setup_of, group_in}
 use Rattle.world_rules.proofs.Fields.{group_is}
 use Rattle.world_history.specs.State.{BenchState}
 use Rattle.printed_run.specs.Printed.{text_of}
-use Rattle.history_benches.specs.Benches.{actors_in, bench_in, benches_of, unsigned, AreBenches, lists_of}
-use Rattle.kept_lists.specs.State.{KeptState}
+use Rattle.world_history.specs.Benches.{actors_in, bench_in, benches_of, unsigned, AreBenches, lists_of}
+use Rattle.world_history.specs.KeptState.{KeptState}
 use Rattle.script_lines.specs.declared.saying.Saying.{Saying}
 use Rattle.script_plays.specs.Making.{Given, bench_at, most_entries}
 use Rattle.script_plays.specs.Playing.{ArePlayed}

@@ -6,7 +6,7 @@ use Rattle.scenario_file.specs.Reading.{Contents}
 use Rattle.history_rules.specs.Events.{Entry}
 use Rattle.script_lines.specs.declared.saying.Saying.{Saying}
 use Rattle.script_lines.specs.declared.script.Line.{Line}
-use Rattle.kept_lists.specs.State.{KeptState}
+use Rattle.world_history.specs.KeptState.{KeptState}
 use Rattle.command_ends.specs.declared.refusal.Refusal.{Refusal}
 use Rattle.command_ends.specs.declared.refusal.Refusal.TheVariants as refusal
 use Rattle.script_plays.specs.declared.answer.StepRefusal.{StepRefusal}

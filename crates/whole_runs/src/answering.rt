@@ -1,6 +1,6 @@
 //! Answers to what is asked over the history of a printed text.
 ghost use Rattle.std.specs.Prelude.{◌≡◌};
-ghost use Rattle.history_benches.specs.Benches.{AreBenches};
+ghost use Rattle.world_history.specs.Benches.{AreBenches};
 ghost use Rattle.history_rules.specs.Legal.{IsLegal};
 ghost use Rattle.run_commands.specs.Readers.{AnswerGives, RebuildGives};
 ghost use Rattle.scenario_file.specs.Reading.{contents};

@@ -10,8 +10,6 @@ ghost use Rattle.whole_runs.specs.Whole.{whole_runs, AreAfter};
 
 use crate::faults::play_refusal;
 use command_ends::Refusal;
-use history_benches::merge;
-use kept_lists::{Kept, benches_of};
 use plain_lists::Want;
 use printed_run::write_run_of;
 use scenario_file::Scenario;
@@ -19,7 +17,7 @@ use script_lines::{Script, Words};
 use script_plays::laws::played_is_legal;
 use script_plays::play;
 use std::alloc::Global;
-use world_history::Bench;
+use world_history::{Bench, Kept, benches_of, merge};
 
 /// The text of the play of a script and words, or the line at which it stops.
 pub(crate) fn played_text(

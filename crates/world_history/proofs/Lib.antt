@@ -11,3 +11,16 @@ pub mod Showing
 pub mod Saying
 pub mod Ringing
 pub mod Signing
+mod Numbered
+pub mod ShownOf
+pub mod Steps
+mod Placing
+mod Joined
+pub mod Ending
+pub mod KeptReplaying
+pub mod Calls
+pub mod KeptActing
+pub mod Rereading
+pub mod Together
+pub mod Beginning
+pub mod TakenOut

@@ -1,6 +1,6 @@
 use Rattle.std.proofs.Common.{◌≡◌, take, length}
 use Rattle.scenario_file.specs.Reading.{contents}
-use Rattle.history_benches.specs.Benches.{benches_of}
+use Rattle.world_history.specs.Benches.{benches_of}
 use Rattle.history_pictures.proofs.happened.picture_of.Given as goal
 
 -- the entries so far were acted, and each gave a mark

@@ -4,7 +4,7 @@ use Rattle.std.proofs.Common.{◌≡◌, ℕ, ◌<◌, List, Option, None}
 use Rattle.scenario_file.specs.Reading.{Contents}
 use Rattle.history_rules.specs.Events.{Entry}
 use Rattle.world_rules.specs.Scenarios.{masters_in, setup_of}
-use Rattle.history_benches.specs.Benches.{AreBenches}
+use Rattle.world_history.specs.Benches.{AreBenches}
 use Rattle.part_runs.specs.Parts.{certified_by}
 use Rattle.part_runs.proofs.certified.first_certified.Given as goal
 

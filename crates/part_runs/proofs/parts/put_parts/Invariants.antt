@@ -7,7 +7,7 @@ use Rattle.quorum_sets.specs.Masters.{numbers_below}
 use Rattle.scenario_file.specs.Reading.{Contents}
 use Rattle.history_rules.specs.Events.{Entry}
 use Rattle.world_rules.specs.Scenarios.{masters_in, setup_of}
-use Rattle.history_benches.specs.Benches.{AreBenches}
+use Rattle.world_history.specs.Benches.{AreBenches}
 use Rattle.part_runs.specs.Parts.{certified_by, part_if}
 use Rattle.part_runs.proofs.Printing.{lines_of}
 use Rattle.part_runs.proofs.parts.put_parts.Given as goal

@@ -1,5 +1,5 @@
 use Rattle.std.specs.Vec.Iter.{into_iter_len}
-use Rattle.run_hands.specs.Hands.{ArePassesOf}
+use Rattle.replica_threads.specs.Hands.{ArePassesOf}
 use Rattle.replica_threads.proofs.Ends.{AreEnded}
 use Rattle.replica_threads.proofs.finishing.all_finished.Given as goal
 

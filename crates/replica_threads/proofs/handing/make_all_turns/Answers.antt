@@ -8,7 +8,7 @@ use denote.Ref.{ShrRef}
 use denote.Slice.{ShrSlice}
 use Rattle.std.specs.contracts.sync.Mutex as Mutex
 use Rattle.station_turns.specs.contracts.station.Station as Station
-use Rattle.run_hands.specs.contracts.shared.Shared as Shared
+use Rattle.replica_threads.specs.contracts.shared.Shared as Shared
 use Rattle.replica_threads.proofs.ActorsCross.{captures_sync, lock_sync}
 use Rattle.replica_threads.proofs.Threads.{shared_sync}
 use Rattle.replica_threads.proofs.handing.make_all_turns.Goals as goal

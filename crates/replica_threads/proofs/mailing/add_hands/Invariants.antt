@@ -1,4 +1,4 @@
-use Rattle.run_hands.specs.Hands.{ArePassesOf}
+use Rattle.replica_threads.specs.Hands.{ArePassesOf}
 use Rattle.replica_threads.proofs.Passes.{AreAdded}
 use Rattle.replica_threads.proofs.mailing.add_hands.Given as goal
 

@@ -1,4 +1,4 @@
-use Rattle.run_hands.specs.Hands.{ArePassesOf}
+use Rattle.replica_threads.specs.Hands.{ArePassesOf}
 use Rattle.replica_threads.proofs.Passes.{AreSplit}
 use Rattle.replica_threads.proofs.mailing.more_passes.Given as goal
 

@@ -6,8 +6,8 @@ use Rattle.scenario_file.specs.Valid.{IsScenario}
 use Rattle.bench_rules.specs.Lists.{ring_in}
 use Rattle.script_laws.specs.Accepted.{actors_in}
 use Rattle.inboxes.specs.declared.inbox.Inbox.{Inbox}
-use Rattle.run_hands.specs.declared.posted.Posted.{Posted}
-use Rattle.run_hands.specs.Hands.{ArePassesOf}
+use Rattle.replica_threads.specs.declared.posted.Posted.{Posted}
+use Rattle.replica_threads.specs.Hands.{ArePassesOf}
 use Rattle.replica_threads.proofs.Ends.{can_turn}
 use Rattle.replica_threads.proofs.running.all_turned.Goals as goal
 

@@ -2,7 +2,7 @@
 -- merge to is legal and one of this run.
 use Rattle.std.proofs.Common.{map, ◌∙◌}
 use Rattle.scenario_file.specs.Reading.{contents}
-use Rattle.kept_lists.specs.State.{KeptState}
+use Rattle.world_history.specs.KeptState.{KeptState}
 use Rattle.replica_threads.specs.Courses.{inputs_given}
 use Rattle.replica_threads.proofs.Texts.{run_prints, run_printed}
 use Rattle.replica_threads.proofs.text.run_text.Goals as goal

@@ -5,7 +5,7 @@ use Rattle.std.specs.List.{list_all}
 use Rattle.scenario_file.specs.Reading.{contents}
 use Rattle.history_rules.specs.Events.{Cry, Entry}
 use Rattle.world_history.specs.State.{BenchState, setup_in}
-use Rattle.kept_lists.specs.State.{halted_in}
+use Rattle.world_history.specs.KeptState.{halted_in}
 use Rattle.script_plays.proofs.Spoken.{spoke, cry_fits, none_said, some_said, cried_more}
 use Rattle.script_plays.proofs.crying.cry_word.Goals as goal
 

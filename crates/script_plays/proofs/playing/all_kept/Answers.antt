@@ -3,7 +3,7 @@
 use Rattle.std.proofs.Common.{◌≡◌, ℕ, List, ◌++◌, ◌∷◌, [], map, sym, ap, ◌∙◌}
 use Rattle.quorum_sets.specs.Masters.{numbers_below}
 use Rattle.scenario_file.specs.Reading.{contents}
-use Rattle.kept_lists.specs.State.{KeptState, first_state}
+use Rattle.world_history.specs.KeptState.{KeptState, first_state}
 use Rattle.script_plays.proofs.Lists.{map_numbers_next}
 use Rattle.quorum_sets.proofs.Numbered.{below_none_at}
 use Rattle.script_plays.proofs.playing.all_kept.Goals as goal

@@ -1,7 +1,7 @@
 use Rattle.std.proofs.Common.{◌≡◌, map}
 use Rattle.quorum_sets.specs.Masters.{numbers_below}
 use Rattle.scenario_file.specs.Reading.{contents}
-use Rattle.kept_lists.specs.State.{first_state}
+use Rattle.world_history.specs.KeptState.{first_state}
 use Rattle.script_plays.proofs.playing.all_kept.Given as goal
 
 -- the actors so far stand before their first events

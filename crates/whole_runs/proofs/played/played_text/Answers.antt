@@ -3,7 +3,7 @@
 use Rattle.std.specs.declared.vec.Vec.{Vec}
 use Rattle.std.specs.declared.alloc.Global.{Global}
 use Rattle.scenario_file.specs.Reading.{contents}
-use Rattle.kept_lists.specs.State.{KeptState}
+use Rattle.world_history.specs.KeptState.{KeptState}
 use Rattle.script_plays.specs.Playing.{ArePlayed}
 use Rattle.whole_runs.proofs.Benches.{are_after}
 use Rattle.whole_runs.proofs.Giving.{gives_play, gives_refused}

@@ -2,7 +2,7 @@
 -- made.
 use Rattle.std.proofs.Common.{map, ◌∙◌}
 use Rattle.scenario_file.specs.Reading.{contents}
-use Rattle.kept_lists.specs.State.{KeptState}
+use Rattle.world_history.specs.KeptState.{KeptState}
 use Rattle.whole_runs.proofs.Benches.{after_same, text_same}
 use Rattle.whole_runs.proofs.played.text_of_kept.Goals as goal
 

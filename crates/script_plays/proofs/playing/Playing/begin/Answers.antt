@@ -3,7 +3,7 @@
 use Rattle.std.proofs.Common.{◌≡◌, ℕ, List, [], map, replicate, refl, sym, ◌∙◌, ap, subst}
 use Rattle.quorum_sets.specs.Masters.{numbers_below}
 use Rattle.scenario_file.specs.Reading.{contents}
-use Rattle.kept_lists.specs.State.{first_state}
+use Rattle.world_history.specs.KeptState.{first_state}
 use Rattle.script_plays.specs.Playing.{IsMail}
 use Rattle.script_plays.proofs.Begun.{begun, cast_actors, begin_few}
 use Rattle.script_plays.proofs.playing.Playing.begin.Goals as goal

@@ -1,4 +1,0 @@
-mod Counted
-mod Taken
-mod Joining
-mod Runs

@@ -1,8 +1,0 @@
-use Rattle.ended_runs.proofs.Runs.{runs_stamp_once, histories_are_legal}
-use Rattle.ended_runs.proofs.laws.runs_are_legal.Goals as goal
-
-pub returns-clause-once : goal.returns-clause-once
-returns-clause-once c = runs_stamp_once
-
-pub returns-clause-legal : goal.returns-clause-legal
-returns-clause-legal c = histories_are_legal

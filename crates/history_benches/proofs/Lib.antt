@@ -1,5 +1,0 @@
-mod Numbered
-pub mod Shown
-pub mod Steps
-mod Placing
-mod Joined

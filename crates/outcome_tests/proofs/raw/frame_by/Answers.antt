@@ -1,5 +1,0 @@
-use Rattle.outcome_tests.proofs.MadeHeights.{five_is_made}
-use Rattle.outcome_tests.proofs.raw.frame_by.Goals as goal
-
-pub actor_key-requires-clause-heights : goal.actor_key-requires-clause-heights
-actor_key-requires-clause-heights c = five_is_made

@@ -1,5 +1,0 @@
-use Rattle.outcome_tests.proofs.MadeHeights.{five_is_made}
-use Rattle.outcome_tests.proofs.raw.refusal_of.Goals as goal
-
-pub ring_of-requires-clause-heights : goal.ring_of-requires-clause-heights
-ring_of-requires-clause-heights c = five_is_made

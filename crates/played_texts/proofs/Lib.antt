@@ -1,4 +1,0 @@
-pub mod Posted
-pub mod Placed
-pub mod Steps
-pub mod Plays

@@ -1,6 +1,0 @@
-mod Lists
-mod Passes
-mod Sending
-mod Frames
-mod Taken
-mod Turning

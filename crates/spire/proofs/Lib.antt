@@ -1,0 +1,7 @@
+mod Ends
+mod Alike
+mod Files
+mod Asked
+mod Headlines
+mod Whole
+mod MadeHeights

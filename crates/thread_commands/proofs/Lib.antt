@@ -1,6 +1,0 @@
-mod Ends
-mod Alike
-mod Files
-mod Asked
-mod Headlines
-mod Whole
