@@ -1,11 +1,12 @@
 ghost use Rattle.std.specs.Prelude.{◌≡◌, ◌+◌, ◌<◌, ◌^◌, length, IfOk};
 ghost use Rattle.protocol_rules.specs.Group.{group_of};
+ghost use Rattle.hash_signatures.specs.Signatures.{key_public};
 ghost use Rattle.hash_signatures.specs.State.{key_use, IsLevelCount, HasMadeHeights};
 ghost use Rattle.checked_frames.specs.Standing.{ring_of as ring_with};
 ghost use Rattle.actor_keys.specs.Keys.{derived, actor_seed, actor_identifier, key_of, public_keys};
 
 use checked_frames::KeyRing;
-use hash_signatures::{KeyAnswer, KeyState, Ots};
+use hash_signatures::{KeyAnswer, KeyState, Ots, public_key};
 use plain_lists::Want;
 use quorum_sets::Sizes;
 use sha2::{Digest, Sha256};
@@ -67,6 +68,23 @@ pub fn actor_key(
     }
 }
 
+// The public key of an actor's key.
+#[tactic(auto, unfolding(crate::specs::Keys::key_of))]
+fn actor_public(
+    alloc: Global,
+    seed: &[u8; 32],
+    heights: &[u32],
+    actor: u32,
+) -> Result<[u8; 60], Want>
+    requires levels { IsLevelCount (length heights.now) }
+    requires heights { HasMadeHeights heights.now }
+    ensures { IfOk result (λ public. public ≡ key_public (key_of seed.now heights.now actor)) }
+{
+    let own_seed = actor_seed(seed, actor);
+    let id = actor_identifier(seed, actor);
+    Ok(public_key(alloc, &own_seed, &id, heights, Ots::W4)?)
+}
+
 // The public keys of so many actors, by their numbers.
 fn publics_of(
     alloc: Global,
@@ -80,8 +98,8 @@ fn publics_of(
 {
     let mut publics = Vec::with_capacity(alloc, actors as usize)?;
     for actor in 0..actors {
-        let key = actor_key(alloc, seed, heights, actor)?;
-        publics.push(key.public())?;
+        let public = actor_public(alloc, seed, heights, actor)?;
+        publics.push(public)?;
     }
     Ok(publics)
 }

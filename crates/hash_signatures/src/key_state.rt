@@ -281,6 +281,26 @@ fn leaf_count(heights: &[u32]) -> u64
     1 << total(heights)
 }
 
+/// The bytes of the public key that a key from these has. Of its trees only the top one is made, where `KeyState::make` makes one
+/// for each level.
+pub fn public_key(
+    alloc: Global,
+    seed: &[u8; 32],
+    id: &[u8; 16],
+    heights: &[u32],
+    ots: Ots,
+) -> Result<[u8; 60], Want>
+    requires levels { IsLevelCount (length heights.now) }
+    requires heights { HasMadeHeights heights.now }
+    ensures { IfOk result (λ public. public ≡ key_public (key_from seed.now id.now heights.now ots)) }
+{
+    let Some((height, _lower)) = heights.split_first() else {
+        unreachable!();
+    };
+    let top = tree_for(alloc, None, ots, *height, id, seed)?;
+    Ok(hss_public(heights.len() as u32, &top))
+}
+
 // The key, where its heights are known to be good.
 fn resumed(
     alloc: Global,

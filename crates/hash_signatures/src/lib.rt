@@ -11,7 +11,7 @@ mod known_keys;
 mod path;
 mod verification;
 
-pub use crate::key_state::{KeyAnswer, KeyState, SignAnswer};
+pub use crate::key_state::{KeyAnswer, KeyState, SignAnswer, public_key};
 pub use crate::known_keys::KnownKeys;
 pub use crate::verification::{Anew, KeyCheck, verify, verify_by};
 pub use ots_keys::Ots;

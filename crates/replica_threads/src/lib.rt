@@ -1,5 +1,6 @@
-//! A run of threads: each actor stands behind a lock of its own, hands in threads of their own make the actors' turns, and in the
-//! end the actors are given one a number, or the text of the run's history.
+//! A run of threads: each actor stands behind a lock of its own, and hands in threads of their own make the actors' turns and hand
+//! what is said there to the other actors, by their inboxes. In the end the seats are put together, and the actors are given one
+//! a number, or the text of the history that their lists merge to.
 #![tactic(auto)]
 
 mod completing;

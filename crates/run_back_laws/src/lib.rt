@@ -1,4 +1,4 @@
-//! What holds of printed runs as wholes. A function that does nothing has a law as its contract.
+//! What holds of printed runs as wholes, and of the texts of plays. A function that does nothing has a law as its contract.
 #![tactic(auto)]
 
 ghost use Rattle.run_back_laws.specs.PlayLaws.{PlayedIsTold, PlayedTextsReadBack};

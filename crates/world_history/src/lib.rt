@@ -1,4 +1,7 @@
-//! Histories at work: an actor of a scenario with all that it did, whose state is the replay of its list.
+//! Histories at work: an actor of a scenario with all that it did, whose state is the replay of its list; an actor with its
+//! keeper, which keeps each entry before its words are posted, and one made anew from what was kept; and a history as the
+//! benches of its actors, replayed on new ones or merged from their lists. What is asked of a history's executions is asked of
+//! its benches, so that nothing is replayed twice.
 #![tactic(auto)]
 
 mod agreeing;
