@@ -179,7 +179,7 @@ start_in_body : (signer : ℕ) (word : Body) (sig : List ℕ) (p : Start) →
 start_in_body signer (body.NewView b) sig p e = (b, refl, some_same (sym e))
 start_in_body signer _ sig p e = absurd (none_some e)
 
-in_below : (n m : ℕ) → m < n → IsIn m (numbers_below n)
+pub in_below : (n m : ℕ) → m < n → IsIn m (numbers_below n)
 unfolding numbers_below
 in_below zero m lt = absurd (omega arith)
 in_below (suc n) m lt = by_place (cases_lt m n) (λ less. in_below n m less)

@@ -168,8 +168,12 @@ unfolding supporters
 many_supporters n votes x f o h = h
 
 module _ (w : Setup) (history : List Entry) (client : ℕ) (can_act : Order → Bool) (sound : IsSound w history) where
+  -- the votes taken by the client that count
+  abbrev votes_counted : List Vote
+  votes_counted = counted can_act client (votes_taken history (w.group.n + client))
+
   -- a vote that counts was in a frame taken
-  vote_taken : (vote : Vote) → IsIn vote (counted can_act client (votes_taken history (w.group.n + client)))
+  vote_taken : (vote : Vote) → IsIn vote votes_counted
       → (vote.voucher.client ≡ client) × IsTaken history vote.signer (body.Voucher vote.voucher)
   vote_taken vote h =
       let kept = in_filter_from (counts can_act client) (votes_taken history (w.group.n + client)) h in
@@ -194,12 +198,12 @@ module _ (w : Setup) (history : List Entry) (client : ℕ) (can_act : Order → 
       → IsVouched w history client (x + 1) o
   unfolding done
   done_vouched x o e =
-      let at : chosen w.group.n w.group.f (counted can_act client (votes_taken history (w.group.n + client)))
+      let at : chosen w.group.n w.group.f votes_counted
       (1 + x) ≡ Some o =
-      run_at (chosen w.group.n w.group.f (counted can_act client (votes_taken history (w.group.n + client)))) 1
-      (greatest_number (counted can_act client (votes_taken history (w.group.n + client)))) x o e in
+      run_at (chosen w.group.n w.group.f votes_counted) 1
+      (greatest_number votes_counted) x o e in
       let from = chosen_from w.group.n w.group.f []
-      (counted can_act client (votes_taken history (w.group.n + client))) (1 + x) o at in
+      votes_counted (1 + x) o at in
       record {
         masters = λ m. list_any (λ vote. nat_eq vote.signer m && is_for (1 + x) o vote) from.0;
         enough = many_supporters w.group.n from.0 (1 + x) w.group.f o from.2;

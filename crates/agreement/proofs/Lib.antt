@@ -1,3 +1,6 @@
+-- Behind the laws of agreement, lowest first: places in lists and histories, what masters know and say and whom a
+-- frame's parts come from, then the induction over views by which committed orders are one, and from it executions,
+-- blame and vouchers.
 pub mod Lists
 pub mod Quorums
 pub mod Places

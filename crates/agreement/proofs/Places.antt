@@ -58,7 +58,8 @@ two_places (x ∷ first) (y ∷ second) d e rest more same =
       | inr apart ↦ elim apart [
         | inl s ↦ inr (inl (subst (λ (z : Entry). Stands (y ∷ second) (z ∷ first) d) (sym (heads_same same))
             (stands_behind y s)))
-        | inr s ↦ inr (inr (subst (λ (z : Entry). Stands (x ∷ first) (z ∷ second) e) (heads_same same) (stands_behind x s)))
+        | inr s ↦ inr (inr (subst (λ (z : Entry). Stands (x ∷ first) (z ∷ second) e) (heads_same same)
+            (stands_behind x s)))
       ]
     ]
 

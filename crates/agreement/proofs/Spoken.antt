@@ -108,7 +108,7 @@ none_plus k = omega arith
 none_and_one : 0 + 1 ≡ 1
 none_and_one = omega arith
 
-less_one : (k : ℕ) → k + 1 - 1 ≡ k
+pub less_one : (k : ℕ) → k + 1 - 1 ≡ k
 less_one k = omega arith
 
 one_on : (k x : ℕ) → k + 1 + x ≡ k + suc x

@@ -1,5 +1,5 @@
 -- What a master executed only grows, and orders that enough masters vouch for are a correct master's.
-use Rattle.std.proofs.Common.{◌≡◌, ℕ, ◌+◌, ◌-◌, ◌*◌, ◌<◌, ◌≤◌, zero, suc, true, List, [], ◌∷◌, ◌++◌, Some, length}
+use Rattle.std.proofs.Common.{◌≡◌, ℕ, ◌+◌, ◌*◌, ◌<◌, ◌≤◌, zero, suc, true, List, [], ◌∷◌, ◌++◌, Some, length}
 use Rattle.std.proofs.Common.{refl, sym, ◌∙◌, ap, subst, inl, inr, arith, append_assoc, append-nil}
 use Rattle.std.proofs.lemmas.Grind.{flat_map-append}
 use Rattle.std.specs.Prelude.{slice_get}
@@ -31,6 +31,7 @@ use Rattle.agreement.proofs.Origin.{said_due}
 use Rattle.agreement.proofs.Once.{correct_master, correct_actor}
 use Rattle.agreement.proofs.Executed.{executed_grow, runs_grow}
 use Rattle.agreement.proofs.Executions.{executions_agree}
+use Rattle.agreement.proofs.Spoken.{less_one}
 
 -- what the last event of a list knows
 pub known_of_last : (hs : List Heard) (h : Heard) → known_of (hs ++ h ∷ []) ≡ known_at hs h.took
@@ -125,17 +126,18 @@ begins_slice : {X : Type 0} (xs ys : List X) (k : ℕ) (x : X) → Begins xs ys 
     slice_get ys k ≡ Some x
 begins_slice {X} xs ys k x b e = ap (λ (zs : List X). slice_get zs k) b.same ∙ slice_get-more xs b.rest k e
 
-less_one : (k : ℕ) → k + 1 - 1 ≡ k
-less_one k = omega arith
-
 module _ (w : Setup) (history : List Entry) (client : ℕ) (sound : IsSound w history)
     (appends : (xs ys : List Update) → Begins xs ys → Begins (w.orders xs client) (w.orders ys client)) where
+  -- the voucher for an order at a place of the client's orders
+  abbrev voucher_of : ℕ → Order → Body
+  voucher_of x order = body.Voucher record { client = client; number = x + 1; order = order }
+
   -- what a correct master vouched for is an order of its executions
   voucher_holds : (i x : ℕ) (order : Order) → is_correct_master w i ≡ true →
-      HasSaid history i (body.Voucher record { client = client; number = x + 1; order = order })
+      HasSaid history i (voucher_of x order)
       → slice_get (w.orders (executions w history i) client) x ≡ Some order
   voucher_holds i x order correct said =
-      let due = said_due w i (body.Voucher record { client = client; number = x + 1; order = order })
+      let due = said_due w i (voucher_of x order)
       sound.legal said.place said.by correct said.among in
       let upto : List Entry = said.before ++ said.entry ∷ [] in
       let last = heard_last w said.before said.entry i said.by due.0 in
@@ -163,8 +165,8 @@ module _ (w : Setup) (history : List Entry) (client : ℕ) (sound : IsSound w hi
       let taken = v.taken found.0 found.1 found.2 in
       let said = said_whole taken.place (sound.unforged.said taken.before taken.entry taken.place taken.part taken.among
       (subst (λ (m : ℕ). is_correct w m ≡ true) (sym taken.by) (correct_actor w found.0 found.3))) in
-      let as_said : HasSaid history found.0 (body.Voucher record { client = client; number = x + 1; order = order }) =
-      subst (λ (m : ℕ). HasSaid history m (body.Voucher record { client = client; number = x + 1; order = order }))
+      let as_said : HasSaid history found.0 (voucher_of x order) =
+      subst (λ (m : ℕ). HasSaid history m (voucher_of x order))
       taken.by
       (subst (λ (b : Body). HasSaid history taken.part.signer b) taken.word said) in (
         found.0,

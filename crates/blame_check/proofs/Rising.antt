@@ -16,9 +16,9 @@ use Rattle.message_types.specs.declared.signed.Signed.{Signed}
 use Rattle.message_types.specs.declared.body.Body.{Body}
 use Rattle.blame_check.specs.declared.pairs.Named.{Named}
 use Rattle.blame_check.specs.Contradictions.{pair_of, rising, IsOwnPair}
-use Rattle.history_rules.specs.Audit.{IsIn, here}
-use Rattle.agreement.proofs.Lists.{none_some, any_in, in_left, in_right, in_filter_map}
+use Rattle.agreement.proofs.Lists.{none_some, any_in, in_filter_map}
 use Rattle.blame_check.proofs.FirstPairs.{or_none}
+use Rattle.agreement.proofs.Committed.{in_below}
 
 pub rising_zero : (f : ℕ → Option Named) → rising f 0 ≡ []
 unfolding numbers_below
@@ -175,16 +175,6 @@ not_there f own m none (suc n) =
     ap (list_any (is_of m)) (rising_suc f n)
     ∙ any_behind (is_of m) (rising f n) (cons_option (f n) []) (not_there f own m none n)
     (last_other m n (f n) (own n) (λ is. sym (ap f is) ∙ none))
-
-in_below : (n m : ℕ) → m < n → IsIn m (numbers_below n)
-unfolding numbers_below
-in_below zero m below = absurd (omega arith)
-in_below (suc n) m below = by (cases_eq m n) (λ less. in_below n m less)
-  where
-    by : (m ≡ n) ⊎ (m ≡ n → ⊥) → (m < n → IsIn m (numbers_below n)) → IsIn m (numbers_below n ++ n ∷ [])
-    by (inl is) deeper = subst (λ (x : ℕ). IsIn x (numbers_below n ++ n ∷ [])) (sym is)
-        (in_right (numbers_below n) (here []))
-    by (inr apart) deeper = in_left (n ∷ []) (deeper (omega arith))
 
 -- who has one is
 pub there_is : (f : ℕ → Option Named) → ((m : ℕ) → IsOwnPair m (f m)) → (m : ℕ) (x : Named) → f m ≡ Some x → (n : ℕ) →

@@ -22,11 +22,11 @@ use Rattle.field_proxy.specs.Front.{Front, fresh, polled, poll_says, after_poll}
 use Rattle.field_proxy.specs.Happenings.{Happening, Vouched, front_with, front_after}
 use Rattle.field_proxy.proofs.ReadingLaws.{length-numbered}
 use Rattle.operator_screen.specs.Board.{Desk, is_notice}
-use Rattle.history_rules.specs.Events.{Event, Took, Poll, Entry}
+use Rattle.history_rules.specs.Events.{Took, Poll, Entry}
 use Rattle.history_rules.specs.Audit.{parts_taken}
 use Rattle.world_rules.specs.Clients.{happenings_of, device_of, front_of, desk_of, proxy_says}
 use Rattle.world_rules.proofs.Votes.{no_vote_inside, votes_in-append}
-use Rattle.client_roles.specs.Roles.{IsProxyAfter, IsScreenAfter, front_at, desk_at}
+use Rattle.client_roles.specs.Roles.{front_at, desk_at}
 use Rattle.client_roles.specs.Laws.{ProxiesBeginFresh, ScreensBeginFresh}
 
 pub front_after-append : (s : Front) (xs ys : List Happening) →
@@ -34,7 +34,7 @@ pub front_after-append : (s : Front) (xs ys : List Happening) →
 front_after-append s [] ys = refl
 front_after-append s (x ∷ xs) ys = front_after-append (front_with s x) xs ys
 
-front_more : (n f client : ℕ) (plant : Plant) (own : List Entry) (e : Entry)
+pub front_more : (n f client : ℕ) (plant : Plant) (own : List Entry) (e : Entry)
     → front_of n f plant client (own ++ e ∷ []) ≡ front_at (front_of n f plant client own) e.event e.said
 unfolding front_of
 front_more n f client plant own e =
@@ -42,14 +42,6 @@ front_more n f client plant own e =
     ap (front_after start) (flat_map-append happenings_of own (e ∷ [])
     ∙ ap (λ (hs : List Happening). flat_map happenings_of own ++ hs) (append-nil (happenings_of e)))
     ∙ front_after-append start (flat_map happenings_of own) (happenings_of e)
-
-pub is_proxy_after : (old new : Front) (event : Event) (said : List Body) → new ≡ front_at old event said →
-    IsProxyAfter old new event said
-is_proxy_after old new event said at n f client plant own e from by with_words =
-    at ∙ ap (λ (s : Front). front_at s event said) from
-    ∙ ap (λ (ev : Event). front_at (front_of n f plant client own) ev said) (sym by)
-    ∙ ap (λ (bs : List Body). front_at (front_of n f plant client own) e.event bs) (sym with_words)
-    ∙ sym (front_more n f client plant own e)
 
 -- the votes of a frame taken are its own
 votes_taken : (frame : Signed Body) → votes_in (flat_map parts (frame ∷ [])) ≡ votes_in (frame ∷ [])
@@ -104,7 +96,7 @@ poll_words s room =
     ap (map as_body) (numbered-take s.client (s.updates + 1) room all)
     ∙ sym (take-map as_body room (numbered s.client (s.updates + 1) all))
 
-desk_more : (n f client : ℕ) (own : List Entry) (e : Entry) →
+pub desk_more : (n f client : ℕ) (own : List Entry) (e : Entry) →
     desk_of n f client (own ++ e ∷ []) ≡ desk_at (desk_of n f client own) e.event e.said
 unfolding desk_of
 desk_more n f client own e =
@@ -125,14 +117,6 @@ desk_more n f client own e =
     ∙ ap (λ (vs : List Vote). the_desk (length (flat_map (λ (b : Entry). b.said) own) + length e.said) vs) votes where
       the_desk : ℕ → List Vote → Desk
       the_desk k vs = record { client = client; n = n; f = f; commands = k; votes = vs }
-
-pub is_screen_after : (old new : Desk) (event : Event) (said : List Body) → new ≡ desk_at old event said →
-    IsScreenAfter old new event said
-is_screen_after old new event said at n f client own e from by with_words =
-    at ∙ ap (λ (s : Desk). desk_at s event said) from
-    ∙ ap (λ (ev : Event). desk_at (desk_of n f client own) ev said) (sym by)
-    ∙ ap (λ (bs : List Body). desk_at (desk_of n f client own) e.event bs) (sym with_words)
-    ∙ sym (desk_more n f client own e)
 
 pub screen_took : (s : Desk) (stamp place : ℕ) (frame : Signed Body)
     → record s { votes = s.votes ++ counted is_notice s.client (votes_in (frame ∷ [])) } ≡ desk_at s

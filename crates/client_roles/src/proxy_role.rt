@@ -2,7 +2,7 @@
 ghost use Rattle.std.specs.Prelude.{◌≡◌, ◌<◌, ◌^◌, ◌⊎◌, [], ◌∷◌, map, take, OnOk, OnErr, IfOk};
 ghost use Rattle.message_types.specs.declared.body.Body.TheVariants as body;
 ghost use Rattle.vouched_orders.specs.Vouching.{votes_in};
-ghost use Rattle.field_proxy.specs.Front.{after_change, after_poll};
+ghost use Rattle.field_proxy.specs.Front.{Front, IsFrontOf, after_change, after_poll};
 ghost use Rattle.field_proxy.specs.Happenings.{Vouched, front_after};
 ghost use Rattle.world_entries.specs.Entries.{event_of};
 ghost use Rattle.world_rules.specs.Clients.{proxy_says};
@@ -24,9 +24,9 @@ pub fn answer_at_proxy(
     room: u64,
 ) -> Result<Vec<Body>, Want>
     requires { proxy.old.updates < 2 ^ 62 }
-    ensures said { IfOk result (λ said. said.items ≡ take room (proxy_says proxy.old (event_of event.now))) }
+    ensures said { IfOk result (λ said. (s : Front) → IsFrontOf proxy.old s → said.items ≡ take room (proxy_says s (event_of event.now))) }
     ensures after { IfOk result (λ said. IsProxyAfter proxy.old proxy.new (event_of event.now) said.items) }
-    ensures err { OnErr result ((proxy.new ≡ proxy.old) ⊎ (proxy.new ≡ after_poll proxy.old room)) }
+    ensures err { OnErr result ((s : Front) → IsFrontOf proxy.old s → (IsFrontOf proxy.new s ⊎ IsFrontOf proxy.new (after_poll s room))) }
 {
     match event {
         Event::Poll => {
@@ -58,15 +58,15 @@ fn as_bodies(alloc: Global, updates: &[Update]) -> Result<Vec<Body>, Want>
 
 /// A change in the field. At a place that the device lacks nothing changes.
 fn change_field(proxy: &mut Proxy, area: Area, place: u16, value: u16)
-    ensures { proxy.new ≡ after_change proxy.old area place value }
+    ensures { (s : Front) → IsFrontOf proxy.old s → IsFrontOf proxy.new (after_change s area place value) }
 {
     let _changed = proxy.change(area, place, value);
 }
 
 /// Takes a frame: of all frames a voucher alone tells a proxy something.
 fn hear(proxy: &mut Proxy, frame: &Frame) -> Result<(), Want>
-    ensures ok { OnOk result (proxy.new ≡ front_after proxy.old (map Vouched (votes_in (frame.now ∷ [])))) }
-    ensures err { OnErr result (proxy.new ≡ proxy.old) }
+    ensures ok { OnOk result ((s : Front) → IsFrontOf proxy.old s → IsFrontOf proxy.new (front_after s (map Vouched (votes_in (frame.now ∷ []))))) }
+    ensures err { OnErr result ((s : Front) → IsFrontOf proxy.old s → IsFrontOf proxy.new s) }
 {
     match &frame.body {
         Body::Voucher(voucher) => proxy.take_voucher(frame.signer, voucher),

@@ -2,7 +2,7 @@
 ghost use Rattle.std.specs.Prelude.{◌≡◌, ◌+◌, ◌<◌, ◌^◌, ◌++◌, [], ◌∷◌, take, OnOk, OnErr, IfOk};
 ghost use Rattle.message_types.specs.declared.body.Body.TheVariants as body;
 ghost use Rattle.vouched_orders.specs.Vouching.{votes_in, counted};
-ghost use Rattle.operator_screen.specs.Board.{is_notice};
+ghost use Rattle.operator_screen.specs.Board.{Desk, IsDeskOf, is_notice};
 ghost use Rattle.world_entries.specs.Entries.{event_of};
 ghost use Rattle.world_rules.specs.Clients.{screen_says};
 ghost use Rattle.client_roles.specs.Roles.{IsScreenAfter};
@@ -22,9 +22,9 @@ pub fn answer_at_screen(
     room: u64,
 ) -> Result<Vec<Body>, Want>
     requires { screen.old.commands < 2 ^ 63 }
-    ensures said { IfOk result (λ said. said.items ≡ take room (screen_says screen.old (event_of event.now))) }
+    ensures said { IfOk result (λ said. (s : Desk) → IsDeskOf screen.old s → said.items ≡ take room (screen_says s (event_of event.now))) }
     ensures after { IfOk result (λ said. IsScreenAfter screen.old screen.new (event_of event.now) said.items) }
-    ensures err { OnErr result (screen.new ≡ screen.old) }
+    ensures err { OnErr result ((s : Desk) → IsDeskOf screen.old s → IsDeskOf screen.new s) }
 {
     match event {
         Event::Command { op } => {
@@ -56,8 +56,9 @@ fn say_command(alloc: Global, screen: &mut Screen, op: Op) -> Result<Vec<Body>, 
 
 /// Takes a frame: of all frames a voucher alone tells a screen something.
 fn hear(screen: &mut Screen, frame: &Frame) -> Result<(), Want>
-    ensures ok { OnOk result (screen.new ≡ record screen.old { votes = screen.old.votes ++ counted is_notice screen.old.client (votes_in (frame.now ∷ [])) }) }
-    ensures err { OnErr result (screen.new ≡ screen.old) }
+    ensures ok { OnOk result ((s : Desk) → IsDeskOf screen.old s
+        → IsDeskOf screen.new (record s { votes = s.votes ++ counted is_notice s.client (votes_in (frame.now ∷ [])) })) }
+    ensures err { OnErr result ((s : Desk) → IsDeskOf screen.old s → IsDeskOf screen.new s) }
 {
     match &frame.body {
         Body::Voucher(voucher) => screen.take_voucher(frame.signer, voucher),

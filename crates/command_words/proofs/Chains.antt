@@ -8,8 +8,7 @@ use Rattle.clap.specs.declared.builder.command.Command.{Command}
 use Rattle.clap.specs.Simple.{app_of_fields}
 use Rattle.clap.specs.declared.builder.command.Command.TheOpen.{Command-F}
 use Rattle.clap.specs.declared.builder.command.Command.TheViews.{out-Command}
-use Rattle.command_words.specs.CommandLine.{IsCommand, play_shape, run_shape, replay_shape, make_shape, keys_shape}
-use Rattle.command_words.specs.CommandLine.{verify_shape, parts_shape, rebuild_shape, blame_shape, trend_shape}
+use Rattle.command_words.specs.CommandLine.{IsCommand}
 
 -- the shape with one argument more
 abbrev pub longer : Shape → Rule → Shape
@@ -49,16 +48,3 @@ set_up app = record { top = record app.top { no_binary_name = true; subcommand_r
 pub top_is : (t : App) (old named made : Command) → app_of old ≡ t → out-Command named ≡ no_name (out-Command old)
     → out-Command made ≡ requiring (out-Command named) → app_of made ≡ set_up t
 top_is t old named made e first second = ap app_of_fields (second ∙ ap requiring first) ∙ ap set_up e
-
--- the groups of subcommands
-abbrev pub histories : App → App
-histories app = with_subcommand (with_subcommand (with_subcommand app play_shape) run_shape) replay_shape
-
-abbrev pub keyed : App → App
-keyed app = with_subcommand (with_subcommand (with_subcommand app make_shape) keys_shape) verify_shape
-
-abbrev pub parted : App → App
-parted app = with_subcommand (with_subcommand app parts_shape) rebuild_shape
-
-abbrev pub reporting : App → App
-reporting app = with_subcommand (with_subcommand app blame_shape) trend_shape

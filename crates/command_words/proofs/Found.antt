@@ -1,8 +1,10 @@
 -- What `clap`'s calls on its matches give, as the values of the rows. A number is read of a text exactly where the text
 -- passes the test of 32 bits.
-use Rattle.std.proofs.Common.{◌≡◌, ◌≢◌, ℕ, Bool, true, false, refl, ap, sym, List, Option}
+use Rattle.std.proofs.Common.{◌≡◌, ◌≢◌, ℕ, Bool, true, false, refl, ap, sym, ◌∙◌, List, Option}
 use Rattle.std.proofs.Common.{Some, None, Result, Ok, Err, arith, option_map}
 use Rattle.std.specs.Prelude.{option_and_then, unwrap_or}
+use Rattle.std.specs.Borrow.{Bor}
+use Rattle.std.specs.Box.{box_value}
 use Rattle.std.specs.Str.{bytes_eq}
 use Rattle.std.proofs.lemmas.Slice.Eq.{bytes_eq-Decides}
 use Rattle.std.specs.Str.Parse.{ParsesUnsigned}
@@ -11,7 +13,10 @@ use Rattle.clap.specs.Matches.{ReadsOne}
 use Rattle.clap.specs.ValueTests.{is_unsigned_in}
 use Rattle.clap.specs.declared.builder.value_parser.ValueParser.TheVariants as vp
 use Rattle.clap.proofs.ValueTestLemmas.{Accepts-accepts, accepts-Accepts}
-use Rattle.command_words.specs.Wanted.{number_in}
+use Rattle.clap.specs.Words.{first_of, found_of, rows_of, subcommand_rows_of}
+use Rattle.clap.specs.declared.parser.matches.ArgMatches.{ArgMatches}
+use Rattle.clap.specs.declared.parser.matches.ArgMatches.TheViews.{out-ArgMatches, out-SubCommand}
+use Rattle.command_words.specs.Wanted.{Wanted, asked_in, command_in, number_in, number_of}
 
 pub number_read : (E : Type 0) (G : Text → Result ℕ E → Type 0) (t : Text) (r : Option ℕ)
     → ((u : Text) (x : Result ℕ E) → G u x → ParsesUnsigned 32 10 u x) → ReadsOne G t r → r ≡ number_in t
@@ -35,6 +40,17 @@ pub number_found : (E : Type 0) (G : Text → Result ℕ E → Type 0) (o : Opti
 number_found E G None r only none some = none refl
 number_found E G (Some t) r only none some = number_read E G t r only (some t refl)
 
+-- ---- A value by its name, as a call read it: there, or missing.
+
+pub text_read : (found : ArgMatches) (name : Text) (o r : Option (Bor Text))
+    → option_map (λ (s : Bor Text). s.now) o ≡ first_of name (rows_of (found_of found)) → o ≡ r
+    → first_of name (rows_of (found_of found)) ≡ option_map (λ (s : Bor Text). s.now) r
+text_read found name o r is was = sym is ∙ ap (option_map (λ (s : Bor Text). s.now)) was
+
+pub value_read : (found : ArgMatches) (name : Text) (o r : Option ℕ) → o ≡ number_of name (rows_of (found_of found))
+    → o ≡ r → number_of name (rows_of (found_of found)) ≡ r
+value_read found name o r is was = sym is ∙ was
+
 -- ---- The subcommand that `clap` found.
 
 -- what both readings give
@@ -50,6 +66,16 @@ met name rows (Some b) n rs is has =
     let first : name b ≡ n = ap (λ (o : Option Text). unwrap_or o n) (sym is) in
     let second : rows b ≡ rs = ap (λ (o : Option (List Row)). unwrap_or o rs) (sym has) in
     rw (first, second) refl
+
+-- What is asked, where the subcommand has this name and these rows.
+pub asked_by : (matches : ArgMatches) (name other : Text) (rows : List Row) (asked : Option Wanted)
+    → Some name ≡ option_map (λ b. (out-SubCommand (box_value b)).name.now) (out-ArgMatches matches).subcommand
+    → Some rows ≡ option_map (λ (p : Text × List Row). p.1) (subcommand_rows_of matches) → name ≡ other
+    → asked ≡ command_in other rows → asked ≡ asked_in (subcommand_rows_of matches)
+asked_by matches name other rows asked is has same command =
+    command ∙ sym (ap asked_in (met (λ b. (out-SubCommand (box_value b)).name.now)
+    (λ b. rows_of (found_of (out-SubCommand (box_value b)).matches)) (out-ArgMatches matches).subcommand name rows
+    is has) ∙ ap (λ (n : Text). command_in n rows) same)
 
 pub unmet : (o : Option (Text × List Row)) → None ≡ option_map (λ (p : Text × List Row). p.1) o → o ≡ None
 unmet None is = refl

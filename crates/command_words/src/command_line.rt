@@ -1,6 +1,6 @@
 //! The command line as `clap` has it.
 ghost use Rattle.std.specs.Prelude.{◌≡◌, ◌∷◌, [], IfOk, codes, false, true};
-ghost use Rattle.clap.specs.Words.{app_of, rule_of, with_subcommand};
+ghost use Rattle.clap.specs.Words.{App, Shape, app_of, rule_of, with_subcommand};
 ghost use Rattle.command_words.specs.CommandLine.{IsCommand, command, number_rule, option_rule, spire_app, text_rule, top_shape};
 ghost use Rattle.command_words.specs.CommandLine.{play_shape, run_shape, replay_shape, make_shape, keys_shape};
 ghost use Rattle.command_words.specs.CommandLine.{verify_shape, parts_shape, rebuild_shape, blame_shape, trend_shape};
@@ -131,40 +131,38 @@ fn trend<'a>(alloc: Global) -> Result<Command<'a>, AllocError>
         .arg(number(alloc, "last", 0, MOST_NUMBER))
 }
 
-// The commands that make or read a history.
+// Lets go of a value. Where a function does so by itself, its proof goes through all that a command holds.
+fn let_go<T: Drop>(_value: T) {}
 
-fn with_histories<'a>(alloc: Global, top: Command<'a>) -> Result<Command<'a>, AllocError>
-    ensures { IfOk result (λ c. app_of c ≡ with_subcommand (with_subcommand (with_subcommand (app_of top.entry) play_shape) run_shape) replay_shape) }
+// The command with one subcommand more. It takes both as they were made, so that `command_line` needs no early return.
+fn joined<'a>(
+    top: Result<Command<'a>, AllocError>,
+    made: Result<Command<'a>, AllocError>,
+) -> Result<Command<'a>, AllocError>
+    ensures { (app : App) (shape : Shape) → IfOk top.entry (λ c. app_of c ≡ app) → IfOk made.entry (IsCommand shape) → IfOk result (λ c. app_of c ≡ with_subcommand app shape) }
 {
-    top.subcommand(play(alloc)?)?
-        .subcommand(run(alloc)?)?
-        .subcommand(replay(alloc)?)
+    match top {
+        Ok(top) => joined_to(top, made),
+        Err(error) => {
+            let_go(made);
+            Err(error)
+        }
+    }
 }
 
-// The commands on numbers, keys and signatures.
-
-fn with_keys<'a>(alloc: Global, top: Command<'a>) -> Result<Command<'a>, AllocError>
-    ensures { IfOk result (λ c. app_of c ≡ with_subcommand (with_subcommand (with_subcommand (app_of top.entry) make_shape) keys_shape) verify_shape) }
+fn joined_to<'a>(
+    top: Command<'a>,
+    made: Result<Command<'a>, AllocError>,
+) -> Result<Command<'a>, AllocError>
+    ensures { (shape : Shape) → IfOk made.entry (IsCommand shape) → IfOk result (λ c. app_of c ≡ with_subcommand (app_of top.entry) shape) }
 {
-    top.subcommand(make(alloc)?)?
-        .subcommand(keys(alloc)?)?
-        .subcommand(verify(alloc)?)
-}
-
-// The commands on parts of requests.
-
-fn with_parts<'a>(alloc: Global, top: Command<'a>) -> Result<Command<'a>, AllocError>
-    ensures { IfOk result (λ c. app_of c ≡ with_subcommand (with_subcommand (app_of top.entry) parts_shape) rebuild_shape) }
-{
-    top.subcommand(parts(alloc)?)?.subcommand(rebuild(alloc)?)
-}
-
-// The commands that look something up in a history.
-
-fn with_reports<'a>(alloc: Global, top: Command<'a>) -> Result<Command<'a>, AllocError>
-    ensures { IfOk result (λ c. app_of c ≡ with_subcommand (with_subcommand (app_of top.entry) blame_shape) trend_shape) }
-{
-    top.subcommand(blame(alloc)?)?.subcommand(trend(alloc)?)
+    match made {
+        Ok(subcommand) => top.subcommand(subcommand),
+        Err(error) => {
+            let_go(top);
+            Err(error)
+        }
+    }
 }
 
 fn top<'a>(alloc: Global) -> Command<'a>
@@ -180,8 +178,14 @@ fn top<'a>(alloc: Global) -> Command<'a>
 pub fn command_line<'a>(alloc: Global) -> Result<Command<'a>, AllocError>
     ensures { IfOk result (λ c. app_of c ≡ spire_app) }
 {
-    let histories = with_histories(alloc, top(alloc))?;
-    let keys = with_keys(alloc, histories)?;
-    let parts = with_parts(alloc, keys)?;
-    with_reports(alloc, parts)
+    let commands = joined(Ok(top(alloc)), play(alloc));
+    let commands = joined(commands, run(alloc));
+    let commands = joined(commands, replay(alloc));
+    let commands = joined(commands, make(alloc));
+    let commands = joined(commands, keys(alloc));
+    let commands = joined(commands, verify(alloc));
+    let commands = joined(commands, parts(alloc));
+    let commands = joined(commands, rebuild(alloc));
+    let commands = joined(commands, blame(alloc));
+    joined(commands, trend(alloc))
 }

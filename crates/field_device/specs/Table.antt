@@ -9,6 +9,8 @@ use Rattle.modbus_forms.specs.declared.reply.Reply.{Reply}
 use Rattle.modbus_forms.specs.declared.reply.ReplyPdu.{ReplyPdu}
 use Rattle.modbus_forms.specs.declared.reply.ReplyPdu.TheVariants as reply
 use Rattle.field_device.specs.Places.{Places}
+use Rattle.field_device.specs.declared.limits.TheConstants.{MOST_BITS_READ, MOST_REGISTERS_READ, MOST_COILS_WRITTEN}
+use Rattle.field_device.specs.declared.limits.TheConstants.{MOST_REGISTERS_WRITTEN}
 use Rattle.field_device.specs.Packing.{packed, bits_in, register_bytes, registers_in, byte_count, overwritten}
 
 -- the values that stand for a coil's two states in a request (section 6.5)
@@ -34,15 +36,17 @@ refused is_value is_place = if not is_value then Some 3 else if not is_place the
 
 -- the exception that a request meets, if any: 1 is for a function that the device hasn't
 unfoldable pub exception_for : Places → RequestPdu → Option ℕ
-exception_for d (request.ReadBits f p n) = refused (is_between 1 2000 n) (nat_le (p + n) (length (bits_of d f)))
+exception_for d (request.ReadBits f p n) =
+    refused (is_between 1 MOST_BITS_READ n) (nat_le (p + n) (length (bits_of d f)))
 exception_for d (request.ReadRegisters f p n) =
-    refused (is_between 1 125 n) (nat_le (p + n) (length (registers_of d f)))
+    refused (is_between 1 MOST_REGISTERS_READ n) (nat_le (p + n) (length (registers_of d f)))
 exception_for d (request.WriteCoil p value) = refused (is_coil_value value) (nat_lt p (length d.coils))
 exception_for d (request.WriteRegister p value) = refused true (nat_lt p (length d.holding))
 exception_for d (request.WriteCoils p n bytes) =
-    refused (is_between 1 1968 n && nat_eq (length bytes) (byte_count n)) (nat_le (p + n) (length d.coils))
+    refused (is_between 1 MOST_COILS_WRITTEN n && nat_eq (length bytes) (byte_count n))
+    (nat_le (p + n) (length d.coils))
 exception_for d (request.WriteRegisters p n bytes) =
-    refused (is_between 1 123 n && nat_eq (length bytes) (2 * n)) (nat_le (p + n) (length d.holding))
+    refused (is_between 1 MOST_REGISTERS_WRITTEN n && nat_eq (length bytes) (2 * n)) (nat_le (p + n) (length d.holding))
 exception_for d (request.Other f bytes) = Some 1
 
 abbrev pub function_of : RequestPdu → ℕ

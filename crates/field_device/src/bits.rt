@@ -2,6 +2,7 @@
 ghost use Rattle.std.specs.Prelude.{◌≡◌, ◌≤◌, ◌<◌, ◌+◌, ◌*◌, ◌/◌, ◌^◌, Bool, List, length, IfOk};
 ghost use Rattle.field_device.specs.Packing.{byte_of, eight_from, packed, bit_in, bits_in, overwritten};
 
+use crate::limits::MOST_BITS_READ;
 use plain_lists::Want;
 use std::alloc::Global;
 
@@ -30,7 +31,7 @@ fn byte_number(bits: &[bool], k: usize) -> u8
 
 /// Bits in bytes.
 pub fn pack(alloc: Global, bits: &[bool]) -> Result<Vec<u8>, Want>
-    requires { length bits.now ≤ 2000 }
+    requires { length bits.now ≤ MOST_BITS_READ }
     ensures bytes { IfOk result (λ bytes. bytes.items ≡ packed bits.now) }
     ensures few { IfOk result (λ bytes. length bytes.items ≤ 250) }
 {

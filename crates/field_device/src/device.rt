@@ -7,6 +7,9 @@ ghost use Rattle.field_device.specs.Packing.{packed, register_bytes};
 ghost use Rattle.field_device.specs.Table.{refused, exception, is_between, is_coil_value, exception_for, function_of, plain_reply, written, reply_pdu, reply_to, after, is_read, bits_of, registers_of};
 
 use crate::bits::{pack, write_bits};
+use crate::limits::{
+    MOST_BITS_READ, MOST_COILS_WRITTEN, MOST_REGISTERS_READ, MOST_REGISTERS_WRITTEN,
+};
 use crate::registers::{spell, write_registers};
 use modbus_forms::{Reply, ReplyPdu, Request, RequestPdu};
 use plain_lists::{Bytes, Want};
@@ -155,7 +158,7 @@ impl Device {
                 place,
                 quantity,
             } => refusal(
-                is_between(1, 2000, *quantity),
+                is_between(1, MOST_BITS_READ, *quantity),
                 reaches(*place, *quantity, self.bits_of(*function).len()),
             ),
             RequestPdu::ReadRegisters {
@@ -163,7 +166,7 @@ impl Device {
                 place,
                 quantity,
             } => refusal(
-                is_between(1, 125, *quantity),
+                is_between(1, MOST_REGISTERS_READ, *quantity),
                 reaches(*place, *quantity, self.registers_of(*function).len()),
             ),
             RequestPdu::WriteCoil { place, value } => refusal(
@@ -178,7 +181,12 @@ impl Device {
                 quantity,
                 bytes,
             } => refusal(
-                are_counted(1968, *quantity, bytes.len(), (*quantity as usize + 7) / 8),
+                are_counted(
+                    MOST_COILS_WRITTEN,
+                    *quantity,
+                    bytes.len(),
+                    (*quantity as usize + 7) / 8,
+                ),
                 reaches(*place, *quantity, self.coils.len()),
             ),
             RequestPdu::WriteRegisters {
@@ -186,7 +194,12 @@ impl Device {
                 quantity,
                 bytes,
             } => refusal(
-                are_counted(123, *quantity, bytes.len(), 2 * *quantity as usize),
+                are_counted(
+                    MOST_REGISTERS_WRITTEN,
+                    *quantity,
+                    bytes.len(),
+                    2 * *quantity as usize,
+                ),
                 reaches(*place, *quantity, self.holding.len()),
             ),
             RequestPdu::Other { .. } => Some(ILLEGAL_FUNCTION),
@@ -248,7 +261,7 @@ impl Device {
 
     fn read_bits(&self, function: u8, place: u16, quantity: u16) -> Result<ReplyPdu, Want>
         requires there { place + quantity ≤ length (bits_of self.now function) }
-        requires few { quantity ≤ 2000 }
+        requires few { quantity ≤ MOST_BITS_READ }
         requires function { IsTrue (nat_eq function 1 || nat_eq function 2) }
         ensures fits { IfOk result (λ reply. IsTrue (reply_pdu_fits reply)) }
         ensures reply { IfOk result (λ reply. reply ≡ ReplyPdu.Bits function (packed (take quantity (drop place (bits_of self.now function))))) }
@@ -263,7 +276,7 @@ impl Device {
 
     fn read_registers(&self, function: u8, place: u16, quantity: u16) -> Result<ReplyPdu, Want>
         requires there { place + quantity ≤ length (registers_of self.now function) }
-        requires few { quantity ≤ 125 }
+        requires few { quantity ≤ MOST_REGISTERS_READ }
         requires function { IsTrue (nat_eq function 3 || nat_eq function 4) }
         ensures fits { IfOk result (λ reply. IsTrue (reply_pdu_fits reply)) }
         ensures reply { IfOk result (λ reply. reply ≡ ReplyPdu.Registers function (register_bytes (take quantity (drop place (registers_of self.now function))))) }

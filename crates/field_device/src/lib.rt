@@ -4,6 +4,8 @@
 
 mod bits;
 pub mod device;
+pub mod limits;
 mod registers;
 
 pub use device::{Device, NoPlace};
+pub use limits::{MOST_BITS_READ, MOST_COILS_WRITTEN, MOST_REGISTERS_READ, MOST_REGISTERS_WRITTEN};

@@ -2,6 +2,7 @@
 ghost use Rattle.std.specs.Prelude.{◌≡◌, ◌≤◌, ◌<◌, ◌+◌, ◌*◌, List, length, IfOk};
 ghost use Rattle.field_device.specs.Packing.{register_bytes, register_in, registers_in, overwritten};
 
+use crate::limits::MOST_REGISTERS_READ;
 use byteorder::{BigEndian, ByteOrder};
 use plain_lists::Want;
 use std::alloc::Global;
@@ -10,7 +11,7 @@ use wire_parts::put_u16;
 /// Registers in bytes, two each.
 #[tactic(auto, unfolding(crate::specs::Packing::register_bytes))]
 pub fn spell(alloc: Global, registers: &[u16]) -> Result<Vec<u8>, Want>
-    requires { length registers.now ≤ 125 }
+    requires { length registers.now ≤ MOST_REGISTERS_READ }
     ensures bytes { IfOk result (λ bytes. bytes.items ≡ register_bytes registers.now) }
     ensures few { IfOk result (λ bytes. length bytes.items ≤ 250) }
 {

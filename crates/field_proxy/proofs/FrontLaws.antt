@@ -1,8 +1,8 @@
 -- A vote and the state after it.
 use Rattle.std.proofs.Common.{◌≡◌, ◌<◌, ◌≤◌, ◌+◌, ℕ, suc, zero, Bool, true, false, List, [], ◌∷◌, ◌++◌, length, take}
-use Rattle.std.proofs.Common.{drop, refl, sym, ap, ◌∙◌, arith, add-zero, append_assoc}
-use Rattle.std.specs.Prelude.{Option, Some, None, ◌&&◌, map, filter, if◌then◌else◌, ℤ, slice_get, replicate}
-use Rattle.std.specs.Prelude.{IsSomeAnd}
+use Rattle.std.proofs.Common.{drop, refl, sym, ap, ◌∙◌, subst, arith, add-zero, append_assoc}
+use Rattle.std.specs.Prelude.{Option, Some, None, ◌&&◌, map, filter, if◌then◌else◌, ℤ, slice_get, replicate, IsSomeAnd}
+use Rattle.std.specs.Prelude.{Result, Ok, Err, OnOk}
 use Rattle.std.specs.List.{list_all}
 use Rattle.std.proofs.lemmas.List.{append-nil, map-append, length-map, drop_at, take_at}
 use Rattle.std.proofs.lemmas.List.Folds.{list_all-append}
@@ -12,13 +12,17 @@ use Rattle.point_table.specs.declared.point.Point.{Point}
 use Rattle.vouched_orders.specs.declared.vote.Vote.{Vote}
 use Rattle.vouched_orders.specs.Vouching.{counts, counted, done}
 use Rattle.point_table.specs.declared.point.DeviceSizes.{DeviceSizes}
-use Rattle.field_device.specs.Places.{Places, zeros}
+use Rattle.point_table.specs.declared.point.Area.{Area}
+use Rattle.field_device.specs.Places.{Places, zeros, changed}
 use Rattle.field_proxy.specs.declared.line.Line.{Line}
 use Rattle.field_proxy.specs.declared.writes.Write.{Write}
 use Rattle.field_proxy.specs.Exchanges.{asked}
 use Rattle.field_proxy.specs.Writes.{can_write, order_of, order_requests, after_orders, kept_orders}
 use Rattle.field_proxy.specs.Readings.{poll_requests, readings, last_in, told}
-use Rattle.field_proxy.specs.Front.{Front, votes_with, after_orders_done, after_vote, polled, after_poll, fresh}
+use Rattle.vouched_orders.specs.Tally.{Tally, IsTallyOf, MakesDone, TakesVote, TalliesAlike}
+use Rattle.vouched_orders.proofs.VouchingLaws.{done-none}
+use Rattle.field_proxy.specs.Front.{Front, ProxyState, IsFrontOf, front_with_votes, votes_with, after_change}
+use Rattle.field_proxy.specs.Front.{after_orders_done, after_vote, polled, after_poll, fresh}
 use Rattle.message_types.specs.declared.updates.Op.{Op}
 use Rattle.field_proxy.proofs.OrderLaws.{after_orders-none, kept_orders-none, orders_kept}
 use Rattle.field_proxy.proofs.VoteLaws.{done_passes}
@@ -135,13 +139,13 @@ poll_after s room places line lasts count ops is stays passed said size =
     }) (size ∙ ap length is)
 
 -- a proxy made, from its parts
-pub fresh_is : (devices : List DeviceSizes) (client n f : ℕ) (points made : List Point) (device : DeviceSizes)
+pub front_made : (devices : List DeviceSizes) (client n f : ℕ) (points made : List Point) (device : DeviceSizes)
     (places : Places) (line : Line)
-    (lasts : List (Option ℤ)) (count : ℕ) (votes : List Vote) (writes : List Write)
+    (lasts : List (Option ℤ)) (count : ℕ) (tally : Tally) (writes : List Write)
     → slice_get devices client ≡ Some device → made ≡ points → places ≡ zeros device →
     line ≡ record { last = 0; passed = [] } → lasts ≡ replicate count None
-    → count ≡ length made → votes ≡ [] → writes ≡ []
-    → IsSomeAnd (slice_get devices client) (λ device. record {
+    → count ≡ length made → IsTallyOf n f [] tally → writes ≡ []
+    → IsSomeAnd (slice_get devices client) (λ device. IsFrontOf (record {
       client = client;
       n = n;
       f = f;
@@ -150,36 +154,40 @@ pub fresh_is : (devices : List DeviceSizes) (client n f : ℕ) (points made : Li
       line = line;
       lasts = lasts;
       updates = 0;
-      votes = votes;
+      tally = tally;
       writes = writes;
-    } ≡ fresh client n f points device)
-fresh_is devices client n f points made device places line lasts count votes writes there points_are places_are
-    line_is lasts_are count_is no_votes no_writes =
-    rw there (
-    ap (λ p. front p places line lasts votes writes) points_are
-    ∙ ap (λ p. front points p line lasts votes writes) places_are
-    ∙ ap (λ l. front points (zeros device) l lasts votes writes) line_is
-    ∙ ap (λ l. front points (zeros device) unused l votes writes)
-    (lasts_are ∙ ap (λ m. replicate m None) (count_is ∙ ap length points_are))
-    ∙ ap (λ v. front points (zeros device) unused (replicate (length points) None) v writes) no_votes
-    ∙ ap (λ w. front points (zeros device) unused (replicate (length points) None) [] w) no_writes
-    ) where
-      unused : Line
-      unused = record { last = 0; passed = [] }
+    }) (fresh client n f points device))
+front_made devices client n f points made device places line lasts count tally writes there points_are places_are
+    line_is lasts_are count_is nothing no_writes =
+    rw there record {
+      same = sym (
+          ap (λ p. front p places line lasts writes) points_are
+          ∙ ap (λ p. front points p line lasts writes) places_are
+          ∙ ap (λ l. front points (zeros device) l lasts writes) line_is
+          ∙ ap (λ l. front points (zeros device) unused l writes)
+          (lasts_are ∙ ap (λ m. replicate m None) (count_is ∙ ap length points_are))
+          ∙ ap (λ w. front points (zeros device) unused (replicate (length points) None) w) no_writes);
+      tally = nothing;
+      possible = refl;
+      written = ap (map order_of) no_writes ∙ sym (done-none n f);
+    }
+  where
+    unused : Line
+    unused = record { last = 0; passed = [] }
 
-      front : List Point → Places → Line → List (Option ℤ) → List Vote → List Write → Front
-      front points places line lasts votes writes = record {
-        client = client;
-        n = n;
-        f = f;
-        points = points;
-        places = places;
-        line = line;
-        lasts = lasts;
-        updates = 0;
-        votes = votes;
-        writes = writes;
-      }
+    front : List Point → Places → Line → List (Option ℤ) → List Write → Front
+    front points places line lasts writes = record {
+      client = client;
+      n = n;
+      f = f;
+      points = points;
+      places = places;
+      line = line;
+      lasts = lasts;
+      updates = 0;
+      votes = [];
+      writes = writes;
+    }
 
 -- what was written and taken is the state after the orders
 pub taken_is : (s : Front) (places : Places) (line : Line) (votes taken : List Vote)
@@ -199,3 +207,85 @@ taken_is s places line votes taken writes orders votes_are places_are line_is wr
       line = asked s.line s.places (order_requests s.points orders);
       writes = w;
     }) writes_are
+
+-- fronts of a state
+
+pub front_seen : (p q : ProxyState) (s : Front) → p ≡ q → IsFrontOf q s → IsFrontOf p s
+front_seen p q s same is = subst (λ (x : ProxyState). IsFrontOf x s) (sym same) is
+
+pub front_is : (p q : ProxyState) (s : Front) → p ≡ q → IsFrontOf q s → front_with_votes p s.votes ≡ s
+front_is p q s same is = ap (λ (x : ProxyState). front_with_votes x s.votes) same ∙ sym is.same
+
+-- the writes of the front are what its votes make done
+pub front_written : (p : ProxyState) (s : Front) → IsFrontOf p s → map order_of p.writes ≡ done s.n s.f s.votes
+front_written p s is = is.written ∙ ap (λ (t : Front). done t.n t.f s.votes) (sym is.same)
+
+-- a vote that doesn't count
+pub front_ignored : (p : ProxyState) (s : Front) (vote : Vote) → IsFrontOf p s →
+    counts (can_write p.points p.client) p.client vote ≡ false → IsFrontOf p (after_vote s vote)
+front_ignored p s vote is no_count =
+    let Done : Front → Type 0 = λ t. map order_of t.writes ≡ done t.n t.f s.votes in
+    let Ignores : Front → Type 0 = λ t. counts (can_write t.points t.client) t.client vote ≡ false in
+    subst (IsFrontOf p) (sym (vote_ignored s vote (subst Done (sym is.same) is.written)
+    (subst Ignores (sym is.same) no_count))) is
+
+-- a vote that counts: the state once its orders are written
+pub front_voted : (p q : ProxyState) (s : Front) (vote : Vote) (orders : List Order) (places : Places)
+    (line : Line) (writes : List Write)
+    → IsFrontOf p s → counts (can_write p.points p.client) p.client vote ≡ true → MakesDone p.tally vote orders →
+    TakesVote p.tally vote q.tally
+    → q ≡ record p { tally = q.tally; places = places; line = line; writes = writes }
+    → places ≡ after_orders p.points p.places orders → line ≡ asked p.line p.places (order_requests p.points orders)
+    → writes ≡ p.writes ++ kept_orders p.points p.places (length p.writes + 1) orders
+    → IsFrontOf q (after_vote s vote)
+front_voted p q s vote orders places line writes is it_counts makes takes now places_are line_is writes_are =
+    let t = front_with_votes p s.votes in
+    let more : done p.n p.f (s.votes ++ vote ∷ []) ≡ done p.n p.f s.votes ++ orders = makes p.n p.f s.votes is.tally in
+    let can = (and_parts _ _ it_counts).1 in
+    let after : after_vote s vote ≡ after_orders_done t (s.votes ++ vote ∷ []) orders =
+    ap (λ (x : Front). after_vote x vote) is.same ∙ vote_counted t vote orders is.written it_counts more in
+    let state : ProxyState = record p { tally = q.tally; places = places; line = line; writes = writes } in
+    let front : IsFrontOf state (after_orders_done t (s.votes ++ vote ∷ []) orders) = record {
+      same = sym (taken_is t places line (s.votes ++ vote ∷ []) (s.votes ++ vote ∷ [])
+          writes orders refl places_are line_is writes_are);
+      tally = takes p.n p.f s.votes is.tally;
+      possible = all_pass_push p.points p.client s.votes vote is.possible can;
+      written = ap (map order_of) writes_are ∙ writes_are_done p.points p.client p.n p.f s.votes vote orders p.places
+          p.writes is.possible can is.written more;
+    } in
+    subst (λ (x : ProxyState). IsFrontOf x (after_vote s vote)) (sym now) (subst (IsFrontOf state) (sym after) front)
+
+-- a vote for which memory was wanting
+pub front_refused : (p q : ProxyState) (s : Front) (places : Places) (writes : List Write) → IsFrontOf p s →
+    TalliesAlike p.tally q.tally
+    → q ≡ record p { tally = q.tally; places = places; writes = writes } → places ≡ p.places →
+    writes ≡ p.writes → IsFrontOf q s
+front_refused p q s places writes is alike now places_stay writes_stay =
+    let state : ProxyState = record p { tally = q.tally } in
+    let front : IsFrontOf state s = record {
+      same = is.same;
+      tally = alike p.n p.f s.votes is.tally;
+      possible = is.possible;
+      written = is.written;
+    } in
+    subst (λ (x : ProxyState). IsFrontOf x s)
+    (sym (now
+    ∙ ap (λ (d : Places). record p { tally = q.tally; places = d; writes = writes }) places_stay
+    ∙ ap (λ (w : List Write). record p { tally = q.tally; writes = w }) writes_stay))
+    front
+
+-- a change in the field
+pub front_moved : (p : ProxyState) (s : Front) (area : Area) (place value : ℕ) (places : Places) → IsFrontOf p s →
+    places ≡ changed p.places area place value
+    → IsFrontOf (record p { places = places }) (after_change s area place value)
+front_moved p s area place value places is moved = record {
+  same = ap (λ (t : Front). after_change t area place value) is.same
+      ∙ ap (λ (d : Places). record (front_with_votes p s.votes) { places = d }) (sym moved);
+  tally = is.tally;
+  possible = is.possible;
+  written = is.written;
+}
+
+pub when_ok : {V E A B : Type 0} (r : Result V E) → OnOk r A → (A → B) → OnOk r B
+when_ok (Ok v) a f = f a
+when_ok (Err e) a f = tt

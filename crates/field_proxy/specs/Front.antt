@@ -1,5 +1,7 @@
 -- A proxy as a state that follows from its own list of happenings.
-use Rattle.std.specs.Prelude.{ℕ, ◌+◌, List, [], ◌∷◌, ◌++◌, length, take, drop, replicate, Option, None, ℤ}
+use Rattle.std.specs.Prelude.{◌≡◌, ℕ, ◌+◌, true, List, [], ◌∷◌, ◌++◌, length, take, drop, replicate, map, Option, None}
+use Rattle.std.specs.Prelude.{ℤ}
+use Rattle.std.specs.List.{list_all}
 use Rattle.message_types.specs.declared.updates.Op.{Op}
 use Rattle.message_types.specs.declared.updates.Update.{Update}
 use Rattle.message_types.specs.declared.vouchers.Order.{Order}
@@ -9,11 +11,12 @@ use Rattle.point_table.specs.declared.point.DeviceSizes.{DeviceSizes}
 use Rattle.field_device.specs.Places.{Places, zeros, changed}
 use Rattle.vouched_orders.specs.declared.vote.Vote.{Vote}
 use Rattle.vouched_orders.specs.Vouching.{counted, done}
+use Rattle.vouched_orders.specs.Tally.{Tally, IsTallyOf}
 use Rattle.field_proxy.specs.declared.line.Line.{Line}
 use Rattle.field_proxy.specs.declared.writes.Write.{Write}
 use Rattle.field_proxy.specs.Exchanges.{asked}
 use Rattle.field_proxy.specs.Readings.{poll_requests, readings, last_in, told, numbered}
-use Rattle.field_proxy.specs.Writes.{can_write, order_requests, after_orders, kept_orders}
+use Rattle.field_proxy.specs.Writes.{can_write, order_of, order_requests, after_orders, kept_orders}
 
 -- its number among the clients, the masters' number, how many of them may be intruded, all points of the plant, what
 -- the device holds, the line to it, the value last said of each point, how many updates were said, the votes taken that
@@ -79,3 +82,39 @@ after_orders_done s votes orders = record s {
 
 abbrev pub after_vote : Front → Vote → Front
 after_vote s vote = after_orders_done s (votes_with s vote) (drop (length s.writes) (done s.n s.f (votes_with s vote)))
+
+-- what a proxy holds: as its front, but with a tally in place of the votes
+pub record ProxyState : Type 0 where
+  pub client : ℕ
+  pub n : ℕ
+  pub f : ℕ
+  pub points : List Point
+  pub places : Places
+  pub line : Line
+  pub lasts : List (Option ℤ)
+  pub updates : ℕ
+  pub tally : Tally
+  pub writes : List Write
+
+-- the front of a proxy that took these votes
+abbrev pub front_with_votes : ProxyState → List Vote → Front
+front_with_votes p votes = record {
+  client = p.client;
+  n = p.n;
+  f = p.f;
+  points = p.points;
+  places = p.places;
+  line = p.line;
+  lasts = p.lasts;
+  updates = p.updates;
+  votes = votes;
+  writes = p.writes;
+}
+
+-- This is the front of the proxy: the tally is that of its votes, each of which it can carry out, and the writes are
+-- what they make done.
+pub record IsFrontOf (p : ProxyState) (s : Front) : Type 0 where
+  pub same : s ≡ front_with_votes p s.votes
+  pub tally : IsTallyOf p.n p.f s.votes p.tally
+  pub possible : list_all (λ vote. can_write p.points p.client vote.voucher.order) s.votes ≡ true
+  pub written : map order_of p.writes ≡ done p.n p.f s.votes

@@ -1,5 +1,6 @@
 //! Orders carried out in turn, all or none.
 ghost use Rattle.std.specs.Prelude.{◌≡◌, ◌++◌, ◌∷◌, [], ◌+◌, ◌<◌, ◌^◌, take, length, OnOk, OnErr, option_copied, slice_get};
+ghost use Rattle.vouched_orders.specs.Tally.{TakesVote, TalliesAlike};
 ghost use Rattle.field_proxy.specs.Undoing.{undone};
 ghost use Rattle.field_proxy.specs.Exchanges.{line_after};
 ghost use Rattle.field_proxy.specs.Writes.{requests_of, order_requests, written_area, after_order, kept_of, after_orders, kept_orders};
@@ -109,10 +110,10 @@ pub fn carry_out_vote(
     ensures device { OnOk result (device.new ≡ after_orders points.now device.old orders.now) }
     ensures writes { OnOk result (writes.new.items ≡ writes.old.items ++ kept_orders points.now device.old (length writes.old.items + 1) orders.now) }
     ensures line { OnOk result (line.new ≡ line_after line.old device.old (order_requests points.now orders.now)) }
-    ensures vouched { OnOk result (vouched.new ≡ record vouched.old { votes = vouched.old.votes ++ vote ∷ [] }) }
+    ensures vouched { OnOk result (TakesVote vouched.old vote vouched.new) }
     ensures device_stays { OnErr result (device.new ≡ device.old) }
     ensures writes_stay { OnErr result (writes.new.items ≡ writes.old.items) }
-    ensures vouched_stays { OnErr result (vouched.new ≡ vouched.old) }
+    ensures vouched_stays { OnErr result (TalliesAlike vouched.old vouched.new) }
 {
     let before = writes.len();
     let mut log = Vec::new(alloc);

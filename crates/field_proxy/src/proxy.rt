@@ -1,7 +1,7 @@
 ghost use Rattle.std.specs.Prelude.{◌≡◌, ◌↔◌, ◌+◌, ◌++◌, ◌∷◌, ◌<◌, ◌≤◌, ◌^◌, [], length, map, OnOk, OnErr, IfOk, IsErr, IsSomeAnd, slice_get, replicate, Some, None, nat_eq, ◌&&◌};
 ghost use Rattle.field_device.specs.Places.{size_of};
 ghost use Rattle.field_proxy.specs.Writes.{can_write, order_of};
-ghost use Rattle.field_proxy.specs.Front.{fresh, after_change, polled, poll_says, after_poll, after_vote};
+ghost use Rattle.field_proxy.specs.Front.{Front, IsFrontOf, fresh, after_change, poll_says, after_poll, after_vote};
 
 use crate::line::{Exchange, Line};
 use crate::orders::carry_out_vote;
@@ -50,13 +50,10 @@ impl Drop for Proxy {
 }
 
 impl Model for Proxy {
-    ghost use Rattle.std.specs.Prelude.{◌≡◌, ◌≤◌, length, map, true};
-    ghost use Rattle.std.specs.List.{list_all};
-    ghost use Rattle.vouched_orders.specs.Vouching.{done};
-    ghost use Rattle.field_proxy.specs.Writes.{can_write, order_of};
-    ghost use Rattle.field_proxy.specs.Front.{Front};
+    ghost use Rattle.std.specs.Prelude.{◌≡◌, ◌≤◌, length};
+    ghost use Rattle.field_proxy.specs.Front.{ProxyState};
 
-    ghost Value = { Front };
+    ghost Value = { ProxyState };
 
     ghost view = { λ proxy. record {
       client = proxy.client;
@@ -67,20 +64,14 @@ impl Model for Proxy {
       line = proxy.line;
       lasts = proxy.lasts.items;
       updates = proxy.updates;
-      votes = proxy.vouched.votes;
+      tally = proxy.vouched;
       writes = proxy.writes.items;
     } };
 
-    ghost invariant = { λ proxy. (length proxy.points ≤ 1024)
-        × (length proxy.lasts.items ≡ length proxy.points)
-        × (proxy.vouched.f ≡ proxy.sizes.f)
-        × (map order_of proxy.writes.items ≡ done proxy.sizes.n proxy.sizes.f proxy.vouched.votes)
-        × (list_all (λ vote. can_write proxy.points proxy.client vote.voucher.order) proxy.vouched.votes ≡ true)
-        × (proxy.vouched.n ≡ proxy.sizes.n) };
+    ghost invariant = { λ proxy. (length proxy.points ≤ 1024) × (length proxy.lasts.items ≡ length proxy.points) };
 }
 
 impl Proxy {
-    ghost use Rattle.field_proxy.specs.Front.{Front};
     ghost use Rattle.vouched_orders.specs.Vouching.{done};
 
     /// A proxy before its device, which begins with zeros. `client` is its number among the clients, and that of its
@@ -90,7 +81,7 @@ impl Proxy {
         requires there { client < length plant.now.devices }
         ensures n { IfOk result (λ proxy. proxy.n ≡ sizes.n) }
         ensures made { IfOk result (λ proxy. IsSomeAnd (slice_get plant.now.devices client) (λ device.
-            proxy ≡ fresh client sizes.n sizes.f plant.now.points device)) }
+            IsFrontOf proxy (fresh client sizes.n sizes.f plant.now.points device))) }
     {
         let sizes_of_device = device_of(plant, client);
         let points = plant.points.copy()?;
@@ -111,7 +102,7 @@ impl Proxy {
 
     /// A change in the field.
     pub fn change(&mut self, area: Area, place: u16, value: u16) -> Result<(), NoPlace>
-        ensures ok { OnOk result (self.new ≡ after_change self.old area place value) }
+        ensures ok { OnOk result ((s : Front) → IsFrontOf self.old s → IsFrontOf self.new (after_change s area place value)) }
         ensures err { OnErr result (self.new ≡ self.old) }
         ensures no_place { IsErr result ↔ (size_of self.old.places area ≤ place) }
     {
@@ -122,8 +113,8 @@ impl Proxy {
     /// it gives the first `room`, and counts no other as said.
     pub fn poll(&mut self, room: u64) -> Result<Vec<Update, Global>, Want>
         requires { self.old.updates < 2 ^ 62 }
-        ensures says { IfOk result (λ updates. updates.items ≡ poll_says self.old room) }
-        ensures after { OnOk result (self.new ≡ after_poll self.old room) }
+        ensures says { IfOk result (λ updates. (s : Front) → IsFrontOf self.old s → updates.items ≡ poll_says s room) }
+        ensures after { OnOk result ((s : Front) → IsFrontOf self.old s → IsFrontOf self.new (after_poll s room)) }
         ensures room { IfOk result (λ updates. length updates.items ≤ room) }
         ensures counted { IfOk result (λ updates. self.new.updates ≡ self.old.updates + length updates.items) }
         ensures err { OnErr result (self.new ≡ self.old) }
@@ -156,8 +147,8 @@ impl Proxy {
     /// proxy can't carry out, changes nothing; nor does one after which memory is wanted. One that no master signed supports
     /// no order.
     pub fn take_voucher(&mut self, signer: u32, voucher: &Voucher) -> Result<(), Want>
-        ensures ok { OnOk result (self.new ≡ after_vote self.old (record { signer = signer; voucher = voucher.now })) }
-        ensures err { OnErr result (self.new ≡ self.old) }
+        ensures ok { OnOk result ((s : Front) → IsFrontOf self.old s → IsFrontOf self.new (after_vote s (record { signer = signer; voucher = voucher.now }))) }
+        ensures err { OnErr result ((s : Front) → IsFrontOf self.old s → IsFrontOf self.new s) }
     {
         if !self.counts(voucher) {
             return Ok(());
@@ -185,7 +176,7 @@ impl Proxy {
     /// The writes made, in the order of their numbers, from 1. They are the orders done.
     pub fn writes(&self) -> &[Write]
         ensures writes { result.now ≡ self.now.writes }
-        ensures orders { map order_of result.now ≡ done self.now.n self.now.f self.now.votes }
+        ensures orders { (s : Front) → IsFrontOf self.now s → map order_of result.now ≡ done s.n s.f s.votes }
     {
         self.writes.as_slice()
     }

@@ -48,19 +48,31 @@ fn ring_with(alloc: Global, public: [u8; 60]) -> Result<KeyRing, Fail> {
     Ok(ring)
 }
 
+// How many masters are named once this one took a prepare of master 0 with that digest.
+fn named_after(
+    alloc: Global,
+    blame: &mut Blame,
+    ring: &KeyRing,
+    key: &mut KeyState,
+    digest: u8,
+) -> Result<usize, Fail> {
+    let bytes = prepare_by(alloc, key, digest)?;
+    let frame = standing(alloc, ring, &bytes)?;
+    blame.take(alloc, &frame)?;
+    Ok(blame.named().len())
+}
+
 #[test]
 fn a_master_of_two_prepares_is_named(rt: HostRuntime) -> Result<(), Fail> {
     let mut key = KeyState::make(rt.alloc(), &[7; 32], &[0; 16], &[5], Ots::W4)?;
     let ring = ring_with(rt.alloc(), key.public())?;
     let mut blame = Blame::make(rt.alloc(), Sizes::new(1, 0)?);
-    let bytes = prepare_by(rt.alloc(), &mut key, 1)?;
-    let first = standing(rt.alloc(), &ring, &bytes)?;
-    blame.take(rt.alloc(), &first)?;
-    assert_eq!(rt; blame.named().len(), 0);
-    let others = prepare_by(rt.alloc(), &mut key, 2)?;
-    let second = standing(rt.alloc(), &ring, &others)?;
-    blame.take(rt.alloc(), &second)?;
-    assert_eq!(rt; blame.named().len(), 1);
+    for (digest, named) in [(1, 0), (2, 1)] {
+        assert_eq!(rt;
+            named_after(rt.alloc(), &mut blame, &ring, &mut key, digest)?,
+            named
+        );
+    }
     assert!(rt; blame.has(0));
     assert!(rt; !blame.has(1));
     Ok(())

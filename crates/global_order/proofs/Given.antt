@@ -1,12 +1,17 @@
 -- What a function gives of the numbers below n.
 use Rattle.std.proofs.Common.{◌≡◌, ℕ, ◌+◌, ◌≤◌, true, false, cond, List, [], ◌∷◌, ◌++◌, Option, Some, None, is_some}
-use Rattle.std.proofs.Common.{length, refl, ◌∙◌, ap, arith, add-one, length-append}
+use Rattle.std.proofs.Common.{length, take, refl, sym, ◌∙◌, ap, arith, add-one, length-append}
 use Rattle.std.specs.List.{filter_map, cons_option}
 use Rattle.std.specs.Option.{option_map, option_to_list}
 use Rattle.std.proofs.lemmas.List.Elements.{filter_map-append}
 use Rattle.quorum_sets.specs.Masters.{numbers_below}
 use Rattle.quorum_sets.proofs.MastersLemmas.{numbers_below-suc}
+use Rattle.protocol_rules.specs.declared.facts.OrderFact.{OrderFact}
+use Rattle.protocol_rules.specs.Group.{Group}
+use Rattle.protocol_rules.specs.Words.{first_of_list}
+use Rattle.protocol_rules.specs.Order.{quorum_of}
 use Rattle.global_order.specs.Index.{given}
+use Rattle.global_order.specs.OrderState.{HasSizes}
 pub use Rattle.quorum_sets.proofs.MastersLemmas.{at_most_one, bool_byte-cond}
 
 pub given-none : {X : Type 0} (f : ℕ → Option X) → given f 0 ≡ []
@@ -57,3 +62,19 @@ length-grows {X} f h (n ∷ ns) keeps = by (f n) (h n) (keeps n) (length-grows f
 pub option-list : {X : Type 0} (o : Option X) → option_to_list o ≡ cons_option o []
 option-list None = refl
 option-list (Some x) = refl
+
+-- one number more, where what it gives is added behind what the numbers below gave
+pub given-push : {X : Type 0} (f : ℕ → Option X) (n : ℕ) (xs ys : List X) (o : Option X) →
+    ys ≡ xs ++ option_to_list o → o ≡ f n → xs ≡ given f n → ys ≡ given f (n + 1)
+given-push f n xs ys o added is before =
+    added ∙ ap (λ o. xs ++ option_to_list o) is ∙ ap (λ zs. zs ++ option_to_list (f n)) before
+    ∙ ap (λ zs. given f n ++ zs) (option-list (f n)) ∙ sym (given-more f n)
+
+-- what is held of each master, cut off at the size of a quorum, is the quorum of the definition
+pub given-quorum : {X : Type 0} (g : Group) (facts : List OrderFact) (n q : ℕ) (vote : ℕ → OrderFact → Option X)
+    (held : ℕ → Option X) → HasSizes g n q → ((m : ℕ) → held m ≡ first_of_list (filter_map (vote m) facts)) →
+    take q (given held n) ≡ quorum_of g vote facts
+given-quorum g facts n q vote held sizes has =
+    (λ i. take q (filter_map (λ m. has m i) (numbers_below n)))
+    ∙ ap (λ n. take q (given (λ m. first_of_list (filter_map (vote m) facts)) n)) (sym sizes.masters)
+    ∙ ap (λ q. take q (given (λ m. first_of_list (filter_map (vote m) facts)) g.n)) (sym sizes.quorum)

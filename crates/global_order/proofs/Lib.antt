@@ -1,3 +1,5 @@
+-- Behind the global order, lowest first: what one word more changes in votes, offers and the least numbers, then
+-- ranges of numbers in which words are due, whole runs, and what is certified, learned and said.
 pub mod Booleans
 pub mod Given
 pub mod Meeting

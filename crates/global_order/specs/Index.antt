@@ -47,6 +47,10 @@ abbrev pub TakesFirst : {K X : Type 0} → (K → K → Bool) → Map K X → Ma
 TakesFirst {K} same old new key x = (k : K) →
     get same new k ≡ or_else (get same old k) (if same key k then Some x else None)
 
+-- the frame of a master, of its body and its signature
+abbrev pub signed_by : {B : Type 0} → B → ℕ → List ℕ → Signed B
+signed_by body m sig = record { signer = m; body = body; sig = sig }
+
 abbrev pub prepare_of : ℕ → ℕ → List ℕ → ℕ → List ℕ → Signed Prepare
 prepare_of v s digest m sig = record { signer = m; body = record { v = v; s = s; digest = digest }; sig = sig }
 

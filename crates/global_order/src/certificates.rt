@@ -1,60 +1,23 @@
-ghost use Rattle.std.specs.Prelude.{◌≡◌, ◌++◌, ◌≤◌, ℕ, List, Option, OnOk, IfOk, take, length};
-ghost use Rattle.std.specs.List.{filter_map, find};
-ghost use Rattle.std.specs.Option.{option_to_list, option_map};
+ghost use Rattle.std.specs.Prelude.{◌≡◌, ℕ, List, IfOk};
+ghost use Rattle.std.specs.List.{find};
+ghost use Rattle.std.specs.Option.{option_map};
 ghost use Rattle.message_types.specs.declared.ordering.Certificate.{Certificate as Cert};
 ghost use Rattle.protocol_rules.specs.declared.facts.OrderFact.{OrderFact as Fact};
 ghost use Rattle.protocol_rules.specs.Group.{Group};
 ghost use Rattle.protocol_rules.specs.Words.{last_below};
-ghost use Rattle.protocol_rules.specs.Order.{quorum_of, prepare_by, mark_by, certificate_of, certificate_at, least_prepared, last_certificate};
+ghost use Rattle.protocol_rules.specs.Order.{quorum_of, mark_by, certificate_of, certificate_at, least_prepared, last_certificate};
 ghost use Rattle.protocol_rules.specs.Facts.{rows_known};
 ghost use Rattle.global_order.specs.Choosing.{has_digest};
 ghost use Rattle.global_order.specs.OrderState.{HasSizes};
-ghost use Rattle.global_order.specs.Index.{HasPrepares, HasMarks, HasRows, HasChoices, vote_at, mark_at, prepare_of, mark_of};
+ghost use Rattle.global_order.specs.Index.{HasPrepares, HasMarks, HasRows, HasChoices};
 
 use crate::choices::Choices;
 use crate::slots::{first_digest, least_digest};
-use crate::votes::{Marks, Votes};
+use crate::votes::{Marks, Votes, push_signed, votes_of};
 use message_types::{Certificate, Mark, Prepare, Signed};
-use plain_lists::{Copied, Items, Want};
+use plain_lists::{Copied, Want};
 use quorum_sets::Sizes;
 use std::alloc::Global;
-
-/// The first prepares of the `q` lowest masters that prepared so.
-pub fn prepares_of(
-    alloc: Global,
-    votes: &Votes,
-    sizes: &Sizes,
-    v: u64,
-    s: u64,
-    digest: [u8; 32],
-) -> Result<Items<Signed<Prepare>>, Want>
-    ensures { IfOk result (λ frames. (g : Group) (facts : List Fact) → HasSizes g sizes.now.n sizes.now.q → HasPrepares facts votes.now → frames ≡ quorum_of g (prepare_by v s digest) facts) }
-{
-    let mut frames = Vec::new(alloc);
-    for master in 0..sizes.n {
-        push_prepare(&mut frames, votes, v, s, digest, master)?;
-    }
-    frames.truncate(sizes.q as usize);
-    Ok(Items::from_vec(alloc, frames))
-}
-
-fn push_prepare(
-    frames: &mut Vec<Signed<Prepare>>,
-    votes: &Votes,
-    v: u64,
-    s: u64,
-    digest: [u8; 32],
-    signer: u32,
-) -> Result<(), Want>
-    ensures { OnOk result (frames.new.items ≡ frames.old.items ++ option_to_list (option_map (prepare_of v s digest signer) (vote_at votes.now v s digest signer))) }
-{
-    if let Some(sig) = votes.get(&(v, s, digest, signer)) {
-        let body = Prepare { v, s, digest };
-        let sig = sig.copy()?;
-        frames.push(Signed { signer, body, sig })?;
-    }
-    Ok(())
-}
 
 /// The first marks of the `q` lowest masters that marked the number.
 pub fn marks_of(
@@ -67,21 +30,10 @@ pub fn marks_of(
 {
     let mut frames = Vec::new(alloc);
     for master in 0..sizes.n {
-        push_mark(&mut frames, marks, s, master)?;
+        push_signed(&mut frames, master, Mark { s }, marks.get(&(s, master)))?;
     }
     frames.truncate(sizes.q as usize);
     Ok(frames)
-}
-
-fn push_mark(frames: &mut Vec<Signed<Mark>>, marks: &Marks, s: u64, signer: u32) -> Result<(), Want>
-    ensures { OnOk result (frames.new.items ≡ frames.old.items ++ option_to_list (option_map (mark_of s signer) (mark_at marks.now s signer))) }
-{
-    if let Some(sig) = marks.get(&(s, signer)) {
-        let body = Mark { s };
-        let sig = sig.copy()?;
-        frames.push(Signed { signer, body, sig })?;
-    }
-    Ok(())
 }
 
 /// The certificate for number `s` of the highest view below `below`.
@@ -160,7 +112,8 @@ fn certificate_with(
         return Ok(None);
     };
     let rows = rows.copy()?;
-    let prepares = prepares_of(alloc, votes, sizes, v, s, digest)?;
+    let prepare = Prepare { v, s, digest };
+    let prepares = votes_of(alloc, votes, sizes, v, s, digest, prepare)?;
     Ok(Some(Certificate {
         s,
         v,

@@ -6,7 +6,6 @@
 mod certificates;
 mod choices;
 mod due;
-mod gifts;
 pub mod laws;
 mod letting;
 mod offers;
@@ -16,6 +15,7 @@ mod pending;
 mod quorum;
 mod said;
 mod slots;
+mod views;
 mod votes;
 mod waiting;
 

@@ -11,14 +11,14 @@ ghost use Rattle.global_order.specs.OrderState.{IsOrderOf, Learns, Says, Stays, 
 use crate::certificates::{first_certificate_of, last_certificate_of, marks_of};
 use crate::choices::{Choices, learn, learn_all, note_if_committed, note_if_prepared};
 use crate::due::{push_marks, push_pending_commits, push_pending_prepares};
-use crate::gifts::{Views, commits_of, note_view, view_of};
 use crate::letting::let_go;
 use crate::offers::{Offers, note_plan, note_proposal, offered_in, plan_of_view};
 use crate::orders::{make_order, order_of, run_end};
 use crate::pending::{all_pending, pending_from, pending_in};
 use crate::said::{Said, note_said};
 use crate::slots::make_slot;
-use crate::votes::{Marks, Votes, count_marks, count_votes, note_mark, note_vote};
+use crate::views::{Views, note_view, view_of};
+use crate::votes::{Marks, Votes, count_marks, count_votes, note_mark, note_vote, votes_of};
 use crate::waiting::make_room;
 use indexmap::IndexMap;
 use message_types::{Body, Certificate, Commit, GiveOrdered, Mark, Plan, Prepare, Rows, Signed};
@@ -306,7 +306,8 @@ impl Order {
         };
         let rows = rows.copy()?;
         let v = view_of(&self.views, s, digest);
-        let commits = commits_of(self.alloc, &self.commits, &self.sizes, v, s, digest)?;
+        let commit = Commit { v, s, digest };
+        let commits = votes_of(self.alloc, &self.commits, &self.sizes, v, s, digest, commit)?;
         Ok(Some(GiveOrdered {
             s,
             v,

@@ -85,7 +85,10 @@ waits_of_1_says = in_short it.setup (it.introduced ++ it.proposed) it.waits_of_1
                       refl,
                       (
                         refl,
-                        (refl, (refl, (refl, (refl, (refl, (refl, (refl, (refl, (refl, (refl, (refl, (refl, tt)))))))))))),
+                        (
+                          refl,
+                          (refl, (refl, (refl, (refl, (refl, (refl, (refl, (refl, (refl, (refl, (refl, tt))))))))))),
+                        ),
                       ),
                     ),
                   ),
@@ -130,7 +133,10 @@ waits_of_2_says = in_short it.setup (it.introduced ++ it.proposed ++ it.waits_of
                       refl,
                       (
                         refl,
-                        (refl, (refl, (refl, (refl, (refl, (refl, (refl, (refl, (refl, (refl, (refl, (refl, tt)))))))))))),
+                        (
+                          refl,
+                          (refl, (refl, (refl, (refl, (refl, (refl, (refl, (refl, (refl, (refl, (refl, tt))))))))))),
+                        ),
                       ),
                     ),
                   ),

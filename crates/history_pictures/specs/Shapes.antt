@@ -17,13 +17,14 @@ down lane = within (within (lane * 46) + 60)
 -- a filled box by its left upper corner, its width and height
 unfoldable pub box_text : (x y width height : ℕ) → List ℕ → List ℕ
 box_text x y width height colour =
-    codes "<rect x=\"" ++ decimal x ++ codes "\" y=\"" ++ decimal y ++ codes "\" width=\"" ++ decimal width ++ codes "\" height=\""
-    ++ decimal height ++ codes "\" fill=\"" ++ colour ++ codes "\"/>\n"
+    codes "<rect x=\"" ++ decimal x ++ codes "\" y=\"" ++ decimal y ++ codes "\" width=\"" ++ decimal width
+    ++ codes "\" height=\"" ++ decimal height ++ codes "\" fill=\"" ++ colour ++ codes "\"/>\n"
 
 -- a filled dot, and an empty ring, by the centre and the radius
 unfoldable pub dot_text : (x y radius : ℕ) → List ℕ → List ℕ
 dot_text x y radius colour =
-    codes "<circle cx=\"" ++ decimal x ++ codes "\" cy=\"" ++ decimal y ++ codes "\" r=\"" ++ decimal radius ++ codes "\" fill=\"" ++ colour ++ codes "\"/>\n"
+    codes "<circle cx=\"" ++ decimal x ++ codes "\" cy=\"" ++ decimal y ++ codes "\" r=\"" ++ decimal radius
+    ++ codes "\" fill=\"" ++ colour ++ codes "\"/>\n"
 
 unfoldable pub ring_text : (x y radius : ℕ) → List ℕ → List ℕ
 ring_text x y radius colour =
@@ -33,8 +34,8 @@ ring_text x y radius colour =
 -- a line between two places
 unfoldable pub line_text : ℕ × ℕ → ℕ × ℕ → List ℕ → List ℕ
 line_text from to colour =
-    codes "<line x1=\"" ++ decimal from.0 ++ codes "\" y1=\"" ++ decimal from.1 ++ codes "\" x2=\"" ++ decimal to.0 ++ codes "\" y2=\""
-    ++ decimal to.1 ++ codes "\" stroke=\"" ++ colour ++ codes "\"/>\n"
+    codes "<line x1=\"" ++ decimal from.0 ++ codes "\" y1=\"" ++ decimal from.1 ++ codes "\" x2=\"" ++ decimal to.0
+    ++ codes "\" y2=\"" ++ decimal to.1 ++ codes "\" stroke=\"" ++ colour ++ codes "\"/>\n"
 
 -- words, and a number, that are written at a place
 unfoldable pub words_text : (x y : ℕ) → List ℕ → List ℕ → List ℕ

@@ -24,11 +24,21 @@ const ONE_SCREEN: &str =
     "f = 1\nseed = \"0000000000000000000000000000000000000000000000000000000000000000\"\nlevels = [5]\nscreens = 1\n";
 
 /// A bench, with the ring of its scenario's keys.
-#[derive(Drop)]
 struct Seen {
     alloc: Global,
     bench: Bench,
     ring: KeyRing,
+}
+
+// Taken apart here once, and not where a room of them is left early.
+impl Drop for Seen {
+    fn drop(self) {
+        let Seen {
+            alloc: _,
+            bench: _,
+            ring: _,
+        } = self;
+    }
 }
 
 impl Model for Seen {
@@ -97,12 +107,23 @@ impl Seen {
 }
 
 /// Benches, the stamp of the next entry, and what was said since the last round.
-#[derive(Drop)]
 struct Room {
     alloc: Global,
     seen: Vec<Seen>,
     stamp: u64,
     news: Vec<Said>,
+}
+
+// Taken apart here once.
+impl Drop for Room {
+    fn drop(self) {
+        let Room {
+            alloc: _,
+            seen: _,
+            stamp: _,
+            news: _,
+        } = self;
+    }
 }
 
 impl Room {
@@ -155,19 +176,45 @@ impl Room {
         self.tell(rt, actor, frames)
     }
 
+    /// A frame is taken by all others.
+    fn pass(&mut self, rt: &impl Abort, said: &Said) -> Result<(), Fail> {
+        for actor in 0..self.seen.len() {
+            if actor != said.actor {
+                assert!(rt; actor < self.seen.len());
+                let frames = self.seen[actor].take(rt, self.stamp, said)?;
+                self.tell(rt, actor, frames)?;
+            }
+        }
+        Ok(())
+    }
+
     /// Each frame of the last round is taken by all others.
     fn flow(&mut self, rt: &impl Abort) -> Result<(), Fail> {
         let news = std::mem::replace(&mut self.news, Vec::new(self.alloc));
         for said in &news {
-            for actor in 0..self.seen.len() {
-                if actor != said.actor {
-                    assert!(rt; actor < self.seen.len());
-                    let frames = self.seen[actor].take(rt, self.stamp, said)?;
-                    self.tell(rt, actor, frames)?;
-                }
-            }
+            self.pass(rt, said)?;
         }
         Ok(())
+    }
+
+    /// That many rounds.
+    fn rounds(&mut self, rt: &impl Abort, count: u64) -> Result<(), Fail> {
+        for _round in 0..count {
+            self.flow(rt)?;
+        }
+        Ok(())
+    }
+
+    /// The screen's command is asked for, ordered and executed.
+    fn see_through(&mut self, rt: &impl Abort) -> Result<(), Fail> {
+        self.command(rt, 4)?;
+        self.rounds(rt, 3)?;
+        for master in 0..4 {
+            self.tick(rt, master)?;
+        }
+        self.rounds(rt, 1)?;
+        self.tick(rt, 0)?;
+        self.rounds(rt, 5)
     }
 }
 
@@ -176,18 +223,7 @@ fn a_command_is_seen_through(rt: HostRuntime) -> Result<(), Fail> {
     let alloc = rt.alloc();
     let scenario = Scenario::read(alloc, ONE_SCREEN.as_bytes())?;
     let mut room = Room::make(&rt, alloc, &scenario)?;
-    room.command(&rt, 4)?;
-    for _ in 0..3 {
-        room.flow(&rt)?;
-    }
-    for master in 0..4 {
-        room.tick(&rt, master)?;
-    }
-    room.flow(&rt)?;
-    room.tick(&rt, 0)?;
-    for _ in 0..5 {
-        room.flow(&rt)?;
-    }
+    room.see_through(&rt)?;
     assert_eq!(rt; room.seen.len(), 5);
     for master in 0..4 {
         assert_eq!(rt; room.seen[master].bench.executions().len(), 1);

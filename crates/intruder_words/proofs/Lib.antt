@@ -1,3 +1,5 @@
+-- Behind what an intruded master can be made to say, lowest first: walks over what it knows, quorums and certificates
+-- found there, requests and plans made of them, and that the body made is the one that the word names.
 pub mod Walks
 pub mod Which
 pub mod Voting

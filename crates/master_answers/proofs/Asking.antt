@@ -4,7 +4,6 @@ use Rattle.message_types.specs.declared.signed.Signed.{Signed}
 use Rattle.message_types.specs.declared.body.Body.{Body}
 use Rattle.protocol_rules.specs.declared.facts.OrderFact.{OrderFact}
 use Rattle.protocol_rules.specs.Group.{Group}
-use Rattle.protocol_rules.specs.Execution.{Request}
 use Rattle.protocol_rules.specs.Reconcile.{ask_update_due, ask_order_due}
 use Rattle.protocol_rules.specs.Master.{waiting_for, gap_of}
 use Rattle.execution.specs.Ran.{requested}

@@ -1,5 +1,5 @@
 -- Words due by all rules, in one list.
-use Rattle.std.proofs.Common.{◌≡◌, List, ◌++◌, refl, sym, ◌∙◌, ap, append_assoc}
+use Rattle.std.proofs.Common.{◌≡◌, List, ◌++◌, sym, ◌∙◌, ap, append_assoc}
 use Rattle.message_types.specs.declared.body.Body.{Body}
 
 pub pair : (xs ys ps bs : List Body) → xs ≡ ps → ys ≡ bs → xs ++ ys ≡ ps ++ bs

@@ -1,3 +1,5 @@
+-- Behind all that a master says at an event: what its parts go by as it grows, each part's words among all that is
+-- said, their order in one list, and what is said for orders and clients, number by number.
 pub mod Growing
 pub mod Few
 pub mod Alike

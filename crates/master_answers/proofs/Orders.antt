@@ -1,5 +1,5 @@
 -- How prepares, commits and marks count as said.
-use Rattle.std.proofs.Common.{◌≡◌, ℕ, Bool, true, false, List, ◌++◌, filter, true≢false, refl, sym, ◌∙◌, ap}
+use Rattle.std.proofs.Common.{◌≡◌, ℕ, Bool, false, List, ◌++◌, filter, true≢false, refl, sym, ◌∙◌, ap}
 use Rattle.std.specs.List.{list_any}
 use Rattle.message_types.specs.declared.body.Body.{Body}
 use Rattle.message_types.specs.declared.body.Body.TheVariants as body
@@ -8,36 +8,29 @@ use Rattle.protocol_rules.specs.Group.{Group}
 use Rattle.protocol_rules.specs.Order.{prepares_said, commits_said, marks_said}
 use Rattle.global_order.specs.OrderState.{OrderState, IsOrderOf}
 use Rattle.words_by_part.specs.Kinds.{is_of, ordering}
-use Rattle.master_knowledge.specs.Knows.{is_order_word}
 use Rattle.master_answers.proofs.Alike.{kept_alike, any_own}
 
-prepares_passed : (v s : ℕ) (w : Body) → is_order_word w ≡ false → prepares_said v s w ≡ false
+prepares_passed : (v s : ℕ) (w : Body) → is_of ordering w ≡ false → prepares_said v s w ≡ false
 prepares_passed v s (body.Prepare b) e = absurd (true≢false e)
 prepares_passed v s _ e = refl
 
-commits_passed : (v s : ℕ) (w : Body) → is_order_word w ≡ false → commits_said v s w ≡ false
+commits_passed : (v s : ℕ) (w : Body) → is_of ordering w ≡ false → commits_said v s w ≡ false
 commits_passed v s (body.Commit b) e = absurd (true≢false e)
 commits_passed v s _ e = refl
 
-marks_passed : (s : ℕ) (w : Body) → is_order_word w ≡ false → marks_said s w ≡ false
+marks_passed : (s : ℕ) (w : Body) → is_of ordering w ≡ false → marks_said s w ≡ false
 marks_passed s (body.Mark b) e = absurd (true≢false e)
 marks_passed s _ e = refl
 
 -- a test that passes these words alone answers alike where these are the same
-alike : (t : Body → Bool) → ((w : Body) → is_order_word w ≡ false → t w ≡ false) → (said other : List Body) →
-    filter is_order_word other ≡ filter is_order_word said → list_any t other ≡ list_any t said
-alike t passes said other same = sym (any_own t is_order_word passes other) ∙ ap (list_any t) same
-    ∙ any_own t is_order_word passes said
-
-pub is_own : (word : Body) → is_order_word word ≡ is_of ordering word
-is_own (body.Prepare b) = refl
-is_own (body.Commit b) = refl
-is_own (body.Mark b) = refl
-is_own _ = refl
+alike : (t : Body → Bool) → ((w : Body) → is_of ordering w ≡ false → t w ≡ false) → (said other : List Body) →
+    filter (is_of ordering) other ≡ filter (is_of ordering) said → list_any t other ≡ list_any t said
+alike t passes said other same = sym (any_own t (is_of ordering) passes other) ∙ ap (list_any t) same
+    ∙ any_own t (is_of ordering) passes said
 
 -- of what was said only these words count
 pub said_alike : (g : Group) (o : OrderState) (facts : List OrderFact) (said other : List Body) →
-    filter is_order_word other ≡ filter is_order_word said → IsOrderOf g o facts said → IsOrderOf g o facts other
+    filter (is_of ordering) other ≡ filter (is_of ordering) said → IsOrderOf g o facts said → IsOrderOf g o facts other
 said_alike g o facts said other same is = record {
   sizes = is.sizes;
   prepares = is.prepares;
@@ -58,4 +51,4 @@ said_alike g o facts said other same is = record {
 pub words_said : (g : Group) (o : OrderState) (facts : List OrderFact) (said all words : List Body) →
     filter (is_of ordering) all ≡ words → IsOrderOf g o facts (said ++ words) → IsOrderOf g o facts (said ++ all)
 words_said g o facts said all words own is = said_alike g o facts (said ++ words) (said ++ all)
-    (kept_alike is_order_word (is_of ordering) said all words is_own own) is
+    (kept_alike (is_of ordering) (is_of ordering) said all words (λ w. refl) own) is

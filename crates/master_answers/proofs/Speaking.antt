@@ -1,12 +1,9 @@
 -- All that a master says at an event, and what it keeps then.
-use Rattle.std.proofs.Common.{◌≡◌, ℕ, ◌≤◌, Bool, List, [], ◌∷◌, ◌++◌, Option, Some, map, refl, sym, ◌∙◌, ap, subst}
-use Rattle.std.specs.Prelude.{slice_get}
+use Rattle.std.proofs.Common.{◌≡◌, ℕ, ◌≤◌, Bool, List, ◌++◌, Option, sym, ◌∙◌, ap, subst}
 use Rattle.std.specs.List.{flat_map}
 use Rattle.message_types.specs.declared.signed.Signed.{Signed}
 use Rattle.message_types.specs.declared.updates.Update.{Update}
 use Rattle.message_types.specs.declared.vouchers.Order.{Order}
-use Rattle.message_types.specs.declared.ordering.Mark.{Mark}
-use Rattle.message_types.specs.declared.ordering.Certificate.{Certificate}
 use Rattle.message_types.specs.declared.body.Body.{Body}
 use Rattle.quorum_sets.specs.Masters.{numbers_below}
 use Rattle.protocol_rules.specs.declared.facts.OrderFact.{OrderFact}

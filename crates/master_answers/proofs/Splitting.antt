@@ -1,11 +1,10 @@
 -- Words of each kind that come early or late.
-use Rattle.std.proofs.Common.{◌≡◌, ℕ, Bool, true, false, cond, not, List, [], ◌∷◌, ◌++◌, filter, nat_eq, refl, sym}
-use Rattle.std.proofs.Common.{◌∙◌, ap}
+use Rattle.std.proofs.Common.{◌≡◌, ℕ, true, false, cond, not, List, [], ◌∷◌, ◌++◌, filter, nat_eq, refl, ◌∙◌, ap}
 use Rattle.std.specs.List.{list_any}
 use Rattle.std.proofs.lemmas.List.{append-nil}
 use Rattle.std.proofs.lemmas.List.Elements.{filter-append}
 use Rattle.message_types.specs.declared.body.Body.{Body}
-use Rattle.history_rules.specs.Audit.{IsIn, here, there}
+use Rattle.history_rules.specs.Audit.{here, there}
 use Rattle.agreement.proofs.Lists.{Each}
 use Rattle.words_by_part.specs.Kinds.{is_of}
 use Rattle.words_by_part.proofs.Sorting.{Of, all_kept, none_kept}

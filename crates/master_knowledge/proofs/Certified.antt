@@ -17,7 +17,6 @@ use Rattle.protocol_rules.specs.Execution.{Request}
 use Rattle.protocol_rules.specs.Master.{certified_requests}
 use Rattle.preorder.specs.Composed.{is_preordering}
 use Rattle.preorder.specs.Index.{CertifiesAt}
-use Rattle.preorder.proofs.Choice.{same_pair-same}
 use Rattle.preorder.proofs.Certified.{certifies-request, certifies-ack}
 use Rattle.preorder.proofs.Composed.{certified-passed}
 use Rattle.protocol_rules.specs.Keys.{same_pair}
@@ -31,6 +30,7 @@ use Rattle.master_knowledge.specs.Knows.{HasClients}
 use Rattle.master_knowledge.specs.Certifying.{IsCertifiedAt}
 use Rattle.master_knowledge.proofs.Whole.{client_there}
 use Rattle.agreement.proofs.Vouched.{certified_stays}
+use Rattle.protocol_rules.proofs.Keys.{same_pair-same}
 
 -- the update of a request that is whole is of a client that is there
 requested_there : (g : Group) (j k signer : ℕ) (word : Body) (sig : List ℕ) (u : Update) →

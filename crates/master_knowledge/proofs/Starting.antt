@@ -1,5 +1,5 @@
 -- What is kept before anything is known.
-use Rattle.std.proofs.Common.{◌≡◌, List, [], None, refl, sym, subst}
+use Rattle.std.proofs.Common.{List, [], None, refl, sym, subst}
 use Rattle.protocol_rules.specs.declared.facts.OrderFact.{OrderFact}
 use Rattle.protocol_rules.specs.Group.{Group}
 use Rattle.protocol_rules.specs.Facts.{facts_of}

@@ -1,10 +1,9 @@
 -- When what a master keeps is what its words make of it. (How it is kept is this project's own.)
-use Rattle.std.specs.Prelude.{◌≡◌, ℕ, ◌<◌, Bool, true, false, List, ◌++◌, Some, filter}
+use Rattle.std.specs.Prelude.{◌≡◌, ℕ, ◌<◌, true, List, ◌++◌, Some}
 use Rattle.std.specs.List.{list_all}
 use Rattle.message_types.specs.declared.signed.Signed.{Signed}
 use Rattle.message_types.specs.declared.updates.Update.{Update}
 use Rattle.message_types.specs.declared.body.Body.{Body}
-use Rattle.message_types.specs.declared.body.Body.TheVariants as body
 use Rattle.protocol_rules.specs.Group.{Group}
 use Rattle.protocol_rules.specs.Preorder.{certified}
 use Rattle.protocol_rules.specs.Facts.{facts_of}
@@ -21,10 +20,6 @@ use Rattle.reconcile.specs.AskState.{AreAsksOf}
 use Rattle.reconcile.specs.GiftState.{AreGiftsOf}
 use Rattle.master_knowledge.specs.Whole.{is_whole}
 use Rattle.master_knowledge.specs.declared.knowledge.Knowledge.{Knowledge}
-
--- the word is one that the global order counts as said
-abbrev pub is_order_word : Body → Bool
-is_order_word word = elim word [ body.Prepare b ↦ true | body.Commit b ↦ true | body.Mark b ↦ true | _ ↦ false ]
 
 -- each update that is certified is of a client that is there
 abbrev pub HasClients : Group → List (Signed Body) → Type 0

@@ -7,6 +7,7 @@ use Rattle.point_table.specs.Table.{start_values, AreUsable}
 use Rattle.alarm_rules.specs.Board.{quiet}
 use Rattle.master_points.specs.declared.effect.Addressed.{Addressed}
 use Rattle.master_points.specs.declared.plant.Plant.{Plant}
+use Rattle.master_points.specs.declared.limits.TheConstants.{MOST_INTERLOCKS, MOST_PROXIES, MOST_SCREENS}
 use Rattle.master_points.specs.Effects.{Site, State, settled, effect}
 use Rattle.master_points.specs.Lists.{given}
 
@@ -66,13 +67,13 @@ AreOwned devices (p ∷ ps) = (p.proxy < devices) × AreOwned devices ps
 
 -- a plant within the limits of a scenario
 pub record IsPlant (plant : Plant) (screens : ℕ) : Type 0 where
-  pub devices : length plant.devices ≤ 8
+  pub devices : length plant.devices ≤ MOST_PROXIES
   pub points : length plant.points ≤ 1024
   pub usable : AreUsable plant.points
   pub owned : AreOwned (length plant.devices) plant.points
   pub alarms : length plant.alarms ≤ 256
-  pub interlocks : length plant.interlocks ≤ 64
-  pub shown : screens ≤ 4
+  pub interlocks : length plant.interlocks ≤ MOST_INTERLOCKS
+  pub shown : screens ≤ MOST_SCREENS
 
 -- a master after executed updates
 abbrev pub held_after : Held → List Update → Held

@@ -3,9 +3,11 @@
 
 pub mod effect;
 pub mod laws;
+pub mod limits;
 pub mod lists;
 pub mod master;
 pub mod plant;
 
+pub use limits::{MOST_INTERLOCKS, MOST_PROXIES, MOST_SCREENS};
 pub use master::Master;
 pub use plant::Plant;

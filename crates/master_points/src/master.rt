@@ -45,6 +45,7 @@ impl Model for Master {
     ghost use Rattle.std.specs.Coded.{codes};
     ghost use Rattle.interlocks.specs.Code.{formula_code};
     ghost use Rattle.master_points.specs.Orders.{Held, AreOwned};
+    ghost use Rattle.master_points.specs.declared.limits.TheConstants.{MOST_INTERLOCKS, MOST_PROXIES, MOST_SCREENS};
 
     ghost Value = { Held };
 
@@ -56,7 +57,7 @@ impl Model for Master {
       lists = master.lists.items;
     } };
 
-    ghost invariant = { λ master. (length master.lists.items ≡ master.devices + master.screens) × AreOwned master.devices master.points.points × (length master.interlocks ≤ 64) × (master.devices + master.screens ≤ 12) };
+    ghost invariant = { λ master. (length master.lists.items ≡ master.devices + master.screens) × AreOwned master.devices master.points.points × (length master.interlocks ≤ MOST_INTERLOCKS) × (master.devices + master.screens ≤ MOST_PROXIES + MOST_SCREENS) };
 }
 
 impl Master {

@@ -9,7 +9,7 @@ use Rattle.modbus_forms.specs.declared.reply.ReplyPdu.TheVariants as reply
 use Rattle.modbus_forms.specs.Requests.{pair_text, writes_many}
 use Rattle.modbus_forms.specs.Replies.{reply_pdu_text, reply_pdu_fits, is_reply_sized}
 use Rattle.modbus_forms.specs.Widths.{FitsReplyPdu}
-use Rattle.modbus_forms.proofs.RequestLaws.{either, first_of_pair, second_of_pair, length-pair}
+use Rattle.modbus_forms.proofs.RequestLaws.{either, first_of_pair, second_of_pair, length-pair, pair_sized}
 
 -- the reply in a PDU: what its text is read back by
 reply_in : ℕ → List ℕ → ReplyPdu
@@ -115,9 +115,6 @@ is_read a b f is na nb = elim (either a b f is) [ inl e ↦ ap reads e ∙ na | 
 counted_sized : (bytes : List ℕ) →
     nat_eq (length (length bytes ∷ bytes)) (1 + slice_index (length bytes ∷ bytes) 0) ≡ true
 counted_sized bytes = eq-eqb (length (length bytes ∷ bytes)) (1 + length bytes) (omega arith)
-
-pair_sized : (p q : ℕ) → nat_eq (length (pair_text p q)) 4 ≡ true
-pair_sized p q = rw (length-pair p q) refl
 
 pub reply_sized : (r : ReplyPdu) → reply_pdu_fits r ≡ true → is_reply_sized (reply_pdu_text r) ≡ true
 reply_sized (reply.Bits f bytes) fits =

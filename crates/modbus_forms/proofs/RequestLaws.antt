@@ -151,7 +151,7 @@ many_sized : (p q : ℕ) (bytes : List ℕ) →
 many_sized p q bytes = rw (length-many p q bytes, count_of_many p q bytes)
     (eq-eqb (5 + length bytes) (5 + length bytes) refl)
 
-pair_sized : (p q : ℕ) → nat_eq (length (pair_text p q)) 4 ≡ true
+pub pair_sized : (p q : ℕ) → nat_eq (length (pair_text p q)) 4 ≡ true
 pair_sized p q = rw (length-pair p q) refl
 
 pub request_sized : (r : RequestPdu) → request_pdu_fits r ≡ true → is_request_sized (request_pdu_text r) ≡ true

@@ -1,5 +1,5 @@
-ghost use Rattle.std.specs.Prelude.{◌≡◌, ◌+◌, ◌++◌, ◌∷◌, ◌<◌, ◌^◌, [], OnOk, OnErr, IfOk};
-ghost use Rattle.operator_screen.specs.Board.{is_notice, notice_in, notices};
+ghost use Rattle.std.specs.Prelude.{◌≡◌, ◌+◌, ◌++◌, ◌∷◌, ◌<◌, ◌^◌, ◌&&◌, [], nat_eq, OnOk, OnErr, IfOk};
+ghost use Rattle.operator_screen.specs.Board.{is_notice, notice_in, notices, Desk, IsDeskOf};
 
 use message_types::{Notice, Op, Order, Update, Voucher};
 use plain_lists::Want;
@@ -33,24 +33,20 @@ impl Drop for Screen {
 }
 
 impl Model for Screen {
-    ghost use Rattle.std.specs.Prelude.{◌≡◌};
-    ghost use Rattle.operator_screen.specs.Board.{Desk, notices};
-    ghost use Rattle.vouched_orders.specs.Vouching.{done};
+    ghost use Rattle.operator_screen.specs.Board.{ScreenState};
 
-    ghost Value = { Desk };
+    ghost Value = { ScreenState };
 
-    ghost view = { λ screen. record { client = screen.client; n = screen.sizes.n; f = screen.sizes.f; commands = screen.commands; votes = screen.vouched.votes } };
-
-    ghost invariant = { λ screen. (screen.board.items ≡ notices (done screen.sizes.n screen.sizes.f screen.vouched.votes)) × (screen.vouched.n ≡ screen.sizes.n) × (screen.vouched.f ≡ screen.sizes.f) };
+    ghost view = { λ screen. record { client = screen.client; n = screen.sizes.n; f = screen.sizes.f; commands = screen.commands; tally = screen.vouched; board = screen.board.items } };
 }
 
 impl Screen {
-    ghost use Rattle.operator_screen.specs.Board.{Desk};
     ghost use Rattle.vouched_orders.specs.Vouching.{done, counted};
 
     /// A screen before its first command. `client` is its number among the clients. It takes no memory.
     pub fn make(alloc: Global, client: u32, sizes: Sizes) -> Screen
-        ensures { result ≡ record { client = client; n = sizes.n; f = sizes.f; commands = 0; votes = [] } }
+        ensures made { IsDeskOf result (record { client = client; n = sizes.n; f = sizes.f; commands = 0; votes = [] }) }
+        ensures commands { result.commands ≡ 0 }
     {
         Screen {
             alloc,
@@ -86,10 +82,11 @@ impl Screen {
     /// Takes a voucher. One for another client, or with a write, changes nothing; nor does one after which memory is
     /// wanted. One that no master signed supports no notice.
     pub fn take_voucher(&mut self, signer: u32, voucher: &Voucher) -> Result<(), Want>
-        ensures ok { OnOk result (self.new ≡ record self.old { votes = self.old.votes ++ counted is_notice self.old.client (record { signer = signer; voucher = voucher.now } ∷ []) }) }
-        ensures err { OnErr result (self.new ≡ self.old) }
+        ensures ok { OnOk result ((s : Desk) → IsDeskOf self.old s
+            → IsDeskOf self.new (record s { votes = s.votes ++ counted is_notice s.client (record { signer = signer; voucher = voucher.now } ∷ []) })) }
+        ensures err { OnErr result ((s : Desk) → IsDeskOf self.old s → IsDeskOf self.new s) }
     {
-        if voucher.client != self.client || !is_for_a_screen(&voucher.order) {
+        if !self.counts(voucher) {
             return Ok(());
         }
         let vote = Vote {
@@ -109,9 +106,16 @@ impl Screen {
 
     /// The notices shown, the oldest first.
     pub fn board(&self) -> &[Notice]
-        ensures { result.now ≡ notices (done self.now.n self.now.f self.now.votes) }
+        ensures { (s : Desk) → IsDeskOf self.now s → result.now ≡ notices (done s.n s.f s.votes) }
     {
         self.board.as_slice()
+    }
+
+    /// Whether a voucher is for this screen, and with a notice.
+    fn counts(&self, voucher: &Voucher) -> bool
+        ensures { result ≡ (nat_eq voucher.now.client self.now.client && is_notice voucher.now.order) }
+    {
+        voucher.client == self.client && is_for_a_screen(&voucher.order)
     }
 }
 

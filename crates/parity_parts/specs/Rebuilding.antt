@@ -9,15 +9,16 @@ use Rattle.std.specs.Str.{bytes_eq}
 use Rattle.sha2.specs.Sha256.{sha256}
 use Rattle.quorum_sets.specs.Masters.{voters}
 use Rattle.quorum_sets.specs.declared.limits.TheConstants.{MOST_MASTERS}
+use Rattle.parity_parts.specs.declared.limits.TheConstants.{MOST_TEXT_BYTES}
 use Rattle.parity_parts.specs.Parts.{Fits, first_length, is_part_of, joined}
 use Rattle.parity_parts.specs.declared.part.Part.{Part}
 use Rattle.parity_parts.specs.declared.rebuilding.Rebuilt.{Rebuilt}
 use Rattle.parity_parts.specs.declared.rebuilding.RebuildAnswer.{RebuildAnswer}
 use Rattle.parity_parts.specs.declared.rebuilding.RebuildAnswer.TheVariants.{NoText, Want}
 
--- the part is of a text of 1 to 65,536 bytes, and its master is one of n
+-- the part is of a text that is not empty and not too long, and its master is one of n
 abbrev pub CanBePart : ℕ → ℕ → Part → Type 0
-CanBePart n f part = (1 ≤ part.length) × (part.length ≤ 65536) × Fits n f part.length part
+CanBePart n f part = (1 ≤ part.length) × (part.length ≤ MOST_TEXT_BYTES) × Fits n f part.length part
 
 -- The sets of so many of the parts, each in the parts' order, by the order of their first parts, then their second
 -- ones, and so on.

@@ -4,6 +4,7 @@ ghost use Rattle.std.specs.List.{All, AllByRecursion};
 ghost use Rattle.parity_parts.specs.Parts.{AreBytes, AreDifferent, Fits, IsPartOf, OnlySolution, Solves, first_length, joined, joined_byte, masters, symbols};
 
 use crate::interpolation::interpolate;
+use crate::limits::MOST_TEXT_BYTES;
 use crate::part::{Part, width_of};
 use plain_lists::Want;
 use quorum_sets::Sizes;
@@ -60,7 +61,7 @@ fn joined_text(alloc: Global, sizes: &Sizes, parts: &[Part]) -> Result<Vec<u8>, 
     requires count { length parts.now ≡ sizes.now.f + 1 }
     requires small { All (λ part. part.master < 16) parts.now }
     requires some { 1 ≤ first_length parts.now }
-    requires room { first_length parts.now ≤ 65536 }
+    requires room { first_length parts.now ≤ MOST_TEXT_BYTES }
     ensures { IfOk result (λ text. text.items ≡ joined sizes.now.f parts.now) }
 {
     let points = masters_of(alloc, parts)?;
@@ -80,7 +81,7 @@ pub fn join(alloc: Global, sizes: &Sizes, parts: &[Part]) -> Result<Vec<u8>, Wan
     requires different { AreDifferent (masters parts.now) }
     requires fit { AllByRecursion (Fits sizes.now.n sizes.now.f (first_length parts.now)) parts.now }
     requires some { 1 ≤ first_length parts.now }
-    requires room { first_length parts.now ≤ 65536 }
+    requires room { first_length parts.now ≤ MOST_TEXT_BYTES }
     ensures joined { IfOk result (λ text. text.items ≡ joined sizes.now.f parts.now) }
     ensures solved { (place : ℕ) → Solves parts.now place }
     ensures only { (place : ℕ) → OnlySolution parts.now place }

@@ -5,10 +5,12 @@
 mod field;
 mod interpolation;
 mod joining;
+pub mod limits;
 mod part;
 mod rebuilding;
 
 pub use crate::joining::join;
+pub use crate::limits::MOST_TEXT_BYTES;
 pub use crate::part::{Part, part_of, width_of};
 pub use crate::rebuilding::{RebuildAnswer, Rebuilt, rebuild};
 pub use plain_lists::Want;

@@ -3,6 +3,7 @@ ghost use Rattle.std.specs.Prelude.{◌≡◌, ◌<◌, ◌≤◌, IfOk, length}
 ghost use Rattle.parity_parts.specs.Parts.{part_bytes, width};
 
 use crate::field::{behind, value_of_column};
+use crate::limits::MOST_TEXT_BYTES;
 use plain_lists::{Bytes, Copied, Want};
 use quorum_sets::Sizes;
 use std::alloc::Global;
@@ -27,7 +28,7 @@ impl Copied for Part {
 
 /// How many bytes a part of a text of this length has.
 pub fn width_of(sizes: &Sizes, size: usize) -> usize
-    requires { size ≤ 65536 }
+    requires { size ≤ MOST_TEXT_BYTES }
     ensures width { result ≡ width sizes.now.f size }
     ensures some { 1 ≤ size → 1 ≤ result }
 {
@@ -40,7 +41,7 @@ pub fn width_of(sizes: &Sizes, size: usize) -> usize
 pub fn part_of(alloc: Global, sizes: &Sizes, master: u32, text: &[u8]) -> Result<Part, Want>
     requires master { master < sizes.now.n }
     requires some { 1 ≤ length text.now }
-    requires room { length text.now ≤ 65536 }
+    requires room { length text.now ≤ MOST_TEXT_BYTES }
     ensures master { IfOk result (λ part. part.master ≡ master) }
     ensures size { IfOk result (λ part. part.length ≡ length text.now) }
     ensures bytes { IfOk result (λ part. part.bytes ≡ part_bytes sizes.now.f master text.now) }

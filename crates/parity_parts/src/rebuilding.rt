@@ -9,6 +9,7 @@ ghost use Rattle.parity_parts.specs.Rebuilding.{CanBePart, HasEnoughOf, IsRebuil
 ghost use Rattle.parity_parts.specs.declared.rebuilding.RebuildAnswer.TheVariants.{NoText};
 
 use crate::joining::join;
+use crate::limits::MOST_TEXT_BYTES;
 use crate::part::{Part, part_of};
 use plain_lists::{Bytes, Copied, Want};
 use quorum_sets::{MOST_MASTERS, Sizes, VoterSet};
@@ -64,7 +65,7 @@ fn text_of(
     requires different { AreDifferent (masters set.now) }
     requires parts { AllByRecursion (CanBePart sizes.now.n sizes.now.f) set.now }
     ensures text { IfOk result (λ text. text ≡ text_of sizes.now.f digest.now set.now) }
-    ensures length { IfOk result (λ text. MatchOption text (Unit {0}) (λ t. (1 ≤ length t) × (length t ≤ 65536))) }
+    ensures length { IfOk result (λ text. MatchOption text (Unit {0}) (λ t. (1 ≤ length t) × (length t ≤ MOST_TEXT_BYTES))) }
 {
     if !have_one_length(set) {
         return Ok(None);
@@ -100,7 +101,7 @@ fn search(
     requires parts { AllByRecursion (CanBePart sizes.now.n sizes.now.f) (chosen.now ++ others.now) }
     ensures text { IfOk result (λ text. text ≡ first_text sizes.now.f digest.now
         (behind_chosen chosen.now (sets (sizes.now.f + 1 - length chosen.now) others.now))) }
-    ensures length { IfOk result (λ text. MatchOption text (Unit {0}) (λ t. (1 ≤ length t) × (length t ≤ 65536))) }
+    ensures length { IfOk result (λ text. MatchOption text (Unit {0}) (λ t. (1 ≤ length t) × (length t ≤ MOST_TEXT_BYTES))) }
 {
     if chosen.len() > sizes.f as usize {
         return text_of(alloc, sizes, digest, chosen);
@@ -121,7 +122,7 @@ fn search(
 fn is_part_of(alloc: Global, sizes: &Sizes, text: &[u8], part: &Part) -> Result<bool, Want>
     requires master { part.now.master < sizes.now.n }
     requires some { 1 ≤ length text.now }
-    requires room { length text.now ≤ 65536 }
+    requires room { length text.now ≤ MOST_TEXT_BYTES }
     ensures { IfOk result (λ is. is ≡ is_part_of sizes.now.f text.now part.now) }
 {
     let own = part_of(alloc, sizes, part.master, text)?;
@@ -146,7 +147,7 @@ fn wrong_masters(
 ) -> Result<VoterSet, Want>
     requires parts { AllByRecursion (CanBePart sizes.now.n sizes.now.f) parts.now }
     requires some { 1 ≤ length text.now }
-    requires room { length text.now ≤ 65536 }
+    requires room { length text.now ≤ MOST_TEXT_BYTES }
     ensures { IfOk result (λ wrong. wrong ≡ wrong_masters sizes.now.f text.now parts.now) }
 {
     let mut wrong = VoterSet::empty();

@@ -7,6 +7,7 @@ use Rattle.quorum_sets.specs.Masters.{numbers_below}
 use Rattle.quorum_sets.specs.Quorum.{IsGroup, group_size}
 use Rattle.scenario_file.specs.Reading.{Contents}
 use Rattle.parity_parts.specs.declared.part.Part.{Part}
+use Rattle.parity_parts.specs.declared.limits.TheConstants.{MOST_TEXT_BYTES}
 use Rattle.parity_parts.specs.Parts.{AreBytes, part_bytes}
 use Rattle.parity_parts.specs.Rebuilding.{CanBePart, wrong_masters}
 use Rattle.run_lines.specs.Runs.{pieces}
@@ -56,5 +57,6 @@ pub record IsRebuilt (c : Contents) (bytes : List ℕ) (told : Told) : Type 0 wh
 abbrev pub EnoughLinesRebuild : Type 0
 EnoughLinesRebuild =
     (c : Contents) (bytes text : List ℕ) (told : Told) → IsGroup c.settings.f c.settings.k
-    → told_for c bytes ≡ Ok told → AreBytes text → 1 ≤ length text → length text ≤ 65536 → sha256 text ≡ told.digest
+    → told_for c bytes ≡ Ok told → AreBytes text → 1 ≤ length text → length text ≤ MOST_TEXT_BYTES
+    → sha256 text ≡ told.digest
     → HasEnoughLines c text bytes → IsRebuilt c bytes told

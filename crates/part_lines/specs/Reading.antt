@@ -4,6 +4,7 @@ use Rattle.std.specs.Prelude.{nat_le, Result, Ok, Err}
 use Rattle.std.specs.Str.{bytes_eq, is_utf8}
 use Rattle.hex.specs.Hex.{decode_of, decode_sized}
 use Rattle.parity_parts.specs.declared.part.Part.{Part}
+use Rattle.parity_parts.specs.declared.limits.TheConstants.{MOST_TEXT_BYTES}
 use Rattle.parity_parts.specs.Parts.{width}
 use Rattle.script_grammar.specs.Faults.{Answer, bad, both}
 use Rattle.script_grammar.specs.Lines.{words_of}
@@ -45,7 +46,7 @@ digest_of_words _ = bad
 
 abbrev pub fields_of_words : ℕ → List (List ℕ) → Answer (ℕ × (ℕ × List ℕ))
 fields_of_words n (name ∷ size ∷ digits ∷ []) =
-    both (master_in n name) (both (number_in 1 65536 size) (bytes_of digits))
+    both (master_in n name) (both (number_in 1 MOST_TEXT_BYTES size) (bytes_of digits))
 fields_of_words n _ = bad
 
 -- the digest that a line gives

@@ -7,7 +7,7 @@ ghost use Rattle.part_lines.specs.Reading.{and_then, bytes_of, digest_of, master
 
 use crate::lines::words_of;
 use hex::FromHex;
-use parity_parts::{Part, width_of};
+use parity_parts::{MOST_TEXT_BYTES, Part, width_of};
 use plain_lists::Bytes;
 use quorum_sets::Sizes;
 use script_grammar::{LineRefusal, both, number};
@@ -60,9 +60,9 @@ fn master(sizes: &Sizes, name: &str) -> Result<u32, LineRefusal>
 
 /// How long a text is.
 fn size(digits: &str) -> Result<u32, LineRefusal>
-    ensures { Answers result (number_in 1 65536 digits.now) }
+    ensures { Answers result (number_in 1 MOST_TEXT_BYTES digits.now) }
 {
-    match number(digits, 1, 65_536) {
+    match number(digits, 1, MOST_TEXT_BYTES) {
         Ok(number) => Ok(number as u32),
         Err(fault) => Err(fault),
     }
@@ -71,7 +71,7 @@ fn size(digits: &str) -> Result<u32, LineRefusal>
 /// The fields of a part: its master, the length of its text, and its bytes.
 fn fields(alloc: Global, sizes: &Sizes, words: &[&str]) -> Result<(u32, (u32, Bytes)), LineRefusal>
     ensures fields { Answers result (fields_of_words sizes.now.n (texts words.now)) }
-    ensures room { IfOk result (λ fields. fields.1.0 ≤ 65536) }
+    ensures room { IfOk result (λ fields. fields.1.0 ≤ MOST_TEXT_BYTES) }
 {
     match words {
         [name, digits, text] => both(master(sizes, name), both(size(digits), bytes(alloc, text))),

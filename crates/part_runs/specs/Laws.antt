@@ -12,6 +12,7 @@ use Rattle.world_rules.specs.Headline.{Premises}
 use Rattle.world_rules.specs.Scenarios.{setup_of}
 use Rattle.run_lines.specs.Runs.{pieces, is_empty}
 use Rattle.parity_parts.specs.declared.part.Part.{Part}
+use Rattle.parity_parts.specs.declared.limits.TheConstants.{MOST_TEXT_BYTES}
 use Rattle.parity_parts.specs.Parts.{AreBytes}
 use Rattle.part_lines.specs.declared.told.Told.{Told}
 use Rattle.part_lines.specs.Laws.{RiseFrom, IsRebuilt, own_part}
@@ -24,7 +25,7 @@ pub record IsOfDigest (f : ℕ) (digest : List ℕ) (part : Part) : Type 0 where
   pub text : List ℕ
   pub bytes : AreBytes text
   pub some : 1 ≤ length text
-  pub few : length text ≤ 65536
+  pub few : length text ≤ MOST_TEXT_BYTES
   pub is_digest : sha256 text ≡ digest
   pub own : part ≡ own_part f text part.master
 

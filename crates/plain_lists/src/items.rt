@@ -1,9 +1,12 @@
-ghost use Rattle.std.specs.Prelude.{◌≡◌, ◌↔◌, ◌++◌, ◌∷◌, ◌<◌, List, [], length, IsTrue, OnOk, OnErr, IfOk, option_copied, option_to_list, slice_get};
+ghost use Rattle.std.specs.Prelude.{◌≡◌, ◌↔◌, ◌++◌, ◌∷◌, ◌<◌, ◌^◌, List, [], length, IsTrue, OnOk, OnErr, IfOk, option_copied, option_to_list, slice_get};
+ghost use Rattle.std.specs.Slice.Iter.{iter_rest};
+ghost use Rattle.std.specs.Iterator.Adapters.{IterYieldsInOrder};
 
 use crate::copied::{Copied, Same, copy_all};
 use crate::want::Want;
 use std::alloc::Global;
 use std::marker::Model;
+use std::slice::Iter;
 
 /// A list that contracts see as the list of its elements.
 #[derive(Drop)]
@@ -63,6 +66,16 @@ impl<T: Drop> Items<T> {
         self.items.as_slice()
     }
 
+    /// The elements in order, lent one by one.
+    pub fn iter(&self) -> Iter<'_, T>
+        ensures rest { iter_rest result ≡ self.now }
+        ensures len { length (iter_rest result) ≡ length self.now }
+        ensures bound { length (iter_rest result) < 2 ^ 64 }
+        ensures runs { IterYieldsInOrder T }
+    {
+        self.items.iter()
+    }
+
     pub fn get(&self, place: usize) -> Option<&T>
         ensures { option_copied result ≡ slice_get self.now place }
     {
@@ -75,6 +88,18 @@ impl<T: Drop> Items<T> {
     {
         let Items { alloc: _, items } = self;
         items
+    }
+}
+
+impl<'a, T: Drop> IntoIterator for &'a Items<T> {
+    type Item = &'a T;
+
+    type IntoIter = Iter<'a, T>;
+
+    ghost into_iter_gives = { λ list elements. (iter_rest elements ≡ list.now) × (length (iter_rest elements) < 2 ^ 64) × IterYieldsInOrder T };
+
+    fn into_iter(self) -> Iter<'a, T> {
+        self.items.iter()
     }
 }
 

@@ -18,12 +18,16 @@ fn an_overload_is_raised_and_cleared(rt: HostRuntime) -> Result<(), Fail> {
     let rule = overload(rt.alloc())?.copy()?;
     let mut alarms = Alarms::make(rt.alloc(), &[rule])?;
     assert_eq!(rt; alarms.find("overload"), Some(0));
-    let told = alarms.see(0, 9000)?;
-    assert_eq!(rt; told.as_slice(), [Change::Raised { alarm: 0 }].as_slice());
-    assert!(rt; alarms.raised(0));
-    assert!(rt; alarms.see(0, 8500)?.is_empty());
-    let told = alarms.see(0, 8499)?;
-    assert_eq!(rt; told.as_slice(), [Change::Cleared { alarm: 0 }].as_slice());
+    let raised = [Change::Raised { alarm: 0 }];
+    let cleared = [Change::Cleared { alarm: 0 }];
+    for (value, told, is_raised) in [
+        (9000, raised.as_slice(), true),
+        (8500, &raised[..0], true),
+        (8499, cleared.as_slice(), false),
+    ] {
+        assert_eq!(rt; alarms.see(0, value)?.as_slice(), told);
+        assert_eq!(rt; alarms.raised(0), is_raised);
+    }
     assert_eq!(rt; alarms.acknowledge(0), Err(NoAlarm));
     assert_eq!(rt; alarms.acknowledge(1), Err(NoAlarm));
     let _ = alarms.see(0, 20000)?;

@@ -104,12 +104,16 @@ fn refused(trend: &Trend, point: u32, first: u64, last: u64) -> Option<TrendAnsw
 fn trend(alloc: Global) -> Result<Trend, Want> {
     let plant = plant(alloc)?;
     let mut trend = Trend::make(alloc, &plant)?;
-    read(&mut trend, 0, 0, 9500)?;
-    read(&mut trend, 0, 0, 9500)?;
-    read(&mut trend, 1, 0, 100)?;
-    read(&mut trend, 0, 0, 20001)?;
-    read(&mut trend, 0, 0, -20)?;
-    read(&mut trend, 1, 1, 7)?;
+    for (client, point, value) in [
+        (0, 0, 9500),
+        (0, 0, 9500),
+        (1, 0, 100),
+        (0, 0, 20001),
+        (0, 0, -20),
+        (1, 1, 7),
+    ] {
+        read(&mut trend, client, point, value)?;
+    }
     Ok(trend)
 }
 
@@ -131,11 +135,15 @@ fn a_trend_has_the_changes_of_a_range(rt: HostRuntime) -> Result<(), Fail> {
         value: 7,
     }];
     assert_eq!(rt; trend.executed(), 6);
-    assert_eq!(rt; found(&trend, 0, 1, 6)?.as_slice(), feeder.as_slice());
-    assert_eq!(rt; found(&trend, 0, 2, 6)?.as_slice(), &feeder[1..]);
-    assert_eq!(rt; found(&trend, 0, 1, 4)?.as_slice(), &feeder[..1]);
-    assert!(rt; found(&trend, 1, 1, 5)?.is_empty());
-    assert_eq!(rt; found(&trend, 1, 6, 6)?.as_slice(), pump.as_slice());
+    for (point, first, last, changes) in [
+        (0, 1, 6, feeder.as_slice()),
+        (0, 2, 6, &feeder[1..]),
+        (0, 1, 4, &feeder[..1]),
+        (1, 1, 5, &feeder[..0]),
+        (1, 6, 6, pump.as_slice()),
+    ] {
+        assert_eq!(rt; found(&trend, point, first, last)?.as_slice(), changes);
+    }
     Ok(())
 }
 

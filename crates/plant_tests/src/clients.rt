@@ -10,6 +10,7 @@ use play_words::{Input, Word};
 use point_table::{Area, DeviceSizes, Point};
 use quorum_sets::Sizes;
 use std::alloc::Global;
+use std::process::Abort;
 use std::test::Fail;
 use world_entries::{Entry, Event};
 
@@ -44,36 +45,41 @@ fn points(alloc: Global) -> Result<Items<Point>, Want>
     Ok(points)
 }
 
-#[test]
-fn a_proxy_says_a_change_once(rt: HostRuntime) -> Result<(), Fail> {
-    let alloc = rt.alloc();
+/// A breaker behind proxy 0.
+fn proxy(alloc: Global) -> Result<Proxy, Fail> {
     let plant = Plant {
         devices: devices(alloc)?,
         points: points(alloc)?,
         alarms: Items::new(alloc),
         interlocks: Items::new(alloc),
     };
-    let mut proxy = Proxy::make(alloc, 0, Sizes::new(1, 0)?, &plant)?;
+    Ok(Proxy::make(alloc, 0, Sizes::new(1, 0)?, &plant)?)
+}
+
+/// How many words a proxy says at a copy of this event.
+fn many_said(
+    rt: &impl Abort,
+    alloc: Global,
+    proxy: &mut Proxy,
+    event: &Event,
+) -> Result<usize, Want> {
+    assert!(rt; proxy.updates() < 8);
+    Ok(answer_at_proxy(alloc, proxy, &event.copy()?, 4)?.len())
+}
+
+#[test]
+fn a_proxy_says_a_change_once(rt: HostRuntime) -> Result<(), Fail> {
+    let alloc = rt.alloc();
+    let mut proxy = proxy(alloc)?;
     let change = Event::Field {
         area: Area::Coil,
         place: 0,
         value: 1,
     };
-    assert!(rt; proxy.updates() < 8);
-    assert_eq!(rt;
-        answer_at_proxy(alloc, &mut proxy, &change.copy()?, 4)?.len(),
-        0
-    );
-    assert!(rt; proxy.updates() < 8);
-    assert_eq!(rt;
-        answer_at_proxy(alloc, &mut proxy, &Event::Poll, 4)?.len(),
-        1
-    );
-    assert!(rt; proxy.updates() < 8);
-    assert_eq!(rt;
-        answer_at_proxy(alloc, &mut proxy, &Event::Poll, 4)?.len(),
-        0
-    );
+    let events = [change, Event::Poll, Event::Poll];
+    for (event, many) in events.iter().zip([0, 1, 0]) {
+        assert_eq!(rt; many_said(&rt, alloc, &mut proxy, event)?, many);
+    }
     Ok(())
 }
 

@@ -47,34 +47,28 @@ fn a_device_answers_in_frames(rt: HostRuntime) -> Result<(), Fail> {
 fn a_device_answers_with_exceptions(rt: HostRuntime) -> Result<(), Fail> {
     let alloc = rt.alloc();
     let mut device = Device::make(alloc, &SIZES)?;
-    let no_place = replied(
-        alloc,
-        &mut device,
-        b"\x00\x03\x00\x00\x00\x06\x01\x05\x00\x09\xff\x00",
-    )?;
-    assert_eq!(rt;
-        no_place.as_slice(),
-        b"\x00\x03\x00\x00\x00\x03\x01\x85\x02".as_slice()
-    );
-    let no_function = replied(alloc, &mut device, b"\x00\x04\x00\x00\x00\x02\x01\x07")?;
-    assert_eq!(rt;
-        no_function.as_slice(),
-        b"\x00\x04\x00\x00\x00\x03\x01\x87\x01".as_slice()
-    );
-    let too_many = replied(
-        alloc,
-        &mut device,
-        b"\x00\x05\x00\x00\x00\x06\x01\x03\xff\xff\x00\x7e",
-    )?;
-    assert_eq!(rt;
-        too_many.as_slice(),
-        b"\x00\x05\x00\x00\x00\x03\x01\x83\x03".as_slice()
-    );
-    let high_function = replied(alloc, &mut device, b"\x00\x06\x00\x00\x00\x02\x01\x91")?;
-    assert_eq!(rt;
-        high_function.as_slice(),
-        b"\x00\x06\x00\x00\x00\x03\x01\x91\x01".as_slice()
-    );
+    // no such place, no such function, too many places, a function above 127
+    let exchanges = [
+        (
+            b"\x00\x03\x00\x00\x00\x06\x01\x05\x00\x09\xff\x00".as_slice(),
+            b"\x00\x03\x00\x00\x00\x03\x01\x85\x02".as_slice(),
+        ),
+        (
+            b"\x00\x04\x00\x00\x00\x02\x01\x07".as_slice(),
+            b"\x00\x04\x00\x00\x00\x03\x01\x87\x01".as_slice(),
+        ),
+        (
+            b"\x00\x05\x00\x00\x00\x06\x01\x03\xff\xff\x00\x7e".as_slice(),
+            b"\x00\x05\x00\x00\x00\x03\x01\x83\x03".as_slice(),
+        ),
+        (
+            b"\x00\x06\x00\x00\x00\x02\x01\x91".as_slice(),
+            b"\x00\x06\x00\x00\x00\x03\x01\x91\x01".as_slice(),
+        ),
+    ];
+    for (frame, reply) in exchanges {
+        assert_eq!(rt; replied(alloc, &mut device, frame)?.as_slice(), reply);
+    }
     Ok(())
 }
 
@@ -88,42 +82,28 @@ fn many_places_are_written_and_read(rt: HostRuntime) -> Result<(), Fail> {
         input: 0,
     };
     let mut device = Device::make(alloc, &sizes)?;
-    let coils = replied(
-        alloc,
-        &mut device,
-        b"\x00\x07\x00\x00\x00\x09\x11\x0f\x00\x13\x00\x0a\x02\xcd\x01",
-    )?;
-    assert_eq!(rt;
-        coils.as_slice(),
-        b"\x00\x07\x00\x00\x00\x06\x11\x0f\x00\x13\x00\x0a".as_slice()
-    );
-    let bits = replied(
-        alloc,
-        &mut device,
-        b"\x00\x08\x00\x00\x00\x06\x11\x01\x00\x12\x00\x0b",
-    )?;
-    assert_eq!(rt;
-        bits.as_slice(),
-        b"\x00\x08\x00\x00\x00\x05\x11\x01\x02\x9a\x03".as_slice()
-    );
-    let registers = replied(
-        alloc,
-        &mut device,
-        b"\x00\x08\x00\x00\x00\x0b\x11\x10\x00\x01\x00\x02\x04\x00\x0a\x01\x02",
-    )?;
-    assert_eq!(rt;
-        registers.as_slice(),
-        b"\x00\x08\x00\x00\x00\x06\x11\x10\x00\x01\x00\x02".as_slice()
-    );
+    // coils written and read, registers written and read
+    let exchanges = [
+        (
+            b"\x00\x07\x00\x00\x00\x09\x11\x0f\x00\x13\x00\x0a\x02\xcd\x01".as_slice(),
+            b"\x00\x07\x00\x00\x00\x06\x11\x0f\x00\x13\x00\x0a".as_slice(),
+        ),
+        (
+            b"\x00\x08\x00\x00\x00\x06\x11\x01\x00\x12\x00\x0b".as_slice(),
+            b"\x00\x08\x00\x00\x00\x05\x11\x01\x02\x9a\x03".as_slice(),
+        ),
+        (
+            b"\x00\x08\x00\x00\x00\x0b\x11\x10\x00\x01\x00\x02\x04\x00\x0a\x01\x02".as_slice(),
+            b"\x00\x08\x00\x00\x00\x06\x11\x10\x00\x01\x00\x02".as_slice(),
+        ),
+        (
+            b"\x00\x09\x00\x00\x00\x06\x11\x03\x00\x00\x00\x03".as_slice(),
+            b"\x00\x09\x00\x00\x00\x09\x11\x03\x06\x00\x00\x00\x0a\x01\x02".as_slice(),
+        ),
+    ];
+    for (frame, reply) in exchanges {
+        assert_eq!(rt; replied(alloc, &mut device, frame)?.as_slice(), reply);
+    }
     assert_eq!(rt; device.value(Area::Holding, 2), Some(0x0102));
-    let read = replied(
-        alloc,
-        &mut device,
-        b"\x00\x09\x00\x00\x00\x06\x11\x03\x00\x00\x00\x03",
-    )?;
-    assert_eq!(rt;
-        read.as_slice(),
-        b"\x00\x09\x00\x00\x00\x09\x11\x03\x06\x00\x00\x00\x0a\x01\x02".as_slice()
-    );
     Ok(())
 }

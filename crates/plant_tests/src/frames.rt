@@ -285,25 +285,22 @@ fn the_first_fault_is_named(rt: HostRuntime) {
     let alloc = rt.alloc();
     let short = Some(ModbusRefusal::Short);
     let bad_length = Some(ModbusRefusal::BadLength);
-    assert_eq!(rt; refused(alloc, b"\x00\x01\x00\x01\x00\x06"), short);
-    assert_eq!(rt;
-        refused(alloc, b"\x00\x01\x00\x01\x00\x06\x01"),
-        Some(ModbusRefusal::BadProtocol)
-    );
-    assert_eq!(rt; refused(alloc, b"\x00\x01\x00\x00\x00\x01\x01"), bad_length);
-    assert_eq!(rt; refused(alloc, b"\x00\x01\x00\x00\x00\x06\x01\x05"), short);
-    assert_eq!(rt;
-        refused(alloc, b"\x00\x01\x00\x00\x00\x02\x01\x07\x00"),
-        Some(ModbusRefusal::Trailing)
-    );
-    assert_eq!(rt;
-        refused(alloc, b"\x00\x01\x00\x00\x00\x03\x01\x05\x00"),
-        bad_length
-    );
-    assert_eq!(rt;
-        refused(alloc, b"\x00\x01\x00\x00\x00\x03\x01\x07\x00"),
-        None
-    );
+    let bad_protocol = Some(ModbusRefusal::BadProtocol);
+    let trailing = Some(ModbusRefusal::Trailing);
+    for (bytes, refusal) in [
+        (b"\x00\x01\x00\x01\x00\x06".as_slice(), short),
+        (b"\x00\x01\x00\x01\x00\x06\x01".as_slice(), bad_protocol),
+        (b"\x00\x01\x00\x00\x00\x01\x01".as_slice(), bad_length),
+        (b"\x00\x01\x00\x00\x00\x06\x01\x05".as_slice(), short),
+        (b"\x00\x01\x00\x00\x00\x02\x01\x07\x00".as_slice(), trailing),
+        (
+            b"\x00\x01\x00\x00\x00\x03\x01\x05\x00".as_slice(),
+            bad_length,
+        ),
+        (b"\x00\x01\x00\x00\x00\x03\x01\x07\x00".as_slice(), None),
+    ] {
+        assert_eq!(rt; refused(alloc, bytes), refusal);
+    }
     assert_eq!(rt; read_reply(alloc, b"\x00\x01\x00\x00\x00").err(), short);
     assert_eq!(rt;
         read_reply(alloc, b"\x00\x01\x00\x00\x00\x02\x01\x07").err(),

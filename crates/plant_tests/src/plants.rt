@@ -141,25 +141,36 @@ fn notice(what: NoticeKind, t: u64, number: u32) -> Order {
     Order::Notice(Notice { what, t, number })
 }
 
+/// A master over a copy of that plant, with one screen.
+fn master(alloc: Global) -> Result<Master, RuleRefusal> {
+    let plant = plant(alloc)?.copy()?;
+    Ok(Master::make(alloc, &plant, 1)?)
+}
+
+/// Has a master apply two proxies' readings, and then what an operator asks for.
+fn apply_all(master: &mut Master) -> Result<(), Want> {
+    let overloaded = Op::Reading {
+        point: 0,
+        value: 9500,
+    };
+    for (client, t, op) in [
+        (0, 1, overloaded),
+        (1, 2, Op::Reading { point: 1, value: 0 }),
+        (2, 1, Op::Set { point: 1, value: 1 }),
+        (2, 2, Op::Ack { alarm: 0 }),
+        (2, 3, Op::Set { point: 1, value: 0 }),
+        (2, 4, Op::Set { point: 2, value: 1 }),
+    ] {
+        apply(master, client, t, op)?;
+    }
+    Ok(())
+}
+
 #[test]
 fn a_plant_as_users_have_it(rt: HostRuntime) -> Result<(), Fail> {
-    let plant = plant(rt.alloc())?.copy()?;
-    let mut master = Master::make(rt.alloc(), &plant, 1)?;
+    let mut master = master(rt.alloc())?;
     let master = &mut master;
-    apply(
-        master,
-        0,
-        1,
-        Op::Reading {
-            point: 0,
-            value: 9500,
-        },
-    )?;
-    apply(master, 1, 2, Op::Reading { point: 1, value: 0 })?;
-    apply(master, 2, 1, Op::Set { point: 1, value: 1 })?;
-    apply(master, 2, 2, Op::Ack { alarm: 0 })?;
-    apply(master, 2, 3, Op::Set { point: 1, value: 0 })?;
-    apply(master, 2, 4, Op::Set { point: 2, value: 1 })?;
+    apply_all(master)?;
     let shown = [
         notice(NoticeKind::Raised, 0, 0),
         notice(NoticeKind::Denied, 1, 0),

@@ -104,17 +104,28 @@ fn reading(t: u64, point: u32, value: i64) -> Update {
     }
 }
 
+/// Has a proxy take what these masters vouch for.
+fn take(proxy: &mut Proxy, votes: &[(u32, Voucher)]) -> Result<(), Want> {
+    for (signer, voucher) in votes {
+        proxy.take_voucher(*signer, voucher)?;
+    }
+    Ok(())
+}
+
 #[test]
 fn writes_wait_for_two_masters_and_their_turn(rt: HostRuntime) -> Result<(), Fail> {
     let mut proxy = proxy(rt.alloc(), 0)?;
-    proxy.take_voucher(0, &write(0, 2, 1, 1))?;
-    proxy.take_voucher(1, &write(0, 2, 1, 1))?;
-    proxy.take_voucher(0, &write(0, 1, 1, 0))?;
-    proxy.take_voucher(0, &write(0, 1, 1, 0))?;
-    proxy.take_voucher(3, &write(0, 1, 2, 0))?;
-    proxy.take_voucher(4, &write(0, 1, 1, 0))?;
+    let votes = [
+        (0, write(0, 2, 1, 1)),
+        (1, write(0, 2, 1, 1)),
+        (0, write(0, 1, 1, 0)),
+        (0, write(0, 1, 1, 0)),
+        (3, write(0, 1, 2, 0)),
+        (4, write(0, 1, 1, 0)),
+    ];
+    take(&mut proxy, &votes)?;
     assert!(rt; proxy.writes().is_empty());
-    proxy.take_voucher(2, &write(0, 1, 1, 0))?;
+    take(&mut proxy, &[(2, write(0, 1, 1, 0))])?;
     assert_eq!(rt;
         proxy.writes(),
         [kept(1, 1, 0, None), kept(2, 1, 1, None)].as_slice()
@@ -133,8 +144,8 @@ fn writes_wait_for_two_masters_and_their_turn(rt: HostRuntime) -> Result<(), Fai
 #[test]
 fn a_place_that_lacks_is_written_with_an_exception(rt: HostRuntime) -> Result<(), Fail> {
     let mut proxy = proxy(rt.alloc(), 1)?;
-    proxy.take_voucher(0, &write(1, 1, 2, 1))?;
-    proxy.take_voucher(2, &write(1, 1, 2, 1))?;
+    let vote = write(1, 1, 2, 1);
+    take(&mut proxy, &[(0, vote), (2, vote)])?;
     assert_eq!(rt; proxy.writes(), [kept(1, 2, 1, Some(2))].as_slice());
     assert!(rt; polled(&rt, &mut proxy, 8)?.is_empty());
     Ok(())

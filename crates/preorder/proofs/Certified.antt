@@ -22,8 +22,9 @@ use Rattle.protocol_rules.specs.Group.{Group}
 use Rattle.protocol_rules.specs.Words.{or_else}
 use Rattle.protocol_rules.specs.Preorder.{certified, is_acked, is_ack, updates_requested, update_requested}
 use Rattle.preorder.specs.Index.{same_pair, has_digest, CertifiesAt}
-use Rattle.preorder.proofs.Choice.{same_pair-same, find-push, list_any-push}
+use Rattle.preorder.proofs.Choice.{find-push, list_any-push}
 use Rattle.protocol_rules.proofs.FirstMet.{first_met-none, first_met-push}
+use Rattle.protocol_rules.proofs.Keys.{same_pair-same}
 
 -- the update requested as (j, k) that has a quorum, over one list
 abbrev candidate : Group → List (Signed Body) → ℕ → ℕ → Option Update

@@ -1,6 +1,6 @@
 -- Words of other kinds change nothing of pre-ordering: each of its parts goes by the elements of a list that count, so
 -- two lists that have the same ones make the same of it.
-use Rattle.std.proofs.Common.{◌≡◌, ℕ, Bool, true, false, cond, List, [], ◌∷◌, ◌++◌, Option, Some, None, filter}
+use Rattle.std.proofs.Common.{◌≡◌, ℕ, Bool, true, false, cond, List, [], ◌∷◌, ◌++◌, Option, None, filter}
 use Rattle.std.proofs.Common.{length, nat_eq, is_some, refl, sym, ◌∙◌, ap, append-nil}
 use Rattle.std.specs.Prelude.{slice_index}
 use Rattle.std.specs.List.{list_any, find, filter_map}
@@ -25,24 +25,7 @@ use Rattle.preorder.specs.PreorderState.{PreorderState, IsPreorderOf}
 use Rattle.protocol_rules.proofs.FirstMet.{met-again}
 use Rattle.preorder.proofs.Runs.{reaches-same}
 use Rattle.preorder.proofs.Others.{pending-same}
-
-filter_map-passed : {X Y : Type 0} (f : X → Option Y) (x : X) (xs ys : List X) (o : Option Y) → f x ≡ o →
-    filter_map f ys ≡ filter_map f xs → filter_map f (x ∷ ys) ≡ filter_map f (x ∷ xs)
-filter_map-passed f x xs ys None is rest = rw is rest
-filter_map-passed f x xs ys (Some y) is rest = rw is (ap (λ zs. y ∷ zs) rest)
-
-filter_map-step : {X Y : Type 0} (f : X → Option Y) (p : X → Bool) (x : X) (xs : List X) (b : Bool) → p x ≡ b →
-    (p x ≡ false → f x ≡ None) → filter_map f (filter p xs) ≡ filter_map f xs →
-    filter_map f (filter p (x ∷ xs)) ≡ filter_map f (x ∷ xs)
-filter_map-step f p x xs true e none rest = rw e (filter_map-passed f x xs (filter p xs) (f x) refl rest)
-filter_map-step f p x xs false e none rest = rw e (rw (none e) rest)
-
--- what a function gives of a list's elements is what it gives of those that pass a test, where it gives nothing of the
--- others
-filter_map-filter : {X Y : Type 0} (f : X → Option Y) (p : X → Bool) → ((x : X) → p x ≡ false → f x ≡ None) →
-    (xs : List X) → filter_map f (filter p xs) ≡ filter_map f xs
-filter_map-filter f p none [] = refl
-filter_map-filter f p none (x ∷ xs) = filter_map-step f p x xs (p x) refl (none x) (filter_map-filter f p none xs)
+use Rattle.plain_lists.proofs.Lists.{filter_map-filter}
 
 first_met-step : {F X : Type 0} (met : List F → Option X) (p : F → Bool) (seen xs : List F) (x : F) (b : Bool) →
     p x ≡ b → met (filter p seen) ≡ met seen →

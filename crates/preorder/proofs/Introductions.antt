@@ -23,7 +23,7 @@ use Rattle.protocol_rules.specs.Preorder.{update_of, request_in, requests_said, 
 use Rattle.protocol_rules.specs.Preorder.{requests_due}
 use Rattle.preorder.specs.declared.requests.Counts.{Counts}
 use Rattle.preorder.specs.Counted.{IsCounted}
-use Rattle.protocol_rules.proofs.Numbers.{numbers_from-suc}
+use Rattle.protocol_rules.proofs.Numbers.{numbers_from-suc, numbers_from-more}
 
 -- the request of the update found, or none
 abbrev pub request_of : List Body → Option (Signed Update) → List Body
@@ -171,11 +171,6 @@ pub requests_due-none : (g : Group) (me : ℕ) (taken : List (Signed Body)) (sai
     requests_due g me taken said (numbers_from 0 0) ≡ []
 unfolding numbers_from
 requests_due-none g me taken said = refl
-
-pub numbers_from-more : (start count : ℕ) → numbers_from start (count + 1) ≡ numbers_from start count
-    ++ (start + count) ∷ []
-numbers_from-more start count = let e : count + 1 ≡ suc count = omega arith in ap (numbers_from start) e
-    ∙ numbers_from-suc start count
 
 -- the numbers from 0 on are those below one
 pub from_below : (n : ℕ) → numbers_from 0 n ≡ numbers_below n

@@ -20,7 +20,8 @@ use Rattle.protocol_rules.specs.Preorder.{updates_requested, update_requested, c
 use Rattle.preorder.specs.declared.firsts.First.{First}
 use Rattle.preorder.specs.Index.{PairMap, BallotMap, same_pair, at_pair, same_ballot, at_ballot, HasFirsts, HasReach}
 use Rattle.preorder.specs.Index.{Reaches, HasPending, IsPending}
-use Rattle.preorder.proofs.Choice.{first_of_list-push, or_else-none, same_pair-same}
+use Rattle.protocol_rules.proofs.FirstMet.{first_of_list-push, or_else-none}
+use Rattle.protocol_rules.proofs.Keys.{same_pair-same}
 
 first-other : (known : List (Signed Body)) (x : Signed Body) → ((j k : ℕ) → update_requested j k x ≡ None) → (j k : ℕ) →
     first_of_list (updates_requested (known ++ x ∷ []) j k) ≡ first_of_list (updates_requested known j k)

@@ -16,8 +16,7 @@ use Rattle.protocol_rules.specs.Group.{Group, most_number}
 use Rattle.protocol_rules.specs.Words.{numbers_from, first_of_list}
 use Rattle.protocol_rules.specs.Preorder.{ack_due, acks, updates_requested, certified, vector}
 use Rattle.preorder.specs.Index.{HasPending, IsPending, Reaches}
-use Rattle.preorder.proofs.Introductions.{numbers_from-more}
-use Rattle.protocol_rules.proofs.Numbers.{run-length, head}
+use Rattle.protocol_rules.proofs.Numbers.{run-length, head, numbers_from-more}
 
 tail : {X : Type 0} (f : ℕ → List X) (start count most : ℕ) → most ≤ count → ((k : ℕ) → start + most ≤ k → f k ≡ []) →
     flat_map f (numbers_from start count) ≡ flat_map f (numbers_from start most)
@@ -70,10 +69,6 @@ pub flat_map-more : {X : Type 0} (f : ℕ → List X) (start count : ℕ) →
 flat_map-more f start count = ap (flat_map f) (numbers_from-more start count)
     ∙ flat_map-append f (numbers_from start count) ((start + count) ∷ [])
     ∙ ap (λ xs. flat_map f (numbers_from start count) ++ xs) (append-nil (f (start + count)))
-
-pub flat_map-none : {X : Type 0} (f : ℕ → List X) (start : ℕ) → flat_map f (numbers_from start 0) ≡ []
-unfolding numbers_from
-flat_map-none f start = refl
 
 pub flat_map-below-none : {X : Type 0} (f : ℕ → List X) → flat_map f (numbers_below 0) ≡ []
 unfolding numbers_below

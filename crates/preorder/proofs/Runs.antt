@@ -12,7 +12,8 @@ use Rattle.protocol_rules.specs.Words.{or_else}
 use Rattle.protocol_rules.specs.Preorder.{certified}
 use Rattle.preorder.specs.Index.{PairMap, same_pair, at_pair, Reaches, ReachesLess, SameElsewhere, HasCertified}
 use Rattle.preorder.specs.Index.{HasReach, CertifiesAt}
-use Rattle.preorder.proofs.Choice.{same_pair-same, none_there}
+use Rattle.protocol_rules.proofs.Keys.{same_pair-same}
+use Rattle.protocol_rules.proofs.FirstMet.{none_there}
 
 pub reaches-more : (f : ℕ → Option Update) (reach : ℕ) → ReachesLess f reach → reach < 4096 →
     true ≡ is_some (f (reach + 1)) → ReachesLess f (reach + 1)

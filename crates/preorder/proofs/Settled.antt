@@ -28,9 +28,9 @@ use Rattle.preorder.specs.Counted.{IsCounted}
 use Rattle.preorder.specs.Index.{PairMap, same_pair, at_pair, HasFirsts, IsKnownFirst, IsPending, AcknowledgesKnown}
 use Rattle.preorder.specs.Index.{first_update}
 use Rattle.preorder.specs.PreorderState.{bodies_due}
-use Rattle.preorder.proofs.Choice.{same_pair-same}
 use Rattle.preorder.proofs.Introductions.{next-is, request_of, from_below}
 use Rattle.protocol_rules.proofs.Numbers.{any-from}
+use Rattle.protocol_rules.proofs.Keys.{same_pair-same}
 
 any-below : {X : Type 0} (p : X → Bool) (f : ℕ → List X) (n k : ℕ) → k < n → list_any p (f k) ≡ true →
     list_any p (flat_map f (numbers_below n)) ≡ true

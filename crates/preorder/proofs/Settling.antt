@@ -17,7 +17,8 @@ use Rattle.protocol_rules.specs.Preorder.{updates_requested, acks}
 use Rattle.preorder.specs.declared.firsts.First.{First}
 use Rattle.preorder.specs.Index.{PairMap, same_pair, at_pair, HasFirsts, IsKnownFirst, first_update, is_settled}
 use Rattle.preorder.specs.Index.{with_ack}
-use Rattle.preorder.proofs.Choice.{same_pair-same, list_any-push}
+use Rattle.preorder.proofs.Choice.{list_any-push}
+use Rattle.protocol_rules.proofs.Keys.{same_pair-same}
 
 -- a write to a key that is there needs no memory
 pub never-full : {A E X : Type 0} (r : Result A E) (there : Option X) (x : X) → Some x ≡ there →

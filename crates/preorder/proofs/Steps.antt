@@ -22,8 +22,11 @@ use Rattle.preorder.specs.declared.ballots.Ballot.{Ballot}
 use Rattle.preorder.specs.Index.{PairMap, BallotMap, same_pair, at_pair, same_ballot, at_ballot, HasUpdates}
 use Rattle.preorder.specs.Index.{HasFirsts, IsKnownFirst, HasBallots, has_digest, first_update, ballot_update}
 use Rattle.preorder.specs.Index.{ballot_has, is_settled}
-use Rattle.preorder.proofs.Choice.{same_pair-same, same_ballot-same, stays, taken, none_there, nat_eq-swap}
-use Rattle.preorder.proofs.Choice.{first_of_list-push, find-push, list_any-push, or_else-none}
+use Rattle.preorder.proofs.Choice.{same_ballot-same}
+use Rattle.preorder.proofs.Choice.{find-push, list_any-push}
+use Rattle.protocol_rules.proofs.Keys.{same_pair-same}
+use Rattle.protocol_rules.proofs.FirstMet.{stays, taken, none_there, first_of_list-push, or_else-none}
+use Rattle.plain_lists.proofs.Booleans.{nat_eq-flipped}
 
 -- updates
 
@@ -247,7 +250,7 @@ has_ballots-voted known x ballot map after update voters put has j k d =
         voters m below ∙ ap (λ at. nat_eq m x.signer || ballot_has (at_ballot map at) m)
         (same_ballot-same (x.body.j, x.body.k, x.body.digest) (j, k, d) e)
         ∙ swap (nat_eq m x.signer) (ballot_has (at_ballot map (j, k, d)) m)
-        ∙ ap (λ b. ballot_has (at_ballot map (j, k, d)) m || (b && true)) (nat_eq-swap m x.signer)
+        ∙ ap (λ b. ballot_has (at_ballot map (j, k, d)) m || (b && true)) (nat_eq-flipped m x.signer)
     with_vote false e m below =
         sym (ap (λ b. ballot_has (at_ballot map (j, k, d)) m || b) (and_right (nat_eq x.signer m) false refl)
         ∙ or-false _)

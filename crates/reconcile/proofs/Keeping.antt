@@ -19,13 +19,14 @@ use Rattle.protocol_rules.specs.Words.{or_else, first_of_list}
 use Rattle.protocol_rules.specs.Preorder.{certified}
 use Rattle.protocol_rules.specs.Reconcile.{ack_of, request_of, quorum_of_acks}
 use Rattle.preorder.specs.Index.{same_ballot}
-use Rattle.preorder.proofs.Choice.{same_ballot-same, stays, taken, none_there, first_of_list-push, or_else-none}
+use Rattle.preorder.proofs.Choice.{same_ballot-same}
 use Rattle.protocol_rules.proofs.Keys.{same_vote-same}
 use Rattle.protocol_rules.specs.Keys.{Vote, same_vote}
 use Rattle.reconcile.specs.GiftState.{GiftState, Ballot, request_at, ack_among, request_with, signed_ack, AreGiftsOf}
 use Rattle.reconcile.specs.Giving.{give_with, gift_of}
 use Rattle.reconcile.proofs.First.{first_is}
-use Rattle.protocol_rules.proofs.FirstMet.{option_map-or_else}
+use Rattle.protocol_rules.proofs.FirstMet.{option_map-or_else, stays, taken, none_there, or_else-none}
+use Rattle.protocol_rules.proofs.FirstMet.{first_of_list-push}
 use Rattle.plain_lists.proofs.Booleans.{regroup}
 
 -- the entries keep what they have, and take the value where the key had none

@@ -21,6 +21,7 @@ use Rattle.interlocks.specs.Formula.{Formula}
 use Rattle.interlocks.specs.Reading.{Names, read_rule}
 use Rattle.interlocks.specs.Tokens.{token_of}
 use Rattle.master_points.specs.declared.plant.Plant.{Plant}
+use Rattle.master_points.specs.declared.limits.TheConstants.{MOST_INTERLOCKS, MOST_PROXIES}
 use Rattle.scenario_file.specs.Answers.{Answer, ◌>>=◌, kept, or_bad}
 use Rattle.scenario_file.specs.Values.{integer_at, integer_or, integer_in, count_at, text_at, least, most}
 use Rattle.scenario_file.specs.Values.{greatest_count}
@@ -137,7 +138,7 @@ interlock_in names before at t = do
   Ok (record { name = name; point = point; value = value; deny = deny })
 
 unfoldable pub devices_of : Members → Answer (List DeviceSizes)
-devices_of doc = rows_of device_in (codes "proxy") (Some 8) doc
+devices_of doc = rows_of device_in (codes "proxy") (Some MOST_PROXIES) doc
 
 unfoldable pub points_of : ℕ → Members → Answer (List Point)
 points_of devices doc = rows_of (point_in devices) (codes "point") (Some 1024) doc
@@ -146,7 +147,7 @@ unfoldable pub alarms_of : List Point → Members → Answer (List AlarmRule)
 alarms_of points doc = rows_of (alarm_in points) (codes "alarm") (Some 256) doc
 
 unfoldable pub interlocks_of : Names → Members → Answer (List Interlock)
-interlocks_of names doc = rows_of (interlock_in names) (codes "interlock") (Some 64) doc
+interlocks_of names doc = rows_of (interlock_in names) (codes "interlock") (Some MOST_INTERLOCKS) doc
 
 -- the lists in the order in which they are tried, each whole
 unfoldable pub plant_of : Members → Answer Plant

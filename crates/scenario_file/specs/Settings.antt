@@ -4,6 +4,7 @@ use Rattle.toml.specs.Data.{Data, integer, array, no_items, item, Members}
 use Rattle.quorum_sets.specs.Quorum.{group_size}
 use Rattle.quorum_sets.specs.Masters.{has_master, voters}
 use Rattle.quorum_sets.specs.declared.limits.TheConstants.{MOST_MASTERS}
+use Rattle.master_points.specs.declared.limits.TheConstants.{MOST_SCREENS}
 use Rattle.scenario_file.specs.Answers.{Answer, ◌>>=◌}
 use Rattle.scenario_file.specs.Values.{count_at, count_or, bytes_at, or_default}
 use Rattle.scenario_file.specs.Lists.{list_in, numbers_in}
@@ -53,5 +54,5 @@ settings_of doc = do
   heights ← levels_of doc
   frames ← count_or [] (codes "frames") 1 1 2 doc
   intruded ← intruded_of (group_size f k) doc
-  screens ← count_at [] (codes "screens") 1 4 doc
+  screens ← count_at [] (codes "screens") 1 MOST_SCREENS doc
   Ok (record { f = f; k = k; seed = seed; heights = heights; frames = frames; intruded = intruded; screens = screens })

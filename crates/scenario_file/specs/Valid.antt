@@ -13,6 +13,7 @@ use Rattle.alarm_rules.specs.declared.alarm.AlarmRule.{AlarmRule}
 use Rattle.interlocks.specs.declared.interlock.Interlock.{Interlock}
 use Rattle.interlocks.specs.Formula.{Formula, alarm, compare, negation, bracket, both, either}
 use Rattle.master_points.specs.Orders.{IsPlant}
+use Rattle.master_points.specs.declared.limits.TheConstants.{MOST_SCREENS}
 use Rattle.scenario_file.specs.Actors.{actors_of}
 use Rattle.scenario_file.specs.PlantRows.{is_name}
 use Rattle.scenario_file.specs.Reading.{Contents, cast_of}
@@ -86,8 +87,8 @@ pub record IsScenario (c : Contents) : Type 0 where
   pub intruded : All (λ m. m < group_size c.settings.f c.settings.k) c.settings.intruded
   pub intruded_rise : IsStrictlyIncreasing c.settings.intruded
   pub some_screens : 1 ≤ c.settings.screens
-  pub at_most_four_screens : c.settings.screens ≤ 4
-  -- the plant, and the numbers of what it has: at most 8 proxies, 1,024 points, 256 alarms and 64 interlocks
+  pub at_most_four_screens : c.settings.screens ≤ MOST_SCREENS
+  -- the plant, with no more of anything than a plant may have
   pub plant : IsPlant c.plant c.settings.screens
   pub devices : All IsDevice c.plant.devices
   pub points : All IsPoint c.plant.points

@@ -12,7 +12,7 @@ use crate::values::{Keys, integer};
 use alarm_rules::{AlarmKind, AlarmRule, Alarms};
 use interlocks::token::{Token, token_of};
 use interlocks::{Interlock, Rule, RuleRefusal};
-use master_points::Plant;
+use master_points::{MOST_INTERLOCKS, MOST_PROXIES, Plant};
 use plain_lists::{Items, Text};
 use point_table::{Area, DeviceSizes, Point, Points};
 
@@ -274,7 +274,7 @@ fn interlock_place(interlocks: &[Interlock], name: &[u8]) -> Option<usize>
 fn devices(document: &Keys<'_>) -> Result<Items<DeviceSizes>, ScenarioRefusal>
     ensures { Answers result (devices_of (table_view document.now.table.now)) }
 {
-    read_rows(document, &DeviceRows, "proxy", Some(8))
+    read_rows(document, &DeviceRows, "proxy", Some(MOST_PROXIES))
 }
 
 #[tactic(auto, unfolding(crate::specs::PlantRows::points_of))]
@@ -308,14 +308,14 @@ fn interlocks(
         document,
         &InterlockRows { points, alarms },
         "interlock",
-        Some(64),
+        Some(MOST_INTERLOCKS),
     )
 }
 
 /// The plant of a document.
 #[tactic(auto, unfolding(crate::specs::PlantRows::plant_of))]
 pub fn plant(document: &Keys<'_>) -> Result<Plant, ScenarioRefusal>
-    ensures few { IfOk result (λ plant. length plant.devices ≤ 8) }
+    ensures few { IfOk result (λ plant. length plant.devices ≤ MOST_PROXIES) }
     ensures answer { Answers result (plant_of (table_view document.now.table.now)) }
 {
     let devices = devices(document)?;

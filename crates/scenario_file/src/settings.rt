@@ -7,6 +7,7 @@ ghost use Rattle.scenario_file.specs.Shown.{settings_shown};
 use crate::lists::{Series, list, numbers};
 use crate::refusal::ScenarioRefusal;
 use crate::values::Keys;
+use master_points::MOST_SCREENS;
 use plain_lists::{Items, Want};
 use quorum_sets::{MOST_MASTERS, Sizes, VoterSet};
 use std::alloc::Global;
@@ -83,7 +84,7 @@ fn intruded(document: &Keys<'_>, masters: u32) -> Result<VoterSet, ScenarioRefus
 #[tactic(auto, unfolding(crate::specs::Settings::settings_of))]
 pub fn read_group(document: &Keys<'_>) -> Result<Group, ScenarioRefusal>
     requires { document.now.at.now ≡ [] }
-    ensures few { IfOk result (λ group. group.screens ≤ 4) }
+    ensures few { IfOk result (λ group. group.screens ≤ MOST_SCREENS) }
     ensures answer { Shows settings_shown result (settings_of (table_view document.now.table.now)) }
 {
     let f = document.count_at("f", 1, 3)?;
@@ -93,7 +94,7 @@ pub fn read_group(document: &Keys<'_>) -> Result<Group, ScenarioRefusal>
     let heights = levels(document)?;
     let frames = document.count_or("frames", 1, 1, 2)?;
     let intruded = intruded(document, sizes.n)?;
-    let screens = document.count_at("screens", 1, 4)?;
+    let screens = document.count_at("screens", 1, MOST_SCREENS)?;
     Ok(Group {
         sizes,
         seed,

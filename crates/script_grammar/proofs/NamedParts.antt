@@ -14,28 +14,25 @@ pub data Part (cast : Cast) (a : ℕ) : Type 0 where
   screen : cast.masters + cast.proxies ≤ a → actor_name cast a ≡ 115 ∷ decimal (a - (cast.masters + cast.proxies)) →
       Part cast a
 
+-- an actor's name, by whether it is a master, and else by whether it is a proxy
+abbrev name_if : Cast → ℕ → Bool → Bool → List ℕ
+name_if cast a m p = cond m (codes "m" ++ decimal a)
+    (cond p (codes "p" ++ decimal (a - cast.masters)) (codes "s" ++ decimal (a - (cast.masters + cast.proxies))))
+
 part_by : (cast : Cast) (a : ℕ) (m p : Bool) → nat_lt a cast.masters ≡ m →
     nat_lt a (cast.masters + cast.proxies) ≡ p → Part cast a
 unfolding actor_name
 part_by cast a true p low below =
     master (grind (arith, nat_tests))
-    (ap (λ (b : Bool). cond b (codes "m" ++ decimal a)
-    (cond (nat_lt a (cast.masters + cast.proxies)) (codes "p" ++ decimal (a - cast.masters))
-    (codes "s" ++ decimal (a - (cast.masters + cast.proxies))))) low)
+    (ap (λ (m : Bool). name_if cast a m (nat_lt a (cast.masters + cast.proxies))) low)
 part_by cast a false true low below =
     proxy (grind (arith, nat_tests)) (grind (arith, nat_tests))
-    (ap (λ (b : Bool). cond b (codes "m" ++ decimal a)
-    (cond (nat_lt a (cast.masters + cast.proxies)) (codes "p" ++ decimal (a - cast.masters))
-    (codes "s" ++ decimal (a - (cast.masters + cast.proxies))))) low
-    ∙ ap (λ (b : Bool). cond b (codes "p" ++ decimal (a - cast.masters))
-    (codes "s" ++ decimal (a - (cast.masters + cast.proxies)))) below)
+    (ap (λ (m : Bool). name_if cast a m (nat_lt a (cast.masters + cast.proxies))) low
+    ∙ ap (name_if cast a false) below)
 part_by cast a false false low below =
     screen (grind (arith, nat_tests))
-    (ap (λ (b : Bool). cond b (codes "m" ++ decimal a)
-    (cond (nat_lt a (cast.masters + cast.proxies)) (codes "p" ++ decimal (a - cast.masters))
-    (codes "s" ++ decimal (a - (cast.masters + cast.proxies))))) low
-    ∙ ap (λ (b : Bool). cond b (codes "p" ++ decimal (a - cast.masters))
-    (codes "s" ++ decimal (a - (cast.masters + cast.proxies)))) below)
+    (ap (λ (m : Bool). name_if cast a m (nat_lt a (cast.masters + cast.proxies))) low
+    ∙ ap (name_if cast a false) below)
 
 pub part_of : (cast : Cast) (a : ℕ) → Part cast a
 part_of cast a = part_by cast a (nat_lt a cast.masters) (nat_lt a (cast.masters + cast.proxies)) refl refl

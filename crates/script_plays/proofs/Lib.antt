@@ -1,3 +1,6 @@
+-- Behind a play of a script, lowest first: its lists and slots, what each kind of line does to a play at work, that
+-- what is played is the history that script and words define; then, by the names with Unforged, that without raw words
+-- nothing in it is forged.
 pub mod Lists
 pub mod Going
 pub mod Slotting

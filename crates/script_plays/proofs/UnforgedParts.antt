@@ -234,7 +234,8 @@ module _ (g : Group) (few : g.n + g.clients ≤ 2 ^ 32) (known : List (Signed Bo
   part_fits signer (body.PoSummary b) sig h =
       let both = and_parts (nat_lt signer g.n) _
       (placed record { signer = signer; body = body.PoSummary b; sig = sig } h) in
-      let numbers = and_parts (nat_eq (length b.numbers) g.n) (list_all (λ x. nat_le x most_number) b.numbers) both.1 in (
+      let numbers = and_parts (nat_eq (length b.numbers) g.n) (list_all (λ x. nat_le x most_number) b.numbers)
+      both.1 in (
         master_32 signer both.0,
         all_recursively Is64 b.numbers
             (λ x k. number_small x (leb-true x most_number (all_at (λ x. nat_le x most_number) k numbers.1))),

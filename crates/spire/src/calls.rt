@@ -1,9 +1,9 @@
 //! Calls of the program over files in memory.
-use outside::{MemoryFiles, MemorySink};
+use crate::named_files::{File, call_failing, files_of};
+use outside::MemoryFiles;
 use std::alloc::Global;
 use std::process::Abort;
 use std::test::Fail;
-use whole_runs::call::spire;
 
 /// What each scenario begins with: masters 0 to 3.
 const BEGINNING: &str =
@@ -37,6 +37,16 @@ impl<'a> Given<'a> {
             words,
             history: "",
         }
+    }
+
+    /// Its files, with this scenario.
+    fn files(self, scenario: &'a str) -> [File<'a>; 4] {
+        [
+            ("scenario", scenario.as_bytes()),
+            ("script", self.script.as_bytes()),
+            ("words", self.words.as_bytes()),
+            ("history", self.history.as_bytes()),
+        ]
     }
 }
 
@@ -72,36 +82,37 @@ pub(crate) fn words_of(alloc: Global, line: &str) -> Result<Vec<String>, Fail> {
     Ok(words)
 }
 
-fn add_file(
-    alloc: Global,
-    files: &mut Vec<(String, Vec<u8>)>,
-    name: &str,
-    content: &str,
-) -> Result<(), Fail> {
-    files.push((
-        String::from_str(alloc, name)?,
-        Vec::from_slice(alloc, content.as_bytes())?,
-    ))?;
-    Ok(())
-}
-
-/// The files of a call.
-pub(crate) fn files_of(alloc: Global, given: Given<'_>) -> Result<Vec<(String, Vec<u8>)>, Fail> {
+/// The text of a scenario with these other keys.
+fn scenario_of(alloc: Global, keys: &str) -> Result<String, Fail> {
     let mut scenario = String::from_str(alloc, BEGINNING)?;
-    scenario.push_str(given.keys)?;
-    let mut files = Vec::new(alloc);
-    add_file(alloc, &mut files, "scenario", scenario.as_str())?;
-    add_file(alloc, &mut files, "script", given.script)?;
-    add_file(alloc, &mut files, "words", given.words)?;
-    add_file(alloc, &mut files, "history", given.history)?;
-    Ok(files)
+    scenario.push_str(keys)?;
+    Ok(scenario)
 }
 
-pub(crate) fn text_of(alloc: Global, bytes: &[u8]) -> Result<String, Fail> {
+/// The files of a call, where no load fails.
+pub(crate) fn files_given(alloc: Global, given: Given<'_>) -> Result<MemoryFiles, Fail> {
+    let scenario = scenario_of(alloc, given.keys)?;
+    let files = given.files(scenario.as_str());
+    files_of(alloc, &files, 0)
+}
+
+fn text_of(alloc: Global, bytes: &[u8]) -> Result<String, Fail> {
     match std::str::from_utf8(bytes) {
         Ok(text) => Ok(String::from_str(alloc, text)?),
         Err(_) => Err("no text".into()),
     }
+}
+
+/// What a call with this status, line and text ends in.
+pub(crate) fn ending_of(
+    alloc: Global,
+    status: u8,
+    line: &[u8],
+    text: &[u8],
+) -> Result<Ending, Fail> {
+    let line = text_of(alloc, line)?;
+    let text = text_of(alloc, text)?;
+    Ok(Ending { status, line, text })
 }
 
 /// Runs a command over these files, where some calls fail.
@@ -111,17 +122,10 @@ pub(crate) fn ended(
     given: Given<'_>,
     failing: Failing,
 ) -> Result<Ending, Fail> {
-    let words = words_of(alloc, command)?;
-    let files = files_of(alloc, given)?;
-    let mut files = MemoryFiles::make(alloc, files, vec![in alloc; failing.load]?);
-    let mut out = MemorySink::make(alloc, vec![in alloc; failing.put]?);
-    let mut err = MemorySink::make(alloc, vec![in alloc; failing.line]?);
-    let status = spire(alloc, words.as_slice(), &mut files, &mut out, &mut err);
-    Ok(Ending {
-        status,
-        line: text_of(alloc, err.bytes())?,
-        text: text_of(alloc, out.bytes())?,
-    })
+    let scenario = scenario_of(alloc, given.keys)?;
+    let files = given.files(scenario.as_str());
+    let called = call_failing(alloc, command, &files, failing)?;
+    ending_of(alloc, called.status, &called.line, &called.put)
 }
 
 impl Ending {

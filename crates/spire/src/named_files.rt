@@ -1,5 +1,5 @@
 //! Calls of the program over files in memory.
-use crate::calls::words_of;
+use crate::calls::{Failing, NONE_FAILS, words_of};
 use outside::{MemoryFiles, MemorySink};
 use std::alloc::Global;
 use std::test::Fail;
@@ -7,38 +7,72 @@ use whole_runs::call::spire;
 
 /// What a call ends in: its status, the line on the error output, and what was put to the output.
 #[derive(Drop)]
-pub struct Ending {
-    pub status: u8,
-    pub line: Vec<u8>,
-    pub put: Vec<u8>,
+pub(crate) struct Ending {
+    pub(crate) status: u8,
+    pub(crate) line: Vec<u8>,
+    pub(crate) put: Vec<u8>,
 }
 
 /// A file's name and content.
-pub type File<'a> = (&'a str, &'a [u8]);
+pub(crate) type File<'a> = (&'a str, &'a [u8]);
 
-/// Runs a command over files.
-pub fn call(alloc: Global, line: &str, files: &[File<'_>]) -> Result<Ending, Fail> {
-    let words = words_of(alloc, line)?;
+fn in_memory(alloc: Global, file: &File<'_>) -> Result<(String, Vec<u8>), Fail> {
+    let name = String::from_str(alloc, file.0)?;
+    let content = Vec::from_slice(alloc, file.1)?;
+    Ok((name, content))
+}
+
+/// These files, where one load fails (0: none).
+pub(crate) fn files_of(
+    alloc: Global,
+    files: &[File<'_>],
+    failing: u64,
+) -> Result<MemoryFiles, Fail> {
     let mut listed = Vec::new(alloc);
     for file in files {
-        listed.push((
-            String::from_str(alloc, file.0)?,
-            Vec::from_slice(alloc, file.1)?,
-        ))?;
+        listed.push(in_memory(alloc, file)?)?;
     }
-    let mut files = MemoryFiles::make(alloc, listed, Vec::new(alloc));
-    let mut out = MemorySink::make(alloc, Vec::new(alloc));
-    let mut err = MemorySink::make(alloc, Vec::new(alloc));
+    let failing = vec![in alloc; failing]?;
+    Ok(MemoryFiles::make(alloc, listed, failing))
+}
+
+fn sink_of(alloc: Global, failing: u64) -> Result<MemorySink, Fail> {
+    Ok(MemorySink::make(alloc, vec![in alloc; failing]?))
+}
+
+fn ending_of(alloc: Global, status: u8, line: &[u8], put: &[u8]) -> Result<Ending, Fail> {
+    let line = Vec::from_slice(alloc, line)?;
+    let put = Vec::from_slice(alloc, put)?;
+    Ok(Ending { status, line, put })
+}
+
+/// Runs a command over files, where some calls fail.
+pub(crate) fn call_failing(
+    alloc: Global,
+    line: &str,
+    files: &[File<'_>],
+    failing: Failing,
+) -> Result<Ending, Fail> {
+    let words = words_of(alloc, line)?;
+    let mut files = files_of(alloc, files, failing.load)?;
+    let mut out = sink_of(alloc, failing.put)?;
+    let mut err = sink_of(alloc, failing.line)?;
     let status = spire(alloc, words.as_slice(), &mut files, &mut out, &mut err);
-    Ok(Ending {
-        status,
-        line: Vec::from_slice(alloc, err.bytes())?,
-        put: Vec::from_slice(alloc, out.bytes())?,
-    })
+    ending_of(alloc, status, err.bytes(), out.bytes())
+}
+
+/// Runs a command over files.
+pub(crate) fn call(alloc: Global, line: &str, files: &[File<'_>]) -> Result<Ending, Fail> {
+    call_failing(alloc, line, files, NONE_FAILS)
 }
 
 /// The text of a play.
-pub fn play(alloc: Global, scenario: &str, script: &str, words: &str) -> Result<Vec<u8>, Fail> {
+pub(crate) fn play(
+    alloc: Global,
+    scenario: &str,
+    script: &str,
+    words: &str,
+) -> Result<Vec<u8>, Fail> {
     let played = call(
         alloc,
         "play scenario script words",

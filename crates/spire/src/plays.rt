@@ -1,8 +1,7 @@
-use crate::calls::words_of;
-use outside::{MemoryFiles, MemorySink};
+use crate::calls::Failing;
+use crate::named_files::{Ending, call_failing};
 use std::alloc::Global;
 use std::test::Fail;
-use whole_runs::call::spire;
 
 /// Four masters and a screen. Each has 32 one-time keys.
 const SCENARIO: &str =
@@ -15,27 +14,6 @@ const SCRIPT: &str = "command s0 ack 0\nflow 3\n";
 const TEXT: &[u8] =
     b"spire 1\nmaster m0 view 0 executed 0\nmaster m1 view 0 executed 0\nmaster m2 view 0 executed 0\nmaster m3 view 0 executed 0\nscreen s0 notices 0\naudit forged 0 alike 0 intruded 0 limit 1\nagree yes\nhistory 33\n0 s0 command ack 0 says update\n1 m0 took 0.0 says porequest\n2 m1 took 0.0 says porequest\n3 m1 took 1.0 says poack poack\n4 m2 took 1.0 says poack\n5 m3 took 1.0 says poack\n6 m0 took 2.0 says poack poack\n7 m2 took 2.0 says poack\n8 m3 took 2.0 says poack\n9 m0 took 3.0\n10 m2 took 3.0\n11 m3 took 3.0\n12 m0 took 3.1\n13 m2 took 3.1\n14 m3 took 3.1\n15 m0 took 4.0\n16 m1 took 4.0\n17 m3 took 4.0\n18 m0 took 5.0\n19 m1 took 5.0\n20 m2 took 5.0\n21 m1 took 6.0\n22 m2 took 6.0\n23 m3 took 6.0\n24 m1 took 6.1\n25 m2 took 6.1\n26 m3 took 6.1\n27 m0 took 7.0\n28 m1 took 7.0\n29 m3 took 7.0\n30 m0 took 8.0\n31 m1 took 8.0\n32 m2 took 8.0\n";
 
-/// What a call ends in: its status, the line on the error output, and what was put to the output.
-#[derive(Drop)]
-struct Ending {
-    status: u8,
-    line: Vec<u8>,
-    put: Vec<u8>,
-}
-
-fn add_file(
-    alloc: Global,
-    files: &mut Vec<(String, Vec<u8>)>,
-    name: &str,
-    content: &[u8],
-) -> Result<(), Fail> {
-    files.push((
-        String::from_str(alloc, name)?,
-        Vec::from_slice(alloc, content)?,
-    ))?;
-    Ok(())
-}
-
 /// Runs a command over the scenario, the script, no words and a history, where one load fails (0: none) and one put.
 fn run(
     alloc: Global,
@@ -44,32 +22,31 @@ fn run(
     failing_load: u64,
     failing_put: u64,
 ) -> Result<Ending, Fail> {
-    let words = words_of(alloc, line)?;
-    let mut listed = Vec::new(alloc);
-    add_file(alloc, &mut listed, "scenario", SCENARIO.as_bytes())?;
-    add_file(alloc, &mut listed, "script", SCRIPT.as_bytes())?;
-    add_file(alloc, &mut listed, "words", &[])?;
-    add_file(alloc, &mut listed, "history", history)?;
-    let mut files = MemoryFiles::make(alloc, listed, vec![in alloc; failing_load]?);
-    let mut out = MemorySink::make(alloc, vec![in alloc; failing_put]?);
-    let mut err = MemorySink::make(alloc, Vec::new(alloc));
-    let status = spire(alloc, words.as_slice(), &mut files, &mut out, &mut err);
-    Ok(Ending {
-        status,
-        line: Vec::from_slice(alloc, err.bytes())?,
-        put: Vec::from_slice(alloc, out.bytes())?,
-    })
+    let files = [
+        ("scenario", SCENARIO.as_bytes()),
+        ("script", SCRIPT.as_bytes()),
+        ("words", "".as_bytes()),
+        ("history", history),
+    ];
+    let failing = Failing {
+        load: failing_load,
+        put: failing_put,
+        line: 0,
+    };
+    call_failing(alloc, line, &files, failing)
 }
 
 #[test]
 fn a_play_is_printed_and_replayed(rt: HostRuntime) -> Result<(), Fail> {
-    let played = run(rt.alloc(), "play scenario script words", &[], 0, 0)?;
-    assert_eq!(rt; played.status, 0);
-    assert!(rt; played.line.is_empty());
-    assert_eq!(rt; played.put.as_slice(), TEXT);
-    let replayed = run(rt.alloc(), "replay scenario history", TEXT, 0, 0)?;
-    assert_eq!(rt; replayed.status, 0);
-    assert_eq!(rt; replayed.put.as_slice(), TEXT);
+    for (line, history) in [
+        ("play scenario script words", "".as_bytes()),
+        ("replay scenario history", TEXT),
+    ] {
+        let ending = run(rt.alloc(), line, history, 0, 0)?;
+        assert_eq!(rt; ending.status, 0, "{line}");
+        assert!(rt; ending.line.is_empty(), "{line}");
+        assert_eq!(rt; ending.put.as_slice(), TEXT, "{line}");
+    }
     Ok(())
 }
 

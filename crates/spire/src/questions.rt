@@ -1,4 +1,6 @@
-use crate::named_files::{call, play};
+use crate::named_files::{File, call, play};
+use std::alloc::Global;
+use std::process::Abort;
 use std::test::Fail;
 
 /// Four masters and a screen. Each has 32 one-time keys.
@@ -20,6 +22,33 @@ const WRONG: &[u8] =
 const FEW: &[u8] =
     b"digest 5307c0b0ae6aacdcf5076254f1ff92f98e7d8fce3c1c9479bd37fe10d735561a\nm1 19 00010001030000000000\nm2 19 00010002060000000001\n";
 
+/// Wants a command that is seen through to put this.
+fn puts(
+    rt: &impl Abort,
+    alloc: Global,
+    line: &str,
+    files: &[File<'_>],
+    put: &[u8],
+) -> Result<(), Fail> {
+    let ending = call(alloc, line, files)?;
+    assert_eq!(rt; ending.status, 0, "{line}");
+    assert_eq!(rt; ending.put.as_slice(), put, "{line}");
+    Ok(())
+}
+
+/// The status of a command that tells this line.
+fn told(
+    rt: &impl Abort,
+    alloc: Global,
+    line: &str,
+    files: &[File<'_>],
+    wanted: &[u8],
+) -> Result<u8, Fail> {
+    let ending = call(alloc, line, files)?;
+    assert_eq!(rt; ending.line.as_slice(), wanted, "{line}");
+    Ok(ending.status)
+}
+
 #[test]
 fn the_parts_of_a_certified_request_are_printed(rt: HostRuntime) -> Result<(), Fail> {
     let text = play(rt.alloc(), SCENARIO, SCRIPT, "")?;
@@ -27,15 +56,10 @@ fn the_parts_of_a_certified_request_are_printed(rt: HostRuntime) -> Result<(), F
         ("scenario", SCENARIO.as_bytes()),
         ("history", text.as_slice()),
     ];
-    let parts = call(rt.alloc(), "parts scenario history 0 1", &files)?;
-    assert_eq!(rt; parts.status, 0);
-    assert_eq!(rt; parts.put.as_slice(), PARTS);
-    let none = call(rt.alloc(), "parts scenario history 2 1", &files)?;
-    assert_eq!(rt; none.status, 9);
-    assert_eq!(rt;
-        none.line.as_slice(),
-        b"spire: parts NotCertified\n".as_slice()
-    );
+    puts(&rt, rt.alloc(), "parts scenario history 0 1", &files, PARTS)?;
+    let line = b"spire: parts NotCertified\n";
+    let status = told(&rt, rt.alloc(), "parts scenario history 2 1", &files, line)?;
+    assert_eq!(rt; status, 9);
     Ok(())
 }
 
@@ -47,38 +71,39 @@ fn a_request_is_rebuilt_beside_a_wrong_part(rt: HostRuntime) -> Result<(), Fail>
         ("few", FEW),
         ("script", SCRIPT.as_bytes()),
     ];
-    let rebuilt = call(rt.alloc(), "rebuild scenario wrong", &files)?;
-    assert_eq!(rt; rebuilt.status, 0);
-    assert_eq!(rt;
-        rebuilt.put.as_slice(),
-        b"text 00010000000000000000000000010300000000\nwrong m2\n".as_slice()
-    );
-    let none = call(rt.alloc(), "rebuild scenario few", &files)?;
-    assert_eq!(rt; none.status, 9);
-    assert_eq!(rt; none.line.as_slice(), b"spire: rebuild NoText\n".as_slice());
-    let other = call(rt.alloc(), "rebuild scenario script", &files)?;
-    assert_eq!(rt; other.status, 5);
-    assert_eq!(rt;
-        other.line.as_slice(),
-        b"spire: parts BadLine 1\n".as_slice()
-    );
+    let text = b"text 00010000000000000000000000010300000000\nwrong m2\n";
+    puts(&rt, rt.alloc(), "rebuild scenario wrong", &files, text)?;
+    for (command, line, status) in [
+        (
+            "rebuild scenario few",
+            b"spire: rebuild NoText\n".as_slice(),
+            9,
+        ),
+        (
+            "rebuild scenario script",
+            b"spire: parts BadLine 1\n".as_slice(),
+            5,
+        ),
+    ] {
+        assert_eq!(rt; told(&rt, rt.alloc(), command, &files, line)?, status);
+    }
     Ok(())
 }
 
 #[test]
 fn nobody_is_blamed_where_all_are_correct(rt: HostRuntime) -> Result<(), Fail> {
     let text = play(rt.alloc(), SCENARIO, SCRIPT, "")?;
-    let blame = call(
+    let files = [
+        ("scenario", SCENARIO.as_bytes()),
+        ("history", text.as_slice()),
+    ];
+    puts(
+        &rt,
         rt.alloc(),
         "blame scenario history",
-        &[
-            ("scenario", SCENARIO.as_bytes()),
-            ("history", text.as_slice()),
-        ],
-    )?;
-    assert_eq!(rt; blame.status, 0);
-    assert_eq!(rt; blame.put.as_slice(), b"blame 0\n".as_slice());
-    Ok(())
+        &files,
+        b"blame 0\n",
+    )
 }
 
 #[test]
@@ -121,24 +146,29 @@ fn a_reading_is_shown_as_a_change(rt: HostRuntime) -> Result<(), Fail> {
         ("scenario", scenario.as_bytes()),
         ("history", text.as_slice()),
     ];
-    let trend = call(rt.alloc(), "trend scenario history 0 1 1", &files)?;
-    assert_eq!(rt; trend.status, 0);
-    assert_eq!(rt;
-        trend.put.as_slice(),
-        b"trend 0 1 1 changes 1\n1 9500\n".as_slice()
-    );
-    let far = call(rt.alloc(), "trend scenario history 0 1 2", &files)?;
-    assert_eq!(rt; far.status, 9);
-    assert_eq!(rt;
-        far.line.as_slice(),
-        b"spire: trend NotReached 1\n".as_slice()
-    );
-    let other = call(rt.alloc(), "trend scenario history 1 1 1", &files)?;
-    assert_eq!(rt; other.line.as_slice(), b"spire: trend NoPoint\n".as_slice());
-    let empty = call(rt.alloc(), "trend scenario history 0 0 1", &files)?;
-    assert_eq!(rt;
-        empty.line.as_slice(),
-        b"spire: trend BadRange\n".as_slice()
-    );
+    let changes = b"trend 0 1 1 changes 1\n1 9500\n";
+    puts(
+        &rt,
+        rt.alloc(),
+        "trend scenario history 0 1 1",
+        &files,
+        changes,
+    )?;
+    for (command, line) in [
+        (
+            "trend scenario history 0 1 2",
+            b"spire: trend NotReached 1\n".as_slice(),
+        ),
+        (
+            "trend scenario history 1 1 1",
+            b"spire: trend NoPoint\n".as_slice(),
+        ),
+        (
+            "trend scenario history 0 0 1",
+            b"spire: trend BadRange\n".as_slice(),
+        ),
+    ] {
+        assert_eq!(rt; told(&rt, rt.alloc(), command, &files, line)?, 9);
+    }
     Ok(())
 }

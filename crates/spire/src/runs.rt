@@ -1,7 +1,7 @@
 //! Runs in threads.
 use crate::call::spire;
-use crate::calls::{Ending, Given, ONE_SCREEN, count_of, files_of, text_of, words_of};
-use outside::{MemoryFiles, MemorySink};
+use crate::calls::{Ending, Given, ONE_SCREEN, count_of, ending_of, files_given, words_of};
+use outside::MemorySink;
 use std::alloc::Global;
 use std::sync::Wait;
 use std::test::Fail;
@@ -30,16 +30,11 @@ fn called<R: Threads + Wait + Sync>(
     given: Given<'_>,
 ) -> Result<Ending, Fail> {
     let words = words_of(alloc, command)?;
-    let files = files_of(alloc, given)?;
-    let mut files = MemoryFiles::make(alloc, files, Vec::new(alloc));
+    let mut files = files_given(alloc, given)?;
     let mut out = MemorySink::make(alloc, Vec::new(alloc));
     let mut err = MemorySink::make(alloc, Vec::new(alloc));
     let status = spire(rt, alloc, words.as_slice(), &mut files, &mut out, &mut err);
-    Ok(Ending {
-        status,
-        line: text_of(alloc, err.bytes())?,
-        text: text_of(alloc, out.bytes())?,
-    })
+    ending_of(alloc, status, err.bytes(), out.bytes())
 }
 
 /// Whether a line of a history is an entry of the actor that is no skip.

@@ -20,10 +20,14 @@ pub eligible-is : (g : Group) (rows : List (List ℕ)) (j : ℕ) →
 unfolding eligible
 eligible-is g rows j = refl
 
+-- a number that q reach, and else 0
+abbrev reaching : ℕ → List ℕ → ℕ → ℕ
+reaching q numbers i = cond (reaches q numbers (get_or numbers i 0)) (get_or numbers i 0) 0
+
 -- one number more
 reached-more : (q : ℕ) (numbers : List ℕ) (i : ℕ) → i < length numbers
     → reached q numbers (take (i + 1) numbers) ≡ max (reached q numbers (take i numbers))
-    (cond (reaches q numbers (get_or numbers i 0)) (get_or numbers i 0) 0)
+    (reaching q numbers i)
 reached-more q numbers i within =
     ap greatest_of (filter_more (reaches q numbers) numbers i 0 within)
     ∙ greatest_of-append (filter (reaches q numbers) (take i numbers))
@@ -39,20 +43,20 @@ pub reached-taken : (q : ℕ) (numbers : List ℕ) (i greatest x : ℕ) → i < 
     greatest ≡ reached q numbers (take i numbers) → greatest < x → reaches q numbers x ≡ true
     → x ≡ reached q numbers (take (i + 1) numbers)
 reached-taken q numbers i greatest x within is was more enough =
-    let here : cond (reaches q numbers (get_or numbers i 0)) (get_or numbers i 0) 0 ≡ x =
+    let here : reaching q numbers i ≡ x =
     ap (λ y. cond (reaches q numbers y) y 0) (sym is) ∙ ap (λ b. cond b x 0) enough in
     let one : reached q numbers (take (i + 1) numbers) ≡ max (reached q numbers (take i numbers))
-    (cond (reaches q numbers (get_or numbers i 0)) (get_or numbers i 0) 0) = reached-more q numbers i within in
+    (reaching q numbers i) = reached-more q numbers i within in
     omega arith
 
 pub reached-low : (q : ℕ) (numbers : List ℕ) (i greatest x : ℕ) → i < length numbers → x ≡ get_or numbers i 0 →
     greatest ≡ reached q numbers (take i numbers) → x ≤ greatest
     → greatest ≡ reached q numbers (take (i + 1) numbers)
 reached-low q numbers i greatest x within is was low =
-    let here : cond (reaches q numbers (get_or numbers i 0)) (get_or numbers i 0) 0 ≤ x =
+    let here : reaching q numbers i ≤ x =
     by_test (reaches q numbers (get_or numbers i 0)) in
     let one : reached q numbers (take (i + 1) numbers) ≡ max (reached q numbers (take i numbers))
-    (cond (reaches q numbers (get_or numbers i 0)) (get_or numbers i 0) 0) = reached-more q numbers i within in
+    (reaching q numbers i) = reached-more q numbers i within in
     omega arith
   where
     by_test : (b : Bool) → cond b (get_or numbers i 0) 0 ≤ x
@@ -63,8 +67,8 @@ pub reached-few : (q : ℕ) (numbers : List ℕ) (i greatest x : ℕ) → i < le
     greatest ≡ reached q numbers (take i numbers) → reaches q numbers x ≡ false
     → greatest ≡ reached q numbers (take (i + 1) numbers)
 reached-few q numbers i greatest x within is was few =
-    let here : cond (reaches q numbers (get_or numbers i 0)) (get_or numbers i 0) 0 ≡ 0 =
+    let here : reaching q numbers i ≡ 0 =
     ap (λ y. cond (reaches q numbers y) y 0) (sym is) ∙ ap (λ b. cond b x 0) few in
     let one : reached q numbers (take (i + 1) numbers) ≡ max (reached q numbers (take i numbers))
-    (cond (reaches q numbers (get_or numbers i 0)) (get_or numbers i 0) 0) = reached-more q numbers i within in
+    (reaching q numbers i) = reached-more q numbers i within in
     omega arith

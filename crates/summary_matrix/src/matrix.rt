@@ -173,7 +173,7 @@ fn total(numbers: &Vector) -> u64
     requires { sum numbers.now ≤ MOST_TOTAL }
     ensures { result ≡ sum numbers.now }
 {
-    numbers.as_slice().iter().sum()
+    numbers.iter().sum()
 }
 
 fn number_told(held: &Option<Signed<PoSummary>>, place: usize) -> u64

@@ -1,3 +1,5 @@
+-- Behind the measures of leaders: ranks and rising orders, the sets of sayings that are kept as lists, what a word
+-- known or said changes in them, and what is owed and due then.
 pub mod Ranks
 pub mod Order
 pub mod Sets

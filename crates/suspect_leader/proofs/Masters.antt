@@ -60,35 +60,44 @@ acceptable_is g me kept told known said v is =
     (λ j. unwrap_or (first_of_list (filter_map (bound_in v j) known)) 16) g.n
     (λ j lt. ap (λ o. unwrap_or o 16) (is.bounds v j lt)))
 
+-- the figure of a master that passes and has one
+abbrev figure_if : (ℕ → Option Rtt) → (ℕ → Bool) → ℕ → Option ℕ
+figure_if best p m = cond (p m) (option_map figure_of (best m)) None
+
+-- the figures of a first master and others, by the first one's test: as they are filtered, and one by one
+abbrev figures_kept_by : (ℕ → Option Rtt) → (ℕ → Bool) → ℕ → List ℕ → Bool → List ℕ
+figures_kept_by best p x rest b = map figure_of (filter_map best (cond b (x ∷ filter p rest) (filter p rest)))
+
+abbrev figures_with : (ℕ → Option Rtt) → (ℕ → Bool) → ℕ → List ℕ → Bool → List ℕ
+figures_with best p x rest b =
+    cons_option (cond b (option_map figure_of (best x)) None) (filter_map (figure_if best p) rest)
+
 -- the figures of the masters that pass
 figures_are : (best : ℕ → Option Rtt) (p : ℕ → Bool) (xs : List ℕ) →
-    map figure_of (filter_map best (filter p xs)) ≡ filter_map (λ m. cond (p m) (option_map figure_of (best m)) None) xs
+    map figure_of (filter_map best (filter p xs)) ≡ filter_map (figure_if best p) xs
 figures_are best p [] = refl
 figures_are best p (x ∷ rest) = at (p x) refl (best x) refl (figures_are best p rest)
   where
     at : (b : Bool) → p x ≡ b → (o : Option Rtt) → best x ≡ o →
         map figure_of (filter_map best (filter p rest)) ≡ filter_map
-        (λ m. cond (p m) (option_map figure_of (best m)) None) rest
+        (figure_if best p) rest
         → map figure_of (filter_map best (filter p (x ∷ rest))) ≡ filter_map
-        (λ m. cond (p m) (option_map figure_of (best m)) None) (x ∷ rest)
+        (figure_if best p) (x ∷ rest)
     at false e o h more =
-        ap (λ b. map figure_of (filter_map best (cond b (x ∷ filter p rest) (filter p rest)))) e ∙ more
-        ∙ sym (ap (λ b. cons_option (cond b (option_map figure_of (best x)) None)
-        (filter_map (λ m. cond (p m) (option_map figure_of (best m)) None) rest)) e)
+        ap (figures_kept_by best p x rest) e ∙ more
+        ∙ sym (ap (figures_with best p x rest) e)
     at true e None h more =
-        ap (λ b. map figure_of (filter_map best (cond b (x ∷ filter p rest) (filter p rest)))) e
+        ap (figures_kept_by best p x rest) e
         ∙ ap (λ v. map figure_of (cons_option v (filter_map best (filter p rest)))) h ∙ more
-        ∙ sym (ap (λ b. cons_option (cond b (option_map figure_of (best x)) None)
-        (filter_map (λ m. cond (p m) (option_map figure_of (best m)) None) rest)) e
+        ∙ sym (ap (figures_with best p x rest) e
         ∙ ap (λ v. cons_option (option_map figure_of v)
-        (filter_map (λ m. cond (p m) (option_map figure_of (best m)) None) rest)) h)
+        (filter_map (figure_if best p) rest)) h)
     at true e (Some y) h more =
-        ap (λ b. map figure_of (filter_map best (cond b (x ∷ filter p rest) (filter p rest)))) e
+        ap (figures_kept_by best p x rest) e
         ∙ ap (λ v. map figure_of (cons_option v (filter_map best (filter p rest)))) h ∙ ap (λ l. figure_of y ∷ l) more
-        ∙ sym (ap (λ b. cons_option (cond b (option_map figure_of (best x)) None)
-        (filter_map (λ m. cond (p m) (option_map figure_of (best m)) None) rest)) e
+        ∙ sym (ap (figures_with best p x rest) e
         ∙ ap (λ v. cons_option (option_map figure_of v)
-        (filter_map (λ m. cond (p m) (option_map figure_of (best m)) None) rest)) h)
+        (filter_map (figure_if best p) rest)) h)
 
 cond_not : {X : Type 0} (b : Bool) (o : Option X) → cond b None o ≡ cond (not b) o None
 cond_not true o = refl

@@ -21,15 +21,12 @@ use Rattle.suspect_leader.specs.Sayings.{says, same_saying, is_among, is_pending
 use Rattle.suspect_leader.specs.MeasureState.{answer_to}
 use Rattle.suspect_leader.proofs.Order.{order, Rising, unique, pair_less_first, pair_less_second}
 use Rattle.suspect_leader.proofs.Rising.{Each, Steps, steps_in_order, steps_filter, steps_below, any_each_once}
+use Rattle.suspect_leader.proofs.Rising.{each_append}
 use Rattle.suspect_leader.proofs.Rising.{any_filter, any_below}
 
 -- one saying for each master and number
 abbrev pub pairs : (ℕ → ℕ → Saying) → (ℕ → List ℕ) → List ℕ → List Saying
 pairs say numbers masters = flat_map (λ m. map (say m) (numbers m)) masters
-
-each_append : {X : Type 0} (P : X → Type 0) (xs ys : List X) → Each P xs → Each P ys → Each P (xs ++ ys)
-each_append P [] ys one two = two
-each_append P (x ∷ rest) ys one two = (one.0, each_append P rest ys one.1 two)
 
 rising_append : (xs ys : List Saying) → Rising xs → Rising ys → Each (λ x. Each (λ y. order x y ≡ Less) ys) xs →
     Rising (xs ++ ys)
@@ -259,35 +256,43 @@ each_answered : (f : ℕ → Body) (numbers : List ℕ) → filter_map (λ i. So
 each_answered f [] = refl
 each_answered f (i ∷ rest) = ap (λ l. f i ∷ l) (each_answered f rest)
 
+-- the answers to the numbers that are ready, and to a first number and others, by whether the first is new
+abbrev answered_if : (ℕ → Body) → (ℕ → Bool) → List ℕ → List Body
+answered_if f ready = filter_map (λ i. cond (ready i) (Some (f i)) None)
+
+abbrev answered_by : (ℕ → Body) → (ready new : ℕ → Bool) → ℕ → List ℕ → Bool → List Body
+answered_by f ready new i rest b = answered_if f ready (cond b (i ∷ filter new rest) (filter new rest))
+
+-- the numbers that pass two tests
+abbrev both : (now new : ℕ → Bool) → List ℕ → List ℕ
+both now new = filter (λ i. now i && new i)
+
 some_answered : (f : ℕ → Body) (ready now new : ℕ → Bool) → ((i : ℕ) → ready i ≡ now i) → (numbers : List ℕ)
-    → filter_map (λ i. cond (ready i) (Some (f i)) None) (filter new numbers) ≡ map f
-    (filter (λ i. now i && new i) numbers)
+    → answered_if f ready (filter new numbers) ≡ map f
+    (both now new numbers)
 some_answered f ready now new same [] = refl
 some_answered f ready now new same (i ∷ rest) = at (new i) refl (ready i) refl (some_answered f ready now new same rest)
   where
-    at : (n : Bool) → new i ≡ n → (r : Bool) → ready i ≡ r → filter_map (λ i. cond (ready i) (Some (f i)) None)
-        (filter new rest) ≡ map f (filter (λ i. now i && new i) rest)
-        → filter_map (λ i. cond (ready i) (Some (f i)) None) (cond (new i) (i ∷ filter new rest) (filter new rest)) ≡
-        map f (cond (now i && new i) (i ∷ filter (λ i. now i && new i) rest) (filter (λ i. now i && new i) rest))
+    at : (n : Bool) → new i ≡ n → (r : Bool) → ready i ≡ r → answered_if f ready
+        (filter new rest) ≡ map f (both now new rest)
+        → answered_if f ready (cond (new i) (i ∷ filter new rest) (filter new rest)) ≡
+        map f (cond (now i && new i) (i ∷ both now new rest) (both now new rest))
     at true e true h more =
-        ap (λ b. filter_map (λ i. cond (ready i) (Some (f i)) None) (cond b (i ∷ filter new rest) (filter new rest))) e
+        ap (answered_by f ready new i rest) e
         ∙ ap (λ b. cons_option (cond b (Some (f i)) None)
-        (filter_map (λ i. cond (ready i) (Some (f i)) None) (filter new rest))) h ∙ ap (λ l. f i ∷ l) more
-        ∙ sym (ap (λ b. map f (cond (b && new i) (i ∷ filter (λ i. now i && new i) rest)
-        (filter (λ i. now i && new i) rest))) (sym (same i) ∙ h)
-        ∙ ap (λ b. map f (cond b (i ∷ filter (λ i. now i && new i) rest) (filter (λ i. now i && new i) rest))) e)
+        (answered_if f ready (filter new rest))) h ∙ ap (λ l. f i ∷ l) more
+        ∙ sym (ap (λ b. map f (cond (b && new i) (i ∷ both now new rest) (both now new rest))) (sym (same i) ∙ h)
+        ∙ ap (λ b. map f (cond b (i ∷ both now new rest) (both now new rest))) e)
     at true e false h more =
-        ap (λ b. filter_map (λ i. cond (ready i) (Some (f i)) None) (cond b (i ∷ filter new rest) (filter new rest))) e
+        ap (answered_by f ready new i rest) e
         ∙ ap (λ b. cons_option (cond b (Some (f i)) None)
-        (filter_map (λ i. cond (ready i) (Some (f i)) None) (filter new rest))) h ∙ more
-        ∙ sym (ap (λ b. map f (cond (b && new i) (i ∷ filter (λ i. now i && new i) rest)
-        (filter (λ i. now i && new i) rest))) (sym (same i) ∙ h))
+        (answered_if f ready (filter new rest))) h ∙ more
+        ∙ sym (ap (λ b. map f (cond (b && new i) (i ∷ both now new rest) (both now new rest))) (sym (same i) ∙ h))
     at false e r h more =
-        ap (λ b. filter_map (λ i. cond (ready i) (Some (f i)) None) (cond b (i ∷ filter new rest) (filter new rest)))
+        ap (answered_by f ready new i rest)
         e ∙ more
-        ∙ sym (ap (λ b. map f (cond (now i && b) (i ∷ filter (λ i. now i && new i) rest)
-        (filter (λ i. now i && new i) rest))) e
-        ∙ ap (λ b. map f (cond b (i ∷ filter (λ i. now i && new i) rest) (filter (λ i. now i && new i) rest)))
+        ∙ sym (ap (λ b. map f (cond (now i && b) (i ∷ both now new rest) (both now new rest))) e
+        ∙ ap (λ b. map f (cond b (i ∷ both now new rest) (both now new rest)))
         (and_nothing (now i)))
       where
         and_nothing : (b : Bool) → (b && false) ≡ false

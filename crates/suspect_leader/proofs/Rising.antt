@@ -151,6 +151,10 @@ any_once p (x ∷ y ∷ rest) = at (nat_eq x y) refl (any_once p (y ∷ rest))
 pub any_each_once : (p : ℕ → Bool) (xs : List ℕ) → list_any p (each_once (in_order xs)) ≡ list_any p xs
 any_each_once p xs = any_once p (in_order xs) ∙ any_in_order p xs
 
+-- whether a number is among a first one and others, by whether the first is kept
+abbrev any_kept : (ℕ → Bool) → ℕ → ℕ → List ℕ → Bool → Bool
+any_kept p n x rest b = list_any (nat_eq n) (cond b (x ∷ filter p rest) (filter p rest))
+
 pub any_filter : (p : ℕ → Bool) (n : ℕ) (xs : List ℕ) →
     list_any (nat_eq n) (filter p xs) ≡ (p n && list_any (nat_eq n) xs)
 any_filter p n [] = nothing (p n)
@@ -165,19 +169,19 @@ any_filter p n (x ∷ rest) = at (p x) refl (nat_eq n x) refl (any_filter p n re
         → list_any (nat_eq n) (cond (p x) (x ∷ filter p rest) (filter p rest)) ≡
         (p n && (nat_eq n x || list_any (nat_eq n) rest))
     at true e true h more =
-        ap (λ b. list_any (nat_eq n) (cond b (x ∷ filter p rest) (filter p rest))) e
+        ap (any_kept p n x rest) e
         ∙ ap (λ t. t || list_any (nat_eq n) (filter p rest)) h
         ∙ sym (ap (λ t. p n && (t || list_any (nat_eq n) rest)) h ∙ ap (λ b. b && true) (ap p (eqb-true n x h) ∙ e))
     at true e false h more =
-        ap (λ b. list_any (nat_eq n) (cond b (x ∷ filter p rest) (filter p rest))) e
+        ap (any_kept p n x rest) e
         ∙ ap (λ t. t || list_any (nat_eq n) (filter p rest)) h ∙ more
         ∙ sym (ap (λ t. p n && (t || list_any (nat_eq n) rest)) h)
     at false e true h more =
-        ap (λ b. list_any (nat_eq n) (cond b (x ∷ filter p rest) (filter p rest))) e ∙ more
+        ap (any_kept p n x rest) e ∙ more
         ∙ ap (λ b. b && list_any (nat_eq n) rest) (ap p (eqb-true n x h) ∙ e)
         ∙ sym (ap (λ b. b && (nat_eq n x || list_any (nat_eq n) rest)) (ap p (eqb-true n x h) ∙ e))
     at false e false h more =
-        ap (λ b. list_any (nat_eq n) (cond b (x ∷ filter p rest) (filter p rest))) e ∙ more
+        ap (any_kept p n x rest) e ∙ more
         ∙ sym (ap (λ t. p n && (t || list_any (nat_eq n) rest)) h)
 
 pub any_below : (n m : ℕ) → list_any (nat_eq m) (numbers_below n) ≡ nat_lt m n

@@ -3,6 +3,7 @@ use outside::{MemoryFiles, MemorySink};
 use run_commands::Program;
 use run_commands::plain::plain;
 use std::alloc::Global;
+use std::process::Abort;
 use std::test::Fail;
 
 const SCENARIO: &str =
@@ -30,19 +31,30 @@ fn words_of(alloc: Global, line: &str) -> Result<Vec<String>, Fail> {
     Ok(words)
 }
 
+fn file(alloc: Global, name: &str, content: &str) -> Result<(String, Vec<u8>), Fail> {
+    let name = String::from_str(alloc, name)?;
+    let content = Vec::from_slice(alloc, content.as_bytes())?;
+    Ok((name, content))
+}
+
+fn files_of(alloc: Global, script: &str) -> Result<MemoryFiles, Fail> {
+    let mut listed = Vec::new(alloc);
+    for (name, content) in [("scenario", SCENARIO), ("script", script)] {
+        listed.push(file(alloc, name, content)?)?;
+    }
+    Ok(MemoryFiles::make(alloc, listed, Vec::new(alloc)))
+}
+
+fn ending_of(alloc: Global, status: u8, line: &[u8], put: &[u8]) -> Result<Ending, Fail> {
+    let line = Vec::from_slice(alloc, line)?;
+    let put = Vec::from_slice(alloc, put)?;
+    Ok(Ending { status, line, put })
+}
+
 // Runs a command over a scenario and a script.
 fn run(alloc: Global, line: &str, script: &str) -> Result<Ending, Fail> {
     let words = words_of(alloc, line)?;
-    let mut listed = Vec::new(alloc);
-    listed.push((
-        String::from_str(alloc, "scenario")?,
-        Vec::from_slice(alloc, SCENARIO.as_bytes())?,
-    ))?;
-    listed.push((
-        String::from_str(alloc, "script")?,
-        Vec::from_slice(alloc, script.as_bytes())?,
-    ))?;
-    let mut files = MemoryFiles::make(alloc, listed, Vec::new(alloc));
+    let mut files = files_of(alloc, script)?;
     let mut out = MemorySink::make(alloc, Vec::new(alloc));
     let mut err = MemorySink::make(alloc, Vec::new(alloc));
     let program = Program { runs: Unplayed };
@@ -54,100 +66,133 @@ fn run(alloc: Global, line: &str, script: &str) -> Result<Ending, Fail> {
         &mut out,
         &mut err,
     );
-    Ok(Ending {
-        status,
-        line: Vec::from_slice(alloc, err.bytes())?,
-        put: Vec::from_slice(alloc, out.bytes())?,
-    })
+    ending_of(alloc, status, err.bytes(), out.bytes())
+}
+
+/// The status of a command that tells this line and puts nothing.
+fn told(
+    rt: &impl Abort,
+    alloc: Global,
+    line: &str,
+    script: &str,
+    wanted: &[u8],
+) -> Result<u8, Fail> {
+    let ending = run(alloc, line, script)?;
+    assert_eq!(rt; ending.line.as_slice(), wanted, "{line}");
+    assert!(rt; ending.put.is_empty(), "{line}");
+    Ok(ending.status)
 }
 
 #[test]
 fn words_and_files_are_refused_by_name(rt: HostRuntime) -> Result<(), Fail> {
-    let ending = run(rt.alloc(), "dance", "")?;
-    assert_eq!(rt; ending.status, 2);
-    assert_eq!(rt; ending.line.as_slice(), b"spire: usage\n".as_slice());
-    let ending = run(rt.alloc(), "keys nothing", "")?;
-    assert_eq!(rt; ending.status, 3);
-    assert_eq!(rt;
-        ending.line.as_slice(),
-        b"spire: file nothing fault\n".as_slice()
-    );
-    let ending = run(rt.alloc(), "keys script", "k = 1\n")?;
-    assert_eq!(rt; ending.status, 4);
-    assert_eq!(rt;
-        ending.line.as_slice(),
-        b"spire: scenario MissingKey f\n".as_slice()
-    );
-    assert!(rt; ending.put.is_empty());
+    for (line, script, wanted, status) in [
+        ("dance", "", b"spire: usage\n".as_slice(), 2),
+        (
+            "keys nothing",
+            "",
+            b"spire: file nothing fault\n".as_slice(),
+            3,
+        ),
+        (
+            "keys script",
+            "k = 1\n",
+            b"spire: scenario MissingKey f\n".as_slice(),
+            4,
+        ),
+    ] {
+        assert_eq!(rt; told(&rt, rt.alloc(), line, script, wanted)?, status);
+    }
     Ok(())
 }
 
 #[test]
 fn scripts_and_plays_are_refused_by_line(rt: HostRuntime) -> Result<(), Fail> {
-    let ending = run(
-        rt.alloc(),
-        "play scenario script nothing",
-        "flow\ntick m9\n",
-    )?;
-    assert_eq!(rt; ending.status, 5);
-    assert_eq!(rt;
-        ending.line.as_slice(),
-        b"spire: script NoActor 2\n".as_slice()
-    );
-    let ending = run(rt.alloc(), "play scenario script nothing", "flow\n")?;
-    assert_eq!(rt; ending.status, 3);
-    let ending = run(rt.alloc(), "replay scenario script", "spire 1\n")?;
-    assert_eq!(rt;
-        ending.line.as_slice(),
-        b"spire: history BadLine 1\n".as_slice()
-    );
+    for (line, script, wanted, status) in [
+        (
+            "play scenario script nothing",
+            "flow\ntick m9\n",
+            b"spire: script NoActor 2\n".as_slice(),
+            5,
+        ),
+        (
+            "play scenario script nothing",
+            "flow\n",
+            b"spire: file nothing fault\n".as_slice(),
+            3,
+        ),
+        (
+            "replay scenario script",
+            "spire 1\n",
+            b"spire: history BadLine 1\n".as_slice(),
+            5,
+        ),
+    ] {
+        assert_eq!(rt; told(&rt, rt.alloc(), line, script, wanted)?, status);
+    }
     Ok(())
 }
 
 #[test]
 fn questions_load_the_scenario_and_then_their_file(rt: HostRuntime) -> Result<(), Fail> {
-    let ending = run(rt.alloc(), "blame nothing script", "")?;
-    assert_eq!(rt; ending.status, 3);
-    let ending = run(rt.alloc(), "trend scenario nothing 0 1 6", "")?;
-    assert_eq!(rt;
-        ending.line.as_slice(),
-        b"spire: file nothing fault\n".as_slice()
-    );
-    let ending = run(rt.alloc(), "parts scenario script 0 1", "spire 1\n")?;
-    assert_eq!(rt; ending.status, 5);
-    assert_eq!(rt;
-        ending.line.as_slice(),
-        b"spire: history BadLine 1\n".as_slice()
-    );
-    let ending = run(rt.alloc(), "parts scenario script 0 4294967296", "")?;
-    assert_eq!(rt; ending.status, 2);
+    for (line, script, wanted, status) in [
+        (
+            "blame nothing script",
+            "",
+            b"spire: file nothing fault\n".as_slice(),
+            3,
+        ),
+        (
+            "trend scenario nothing 0 1 6",
+            "",
+            b"spire: file nothing fault\n".as_slice(),
+            3,
+        ),
+        (
+            "parts scenario script 0 1",
+            "spire 1\n",
+            b"spire: history BadLine 1\n".as_slice(),
+            5,
+        ),
+        (
+            "parts scenario script 0 4294967296",
+            "",
+            b"spire: usage\n".as_slice(),
+            2,
+        ),
+    ] {
+        assert_eq!(rt; told(&rt, rt.alloc(), line, script, wanted)?, status);
+    }
     Ok(())
 }
 
 #[test]
 fn parts_of_no_text_have_a_status_of_their_own(rt: HostRuntime) -> Result<(), Fail> {
-    let ending = run(rt.alloc(), "rebuild scenario script", "")?;
-    assert_eq!(rt; ending.status, 9);
-    assert_eq!(rt;
-        ending.line.as_slice(),
-        b"spire: rebuild NoText\n".as_slice()
-    );
-    assert!(rt; ending.put.is_empty());
+    let line = b"spire: rebuild NoText\n";
+    let status = told(&rt, rt.alloc(), "rebuild scenario script", "", line)?;
+    assert_eq!(rt; status, 9);
     Ok(())
+}
+
+/// A call of `verify` with so many bytes as public key, and the scenario and the script as message and signature.
+fn verifying(alloc: Global, bytes: u64) -> Result<String, Fail> {
+    let mut line = String::from_str(alloc, "verify ")?;
+    for _byte in 0..bytes {
+        line.push_str("0f")?;
+    }
+    line.push_str(" scenario script")?;
+    Ok(line)
 }
 
 #[test]
 fn a_signature_that_is_none_is_refused(rt: HostRuntime) -> Result<(), Fail> {
-    let mut line = String::from_str(rt.alloc(), "verify ")?;
-    for _digits in 0..60u64 {
-        line.push_str("0f")?;
+    for (bytes, wanted, status) in [
+        (60, b"spire: not verified\n".as_slice(), 8),
+        (1, b"spire: usage\n".as_slice(), 2),
+    ] {
+        let line = verifying(rt.alloc(), bytes)?;
+        let told = told(&rt, rt.alloc(), line.as_str(), "", wanted)?;
+        assert_eq!(rt; told, status);
     }
-    line.push_str(" scenario script")?;
-    let ending = run(rt.alloc(), line.as_str(), "")?;
-    assert_eq!(rt; ending.status, 8);
-    assert_eq!(rt; ending.line.as_slice(), b"spire: not verified\n".as_slice());
-    let ending = run(rt.alloc(), "verify 0f scenario script", "")?;
-    assert_eq!(rt; ending.status, 2);
     Ok(())
 }
 

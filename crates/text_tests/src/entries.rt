@@ -91,16 +91,21 @@ fn key(alloc: Global) -> Result<KeyState, Fail> {
 fn an_entry_of_each_kind_comes_back(rt: HostRuntime) -> Result<(), Fail> {
     let mut key = key(rt.alloc())?;
     let ring = ring_with(rt.alloc(), key.public())?;
-    assert!(rt; comes_back(rt.alloc(), &ring, &TICK)?);
-    assert!(rt; comes_back(rt.alloc(), &ring, &COMMAND)?);
-    assert!(rt; comes_back(rt.alloc(), &ring, &FIELD)?);
-    assert!(rt; comes_back(rt.alloc(), &ring, &POLL)?);
-    assert!(rt; comes_back(rt.alloc(), &ring, &CRY)?);
-    assert!(rt; comes_back(rt.alloc(), &ring, &SKIP)?);
-    assert!(rt; comes_back(rt.alloc(), &ring, &RESTART)?);
     let sig = key.sign(&PING)?;
     let took = taking(rt.alloc(), &sig)?;
-    assert!(rt; comes_back(rt.alloc(), &ring, &took)?);
+    let entries: [&[u8]; 8] = [
+        &TICK,
+        &COMMAND,
+        &FIELD,
+        &POLL,
+        &CRY,
+        &SKIP,
+        &RESTART,
+        took.as_slice(),
+    ];
+    for bytes in entries {
+        assert!(rt; comes_back(rt.alloc(), &ring, bytes)?);
+    }
     Ok(())
 }
 

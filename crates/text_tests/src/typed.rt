@@ -1,6 +1,7 @@
 //! Lines as a user types them, cut at the spaces: what each asks for, and which are refused.
 use command_words::{Asked, WordsAnswer, read_words};
 use std::alloc::Global;
+use std::process::Abort;
 use std::test::Fail;
 
 fn words_of(alloc: Global, line: &str) -> Result<Vec<String>, Fail> {
@@ -11,97 +12,80 @@ fn words_of(alloc: Global, line: &str) -> Result<Vec<String>, Fail> {
     Ok(words)
 }
 
+/// Wants a line to ask for this.
+fn asks(rt: &impl Abort, alloc: Global, line: &str, asked: Asked<'_>) -> Result<(), Fail> {
+    let words = words_of(alloc, line)?;
+    assert_eq!(rt; read_words(alloc, words.as_slice())?, asked, "{line}");
+    Ok(())
+}
+
 #[test]
 fn commands_over_scripts_and_histories(rt: HostRuntime) -> Result<(), Fail> {
-    let words = words_of(rt.alloc(), "play s p w")?;
-    assert_eq!(rt;
-        read_words(rt.alloc(), words.as_slice())?,
-        Asked::Play {
-            scenario: "s",
-            script: "p",
-            words: "w"
-        }
-    );
-    let words = words_of(rt.alloc(), "run s --turns 009 p --hands=+2 w")?;
-    assert_eq!(rt;
-        read_words(rt.alloc(), words.as_slice())?,
-        Asked::Run {
-            scenario: "s",
-            script: "p",
-            words: "w",
-            hands: 2,
-            turns: 9
-        }
-    );
-    let words = words_of(rt.alloc(), "replay s h")?;
-    assert_eq!(rt;
-        read_words(rt.alloc(), words.as_slice())?,
-        Asked::Replay {
-            scenario: "s",
-            history: "h"
-        }
-    );
-    let words = words_of(rt.alloc(), "blame s -- -h")?;
-    assert_eq!(rt;
-        read_words(rt.alloc(), words.as_slice())?,
-        Asked::Blame {
-            scenario: "s",
-            history: "-h"
-        }
-    );
-    let words = words_of(rt.alloc(), "trend s h 1 0 4294967295")?;
-    assert_eq!(rt;
-        read_words(rt.alloc(), words.as_slice())?,
-        Asked::Trend {
-            scenario: "s",
-            history: "h",
-            point: 1,
-            first: 0,
-            last: 4294967295
-        }
-    );
+    let play = Asked::Play {
+        scenario: "s",
+        script: "p",
+        words: "w",
+    };
+    let run = Asked::Run {
+        scenario: "s",
+        script: "p",
+        words: "w",
+        hands: 2,
+        turns: 9,
+    };
+    let replay = Asked::Replay {
+        scenario: "s",
+        history: "h",
+    };
+    let blame = Asked::Blame {
+        scenario: "s",
+        history: "-h",
+    };
+    let trend = Asked::Trend {
+        scenario: "s",
+        history: "h",
+        point: 1,
+        first: 0,
+        last: 4294967295,
+    };
+    for (line, asked) in [
+        ("play s p w", play),
+        ("run s --turns 009 p --hands=+2 w", run),
+        ("replay s h", replay),
+        ("blame s -- -h", blame),
+        ("trend s h 1 0 4294967295", trend),
+    ] {
+        asks(&rt, rt.alloc(), line, asked)?;
+    }
     Ok(())
 }
 
 #[test]
 fn commands_over_keys_and_parts(rt: HostRuntime) -> Result<(), Fail> {
-    let words = words_of(rt.alloc(), "make -- +7")?;
-    assert_eq!(rt;
-        read_words(rt.alloc(), words.as_slice())?,
-        Asked::Make { number: 7 }
-    );
-    let words = words_of(rt.alloc(), "keys s")?;
-    assert_eq!(rt;
-        read_words(rt.alloc(), words.as_slice())?,
-        Asked::Keys { scenario: "s" }
-    );
-    let words = words_of(rt.alloc(), "verify k m help")?;
-    assert_eq!(rt;
-        read_words(rt.alloc(), words.as_slice())?,
-        Asked::Verify {
-            public: "k",
-            message: "m",
-            signature: "help"
-        }
-    );
-    let words = words_of(rt.alloc(), "parts s h 3 12")?;
-    assert_eq!(rt;
-        read_words(rt.alloc(), words.as_slice())?,
-        Asked::Parts {
-            scenario: "s",
-            history: "h",
-            originator: 3,
-            number: 12
-        }
-    );
-    let words = words_of(rt.alloc(), "rebuild s p")?;
-    assert_eq!(rt;
-        read_words(rt.alloc(), words.as_slice())?,
-        Asked::Rebuild {
-            scenario: "s",
-            pieces: "p"
-        }
-    );
+    let verify = Asked::Verify {
+        public: "k",
+        message: "m",
+        signature: "help",
+    };
+    let parts = Asked::Parts {
+        scenario: "s",
+        history: "h",
+        originator: 3,
+        number: 12,
+    };
+    let rebuild = Asked::Rebuild {
+        scenario: "s",
+        pieces: "p",
+    };
+    for (line, asked) in [
+        ("make -- +7", Asked::Make { number: 7 }),
+        ("keys s", Asked::Keys { scenario: "s" }),
+        ("verify k m help", verify),
+        ("parts s h 3 12", parts),
+        ("rebuild s p", rebuild),
+    ] {
+        asks(&rt, rt.alloc(), line, asked)?;
+    }
     Ok(())
 }
 

@@ -32,7 +32,7 @@ use Rattle.view_change.specs.ViewState.{first_new_view, plan_in_new_view, presen
 use Rattle.view_change.specs.ViewState.{is_new_view_owed}
 use Rattle.view_change.proofs.Reached.{quorum-same, quorum-none}
 use Rattle.protocol_rules.proofs.LimitValues.{most_view-is}
-use Rattle.view_change.proofs.Known.{opened-is}
+use Rattle.view_change.proofs.Known.{opened-is, plan_there}
 use Rattle.quorum_sets.proofs.Numbered.{below_none_at}
 use Rattle.quorum_sets.proofs.MastersLemmas.{numbers_below-suc}
 
@@ -101,10 +101,6 @@ open-is : (g : Group) (known : List (Signed Body)) →
     is_open g known ≡ (nat_eq (view g known) 0 || is_opened known (view g known))
 unfolding is_open
 open-is g known = refl
-
-plan_there : {X Y : Type 0} (h : X → Y) (o : Option X) → is_some (option_map h o) ≡ is_some o
-plan_there h None = refl
-plan_there h (Some x) = refl
 
 pub first-open : (g : Group) (me : ℕ) (kept : ViewState) (known : List (Signed Body)) (said : List Body) (v : ℕ) →
     v ≡ kept.view → v ≡ 0 → AreViewsOf g me kept known said → true ≡ is_open g known

@@ -357,7 +357,8 @@ suspect-taken g me kept new known said signer v sig masters r few low joined eno
           (enough ∙ quorum-same g.n g.q (has_master masters)
           (λ j. list_any (is_suspect v j) (known ++ suspect_of signer v sig ∷ [])) here) is.view now;
       limit = view-limited r kept.view new.view v low is.limit now;
-      suspects = λ w j below small. ap (λ o. has_master (unwrap_or o []) j) (votes w) ∙ at w j below small (cases_eq v w);
+      suspects = λ w j below small. ap (λ o. has_master (unwrap_or o []) j) (votes w)
+          ∙ at w j below small (cases_eq v w);
       reports = λ w j. ap (λ es. at_place es w j) reports ∙ is.reports w j
           ∙ sym (first_report-more known (suspect_of signer v sig) w j ∙ or_else-none (first_report known w j));
       plans = λ w. ap (λ es. at_view es w) plans ∙ is.plans w ∙ ap (option_map (plan_in_new_view g))
@@ -474,7 +475,7 @@ report-taken g me kept new known said f fresh group own same suspects reports pl
 abbrev pub new_view_word : Signed NewView → Signed Body
 new_view_word f = as_frame body.NewView f
 
-plan_there : {X Y : Type 0} (h : X → Y) (o : Option X) → is_some (option_map h o) ≡ is_some o
+pub plan_there : {X Y : Type 0} (h : X → Y) (o : Option X) → is_some (option_map h o) ≡ is_some o
 plan_there h None = refl
 plan_there h (Some x) = refl
 

@@ -95,7 +95,8 @@ counted g me kept new known said bodies base marks certificates report opening r
       own = own ∙ is.own;
       view = same ∙ is.view;
       limit = (let low : kept.view ≤ most_view = is.limit in omega arith);
-      suspects = λ v j low few. ap (λ es. has_master (unwrap_or (at_view es v) []) j) suspects ∙ is.suspects v j low few;
+      suspects = λ v j low few. ap (λ es. has_master (unwrap_or (at_view es v) []) j) suspects
+          ∙ is.suspects v j low few;
       reports = λ v j. ap (λ es. at_place es v j) kept_reports ∙ is.reports v j;
       plans = λ v. ap (λ es. at_view es v) plans ∙ is.plans v;
       reported = λ v most.

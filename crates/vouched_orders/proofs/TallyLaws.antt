@@ -1,7 +1,8 @@
 -- What one vote more does to a tally.
 use Rattle.std.proofs.Common.{◌≡◌, ℕ, ◌+◌, ◌^◌, ◌<◌, ◌≤◌, Bool, true, false, ◌&&◌, List, [], ◌∷◌, ◌++◌, Option, Some}
 use Rattle.std.proofs.Common.{None, length, nat_eq, nat_lt, slice_get, IsSome, is_some, unwrap_or, refl, sym, ◌∙◌, ap}
-use Rattle.std.proofs.Common.{inl, inr, ◌⊎◌, arith, if◌then◌else◌}
+use Rattle.std.proofs.Common.{subst, inl, inr, ◌⊎◌, arith, if◌then◌else◌}
+use Rattle.std.specs.Prelude.{Result, Ok, Err, OnErr}
 use Rattle.std.specs.Ordering.{nat_cmp, is_eq, ordering_then}
 use Rattle.std.specs.declared.cmp.Ordering.{Ordering}
 use Rattle.std.specs.declared.cmp.Ordering.TheVariants.{Less, Equal, Greater}
@@ -64,7 +65,7 @@ own_ballot vote =
 
 -- the tally of no votes
 pub tally-none : (n f : ℕ) (masters : BTreeMap (List ℕ) (List ℕ)) (settled : BTreeMap ℕ Order) →
-    masters.entries ≡ [] → settled.entries ≡ [] → IsTally n f [] masters settled 0
+    masters.entries ≡ [] → settled.entries ≡ [] → IsTally n f [] masters.entries settled.entries 0
 tally-none n f masters settled m s = record {
   supporters_are = λ x o. ap (λ es. unwrap_or (lookup (is_at (slice_cmp nat_cmp (ballot x o))) es) []) m
       ∙ sym (supporters-none n x o);
@@ -88,7 +89,7 @@ or_else-kept (Some o) p some = refl
 module _ (n f : ℕ) (few : n ≤ 14) (votes : List Vote) (vote : Vote) (masters : BTreeMap (List ℕ) (List ℕ))
     (settled : BTreeMap ℕ Order) (count : ℕ) (with_it : List ℕ) (settles : Bool) where
   -- the supporters of the vote's order, with its signer
-  own_supporters : IsTally n f votes masters settled count →
+  own_supporters : IsTally n f votes masters.entries settled.entries count →
       with_it ≡ with_signer n (masters_at masters (ballot vote.voucher.number vote.voucher.order)) vote.signer
       → supporters n (votes ++ vote ∷ []) vote.voucher.number vote.voucher.order ≡ with_it
   own_supporters tally joined =
@@ -99,7 +100,7 @@ module _ (n f : ℕ) (few : n ≤ 14) (votes : List Vote) (vote : Vote) (masters
       (tally.supporters_are vote.voucher.number vote.voucher.order))
 
   -- what the vote settles
-  settled-is : IsTally n f votes masters settled count →
+  settled-is : IsTally n f votes masters.entries settled.entries count →
       with_it ≡ with_signer n (masters_at masters (ballot vote.voucher.number vote.voucher.order)) vote.signer
       → settles ≡ nat_lt f (length with_it) → (x : ℕ)
       → settled_by n f (votes ++ vote ∷ []) vote x ≡ (if nat_eq vote.voucher.number x
@@ -118,7 +119,7 @@ module _ (n f : ℕ) (few : n ≤ 14) (votes : List Vote) (vote : Vote) (masters
           then Some vote.voucher.order else None) (ne_eqb vote.voucher.number x ne)
           ∙ sym (ap (λ b. if b && settles then Some vote.voucher.order else None) (ne_eqb vote.voucher.number x ne))
 
-  chosen-is : IsTally n f votes masters settled count →
+  chosen-is : IsTally n f votes masters.entries settled.entries count →
       with_it ≡ with_signer n (masters_at masters (ballot vote.voucher.number vote.voucher.order)) vote.signer
       → settles ≡ nat_lt f (length with_it) → (x : ℕ)
       → chosen n f (votes ++ vote ∷ []) x ≡ or_else (get nat_cmp settled x)
@@ -129,7 +130,7 @@ module _ (n f : ℕ) (few : n ≤ 14) (votes : List Vote) (vote : Vote) (masters
       ∙ ap (λ o. or_else (get nat_cmp settled x) o) (settled-is tally joined enough x)
 
   -- what was done stays
-  stays : IsTally n f votes masters settled count → (i : ℕ) → i < count →
+  stays : IsTally n f votes masters.entries settled.entries count → (i : ℕ) → i < count →
       (slice_get (done n f votes) i ≡ chosen n f (votes ++ vote ∷ []) (1 + i))
       × IsSome (chosen n f (votes ++ vote ∷ []) (1 + i))
   stays tally i lt =
@@ -141,15 +142,15 @@ module _ (n f : ℕ) (few : n ≤ 14) (votes : List Vote) (vote : Vote) (masters
       (settled_by n f (votes ++ vote ∷ []) vote (1 + i)) some in
       (done-each n f votes i within ∙ sym kept, ap is_some kept ∙ some)
 
-  none_next : IsTally n f votes masters settled count → chosen n f votes (1 + count) ≡ None
+  none_next : IsTally n f votes masters.entries settled.entries count → chosen n f votes (1 + count) ≡ None
   none_next tally = ap (λ (m : ℕ). chosen n f votes (1 + m)) tally.count_is ∙ done-end n f votes
 
-  none_there : IsTally n f votes masters settled count → get nat_cmp settled (1 + count) ≡ None
+  none_there : IsTally n f votes masters.entries settled.entries count → get nat_cmp settled (1 + count) ≡ None
   none_there tally = tally.orders_are (1 + count) ∙ none_next tally
 
   -- the tally after the vote
   pub tally-push : (masters' : BTreeMap (List ℕ) (List ℕ)) (settled' : BTreeMap ℕ Order) (count' : ℕ)
-      → IsTally n f votes masters settled count →
+      → IsTally n f votes masters.entries settled.entries count →
       with_it ≡ with_signer n (masters_at masters (ballot vote.voucher.number vote.voucher.order)) vote.signer
       → settles ≡ nat_lt f (length with_it) → vote.voucher.number < 2 ^ 64
       → ((key : List ℕ) → masters_at masters' key ≡
@@ -159,7 +160,7 @@ module _ (n f : ℕ) (few : n ≤ 14) (votes : List Vote) (vote : Vote) (masters
       (if nat_eq vote.voucher.number x && settles then Some vote.voucher.order else None))
       → count ≤ count' → ((i : ℕ) → count ≤ i → i < count' → IsSome (get nat_cmp settled' (i + 1)))
       → (count' + 1 < 2 ^ 64 → get nat_cmp settled' (count' + 1) ≡ None)
-      → IsTally n f (votes ++ vote ∷ []) masters' settled' count'
+      → IsTally n f (votes ++ vote ∷ []) masters'.entries settled'.entries count'
   tally-push masters' settled' count' tally joined enough fits noted settled_is from run end =
       let orders_are : (x : ℕ) → get nat_cmp settled' x ≡ chosen n f (votes ++ vote ∷ []) x =
       λ x. settled_is x ∙ sym (chosen-is tally joined enough x) in
@@ -203,7 +204,7 @@ module _ (n f : ℕ) (few : n ≤ 14) (votes : List Vote) (vote : Vote) (masters
       last are most (inr le) = chosen-above n f (votes ++ vote ∷ []) (1 + count') (omega arith)
 
   -- a vote that isn't for the next number, or doesn't settle it, makes nothing done
-  pub ready-none : IsTally n f votes masters settled count →
+  pub ready-none : IsTally n f votes masters.entries settled.entries count →
       with_it ≡ with_signer n (masters_at masters (ballot vote.voucher.number vote.voucher.order)) vote.signer
       → settles ≡ nat_lt f (length with_it) → (nat_eq vote.voucher.number (1 + count) && settles) ≡ false
       → done n f (votes ++ vote ∷ []) ≡ done n f votes
@@ -218,7 +219,7 @@ module _ (n f : ℕ) (few : n ≤ 14) (votes : List Vote) (vote : Vote) (masters
 
   -- one that settles the next number makes its order done, and those of the numbers behind that have one
   pub ready-run : (run : List Order)
-      → IsTally n f votes masters settled count →
+      → IsTally n f votes masters.entries settled.entries count →
       with_it ≡ with_signer n (masters_at masters (ballot vote.voucher.number vote.voucher.order)) vote.signer
       → settles ≡ nat_lt f (length with_it) → vote.voucher.number < 2 ^ 64 →
       vote.voucher.number ≡ 1 + count → settles ≡ true
@@ -280,12 +281,24 @@ module _ (n f : ℕ) (few : n ≤ 14) (votes : List Vote) (vote : Vote) (masters
 -- the tally stays where the maps say the same
 pub tally-same : (n f : ℕ) (votes : List Vote) (masters masters' : BTreeMap (List ℕ) (List ℕ))
     (settled settled' : BTreeMap ℕ Order) (count : ℕ)
-    → IsTally n f votes masters settled count → ((key : List ℕ) → masters_at masters' key ≡ masters_at masters key) →
+    → IsTally n f votes masters.entries settled.entries count →
+    ((key : List ℕ) → masters_at masters' key ≡ masters_at masters key) →
     ((x : ℕ) → get nat_cmp settled' x ≡ get nat_cmp settled x)
-    → IsTally n f votes masters' settled' count
+    → IsTally n f votes masters'.entries settled'.entries count
 tally-same n f votes masters masters' settled settled' count tally m s = record {
   supporters_are = λ x o. m (ballot x o) ∙ tally.supporters_are x o;
   orders_are = λ x. s x ∙ tally.orders_are x;
   count_is = tally.count_is;
   numbers_fit = tally.numbers_fit;
 }
+
+-- what is done by a tally's own sizes is done by those of its votes
+pub done-sized : (n f m g : ℕ) (more votes : List Vote) (orders : List Order) → m ≡ n → g ≡ f →
+    done m g more ≡ done m g votes ++ orders → done n f more ≡ done n f votes ++ orders
+done-sized n f m g more votes orders same alike is =
+    subst (λ (a : ℕ). done a f more ≡ done a f votes ++ orders) same
+    (subst (λ (b : ℕ). done m b more ≡ done m b votes ++ orders) alike is)
+
+pub on_err : {V E A : Type 0} (r : Result V E) → A → OnErr r A
+on_err (Ok v) a = tt
+on_err (Err e) a = a

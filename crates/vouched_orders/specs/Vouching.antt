@@ -82,9 +82,3 @@ votes_in frames = flat_map
 -- what a client of n masters has done at the end of a list of votes, whoever they are for
 abbrev pub orders_done : (Order → Bool) → (client n f : ℕ) → List Vote → List Order
 orders_done can_act client n f votes = done n f (counted can_act client votes)
-
--- votes that count, how many masters there are, and how many of them may be intruded
-pub record Votes : Type 0 where
-  pub n : ℕ
-  pub f : ℕ
-  pub votes : List Vote

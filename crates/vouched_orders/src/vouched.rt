@@ -1,10 +1,10 @@
-ghost use Rattle.std.specs.Prelude.{◌≡◌, ◌++◌, ◌∷◌, ◌<◌, ◌≤◌, ◌+◌, ◌^◌, ℕ, Bool, ◌&&◌, true, false, [], List, None, Some, OnOk, OnErr, IfOk, IsTrue, IsSome, length, cond, nat_eq, nat_lt, unwrap_or, if◌then◌else◌, slice_get};
+ghost use Rattle.std.specs.Prelude.{◌≡◌, ◌<◌, ◌≤◌, ◌+◌, ◌^◌, ℕ, Bool, ◌&&◌, true, false, [], List, None, Some, OnOk, OnErr, IfOk, IsTrue, IsSome, length, cond, nat_eq, nat_lt, unwrap_or, if◌then◌else◌, slice_get};
 ghost use Rattle.std.specs.BTreeMap.{get};
 ghost use Rattle.std.specs.Ordering.{nat_cmp, is_eq};
 ghost use Rattle.std.specs.Cmp.Lexicographic.{slice_cmp};
 ghost use Rattle.message_types.specs.declared.vouchers.Order.{Order};
 ghost use Rattle.vouched_orders.specs.Vouching.{or_else};
-ghost use Rattle.vouched_orders.specs.Tally.{ballot, masters_at, order_with, with_signer};
+ghost use Rattle.vouched_orders.specs.Tally.{ballot, masters_at, order_with, with_signer, IsTallyOf, MakesDone, TakesVote, TalliesAlike};
 
 use crate::ballots::ballot_of;
 use crate::vote::Vote;
@@ -15,12 +15,10 @@ use std::alloc::Global;
 use std::collections::BTreeMap;
 use std::marker::Model;
 
-/// The votes taken for a client's orders, and a tally of them by number and order, so that a further vote looks
-/// through none of them.
+/// A tally of the votes taken for a client's orders, by number and order. Contracts see which votes it is the tally of.
 pub struct Vouched {
     alloc: Global,
     sizes: Sizes,
-    votes: Vec<Vote, Global>,
     masters: BTreeMap<[u64; 5], VoterSet, Global>,
     settled: BTreeMap<u64, Order, Global>,
     count: u64,
@@ -32,7 +30,6 @@ impl Drop for Vouched {
         let Vouched {
             alloc: _,
             sizes: _,
-            votes: _,
             masters: _,
             settled: _,
             count: _,
@@ -41,27 +38,21 @@ impl Drop for Vouched {
 }
 
 impl Model for Vouched {
-    ghost use Rattle.vouched_orders.specs.Vouching.{Votes};
-    ghost use Rattle.vouched_orders.specs.Tally.{IsTally};
+    ghost use Rattle.vouched_orders.specs.Tally.{Tally};
 
-    ghost Value = { Votes };
+    ghost Value = { Tally };
 
-    ghost view = { λ v. record { n = v.sizes.n; f = v.sizes.f; votes = v.votes.items } };
-
-    ghost invariant = { λ v. IsTally v.sizes.n v.sizes.f v.votes.items v.masters v.settled v.count };
+    ghost view = { λ v. record { n = v.sizes.n; f = v.sizes.f; masters = v.masters.entries; settled = v.settled.entries; count = v.count } };
 }
 
 impl Vouched {
-    ghost use Rattle.vouched_orders.specs.Vouching.{Votes, done, supporters};
-
     /// No votes yet. It takes no memory.
     pub fn new(alloc: Global, sizes: &Sizes) -> Vouched
-        ensures { result ≡ record { n = sizes.now.n; f = sizes.now.f; votes = [] } }
+        ensures { IsTallyOf sizes.now.n sizes.now.f [] result }
     {
         Vouched {
             alloc,
             sizes: *sizes,
-            votes: Vec::new(alloc),
             masters: BTreeMap::new(alloc),
             settled: BTreeMap::new(alloc),
             count: 0,
@@ -70,7 +61,7 @@ impl Vouched {
 
     /// The orders that this vote would make done, in the order of their numbers.
     pub fn ready(&self, vote: &Vote) -> Result<Vec<Order, Global>, Want>
-        ensures { IfOk result (λ orders. done self.now.n self.now.f (self.now.votes ++ vote.now ∷ []) ≡ done self.now.n self.now.f self.now.votes ++ orders.items) }
+        ensures { IfOk result (λ orders. MakesDone self.now vote.now orders.items) }
     {
         let masters = masters_with(&self.masters, &self.sizes, vote)?;
         let settles = masters.len() > self.sizes.f;
@@ -84,22 +75,18 @@ impl Vouched {
 
     /// Takes a vote, whoever signed it. After want of memory it isn't taken.
     pub fn take(&mut self, vote: Vote) -> Result<(), Want>
-        ensures ok { OnOk result (self.new ≡ record self.old { votes = self.old.votes ++ vote ∷ [] }) }
-        ensures err { OnErr result (self.new ≡ self.old) }
+        ensures ok { OnOk result (TakesVote self.old vote self.new) }
+        ensures err { OnErr result (TalliesAlike self.old self.new) }
     {
         let masters = masters_with(&self.masters, &self.sizes, &vote)?;
         let settles = masters.len() > self.sizes.f;
-        self.votes.push(vote)?;
-        if let Err(want) = note(
+        note(
             &mut self.masters,
             &mut self.settled,
             &vote.voucher,
             masters,
             settles,
-        ) {
-            self.votes.pop();
-            return Err(want);
-        }
+        )?;
         self.count = end_of_run(&self.settled, self.count);
         Ok(())
     }

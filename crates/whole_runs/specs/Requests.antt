@@ -8,6 +8,7 @@ use Rattle.outside.specs.Piece.{with_piece}
 use Rattle.sha2.specs.Sha256.{sha256}
 use Rattle.scenario_file.specs.Reading.{Contents}
 use Rattle.history_rules.specs.Events.{Entry}
+use Rattle.parity_parts.specs.declared.limits.TheConstants.{MOST_TEXT_BYTES}
 use Rattle.parity_parts.specs.Parts.{AreBytes}
 use Rattle.parity_parts.specs.Rebuilding.{wrong_masters}
 use Rattle.world_rules.specs.Headline.{Premises}
@@ -46,7 +47,7 @@ KeepsParts call status =
 pub record HasEnough (c : Contents) (lines digest text : List ℕ) : Type 0 where
   pub bytes : AreBytes text
   pub some : 1 ≤ length text
-  pub fits : length text ≤ 65536
+  pub fits : length text ≤ MOST_TEXT_BYTES
   pub of_digest : sha256 text ≡ digest
   pub enough : HasEnoughLines c text lines
 

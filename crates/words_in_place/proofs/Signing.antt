@@ -84,6 +84,13 @@ rule_of r true false true due other correct loud = absurd (false≢true (sym lou
 rule_of r true true s due other correct loud = absurd (false≢true correct)
 rule_of r false x s due other correct loud = absurd (false≢true correct)
 
+-- what the rules make a master say at an entry, and the frames of what it said there
+abbrev due_at : Setup → ℕ → List Entry → Entry → List Body
+due_at w i before e = answers w.group w.orders i (heard w before i) (frame_taken e.event) (is_tick e.event)
+
+abbrev frames_then : Setup → ℕ → List Entry → Entry → List (Signed Body)
+frames_then w i before e = signed_from w i (leaves_used w (own before i)) e.said 0 e.said
+
 module _ (w : Setup) (i : ℕ) (sizes : HasSizes w.group) (well : SignsWell w)
     (correct : is_correct_master w i ≡ true) where
   below : i < w.group.n
@@ -92,23 +99,23 @@ module _ (w : Setup) (i : ℕ) (sizes : HasSizes w.group) (well : SignsWell w)
   -- what the master says at an entry is what the rules make it say, cut to its room
   said_rule : (before : List Entry) (e : Entry) → IsLegal w (before ++ e ∷ []) → e.actor ≡ i → is_silent e.event ≡ false
       → e.said ≡ take (room w (own before i))
-      (answers w.group w.orders i (heard w before i) (frame_taken e.event) (is_tick e.event))
+      (due_at w i before e)
   unfolding says_in
   said_rule before e legal by loud =
       let rule : e.said ≡ says w before e.actor e.event = (legal.entries before e (stands_last before e)).said in
       let rule_i : e.said ≡ says w before i e.event = rule ∙ ap (λ k. says w before k e.event) by in
       rule_i ∙ rule_of (room w (own before i)) (nat_lt i w.group.n) (w.intruded i) (is_silent e.event)
-      (answers w.group w.orders i (heard w before i) (frame_taken e.event) (is_tick e.event))
+      (due_at w i before e)
       (w.client_says i (own before i) e.event) correct loud
 
   -- its frames stand, where all that it had learned is well
   frames_stand : (before : List Entry) (e : Entry) → IsLegal w (before ++ e ∷ []) → e.actor ≡ i →
       is_silent e.event ≡ false → ticks_heard (heard w (before ++ e ∷ []) i) ≤ 2 ^ 32
       → Each (IsWell w) (learned_by w before i) →
-      list_all (stands w) (signed_from w i (leaves_used w (own before i)) e.said 0 e.said) ≡ true
+      list_all (stands w) (frames_then w i before e) ≡ true
   frames_stand before e legal by loud few learned_well =
       let used : ℕ = leaves_used w (own before i) in
-      let frames : List (Signed Body) = signed_from w i (leaves_used w (own before i)) e.said 0 e.said in
+      let frames : List (Signed Body) = frames_then w i before e in
       let known_well : Each (IsWell w) (known_then w before i e) = λ p h. elim (known_then_from w before i e p h) [
         | inl earlier ↦ learned_well p earlier
         | inr now ↦ taken_well w (length before) e.event (legal.entries before e (stands_last before e)).taken p now
@@ -125,28 +132,28 @@ module _ (w : Setup) (i : ℕ) (sizes : HasSizes w.group) (well : SignsWell w)
       all_from (is_signed w) (known_then w before i e) (λ p h. (known_well p h).2) in
       let rule = said_rule before e legal by loud in
       let fitting : list_all body_fits
-      (answers w.group w.orders i (heard w before i) (frame_taken e.event) (is_tick e.event)) ≡ true =
+      (due_at w i before e) ≡ true =
       answers_are_spelled w.group w.orders i (heard w before i) (frame_taken e.event) (is_tick e.event)
       record { sizes = sizes; placed = speaks.placed; spelled = spelled } in
       let said_fits : list_all body_fits e.said ≡ true = all_from body_fits e.said (λ b h.
-      all_each body_fits (answers w.group w.orders i (heard w before i) (frame_taken e.event) (is_tick e.event))
+      all_each body_fits (due_at w i before e)
       fitting b (in_take (room w (own before i)) _ (subst (λ (bs : List Body). IsIn b bs) rule h))) in
       let enough : leaves_for w.shared_leaves (length e.said) ≤ w.leaves - leaves_used w (own before i) =
       subst (λ (bs : List Body). leaves_for w.shared_leaves (length bs) ≤ w.leaves - leaves_used w (own before i))
       (sym rule)
       (room_enough w.shared_leaves (w.leaves - leaves_used w (own before i))
-      (answers w.group w.orders i (heard w before i) (frame_taken e.event) (is_tick e.event))) in
+      (due_at w i before e)) in
       let signs = well.signs i (leaves_used w (own before i)) e.said (omega arith)
       (correct_actor w i (not-true (w.intruded i)
       (and_parts (nat_lt i w.group.n) (not (w.intruded i)) correct).1)) enough said_fits in
       let is : IsSaid w.group w.orders i (heard w before i) (frame_taken e.event) (is_tick e.event)
-      (room w (own before i)) (signed_from w i (leaves_used w (own before i)) e.said 0 e.said) = record {
-        own = all_from (λ f. nat_eq f.signer i) (signed_from w i (leaves_used w (own before i)) e.said 0 e.said)
+      (room w (own before i)) (frames_then w i before e) = record {
+        own = all_from (λ f. nat_eq f.signer i) (frames_then w i before e)
             (λ f h. eq-eqb f.signer i (signed_from_in w i (leaves_used w (own before i)) 0 e.said e.said f h).0);
         words = signed_from_bodies w i (leaves_used w (own before i)) 0 e.said e.said ∙ rule;
       } in
       own_frames_stand w i (heard w before i) (frame_taken e.event) (is_tick e.event) speaks spelled signed
-      (room w (own before i)) (signed_from w i (leaves_used w (own before i)) e.said 0 e.said) is
+      (room w (own before i)) (frames_then w i before e) is
       (all_from (λ f. signature_fits f) frames
       (λ f h. (and_parts (signature_fits f) (is_signed w f)
       (all_each (λ f. signature_fits f && is_signed w f) frames signs f h)).0))
@@ -170,7 +177,7 @@ module _ (w : Setup) (i : ℕ) (sizes : HasSizes w.group) (well : SignsWell w)
       by_silence by (inl silent) = subst (λ (hs : List Heard). Each (IsWell w) (flat_map learned hs))
           (sym (heard_silent w before e i by silent)) so_far
       by_silence by (inr loud) =
-          let frames : List (Signed Body) = signed_from w i (leaves_used w (own before i)) e.said 0 e.said in
+          let frames : List (Signed Body) = frames_then w i before e in
           let stand = frames_stand before e legal by loud few so_far in
           let last : List Heard = hears w i (leaves_used w (own before i)) e ∷ [] in
           subst (λ (hs : List Heard). Each (IsWell w) (flat_map learned hs)) (sym (heard_then w before e i by loud))

@@ -120,14 +120,18 @@ said_word g orders me before took at_tick count frames is f h = (
 
 module _ (g : Group) (orders : List Update → ℕ → List Order) (me : ℕ) (before : List Heard)
     (took : Option (Signed Body)) (at_tick : Bool) (speaks : MaySpeak g me before took at_tick) where
+  -- what was heard, with what is answered now
+  abbrev heard_now : List Heard
+  heard_now = before ++ record { took = took; is_tick = at_tick; said = [] } ∷ []
+
   known_placed : Each (λ p. in_place g p ≡ true) (known_at before took)
   known_placed = all_each (in_place g) (known_at before took) speaks.placed
 
-  few_ticks : ticks_of (told_of g [] (before ++ record { took = took; is_tick = at_tick; said = [] } ∷ [])) ≤ 2 ^ 32
+  few_ticks : ticks_of (told_of g [] heard_now) ≤ 2 ^ 32
   few_ticks =
-      let all : ticks_of (told_of g [] (before ++ record { took = took; is_tick = at_tick; said = [] } ∷ [])) ≡ length
-      (filter (λ e. e.is_tick) (before ++ record { took = took; is_tick = at_tick; said = [] } ∷ [])) =
-      ticks_told g [] (before ++ record { took = took; is_tick = at_tick; said = [] } ∷ []) in
+      let all : ticks_of (told_of g [] heard_now) ≡ length
+      (filter (λ e. e.is_tick) heard_now) =
+      ticks_told g [] heard_now in
       subst (λ (k : ℕ). k ≤ 2 ^ 32)
       (sym (all ∙ filter_more (λ (e : Heard). e.is_tick) before record {
         took = took;
@@ -143,7 +147,7 @@ module _ (g : Group) (orders : List Update → ℕ → List Order) (me : ℕ) (b
       let taken : List (Signed Body) = taken_at before took in
       let said : List Body = said_before before in
       let facts : List OrderFact = facts_of g known in
-      let told : List Told = told_of g [] (before ++ record { took = took; is_tick = at_tick; said = [] } ∷ []) in
+      let told : List Told = told_of g [] heard_now in
       let v : ℕ = view g known in
       let P = λ (b : Body). WordPlaced g me b in
       let some : 1 ≤ g.q = some_in_quorum g speaks.sizes in

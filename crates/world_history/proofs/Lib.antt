@@ -1,3 +1,5 @@
+-- Behind an actor's entries: each role through one entry, and all of them as one; that the state after an entry is the
+-- replay of the longer list; how actors begin; what a bench shows; what an intruded master is made to say.
 pub mod Answering
 pub mod Masters
 pub mod Clients

@@ -11,8 +11,8 @@ use Rattle.protocol_rules.specs.Master.{Heard, executed}
 use Rattle.protocol_rules.specs.Preorder.{certified}
 use Rattle.protocol_rules.specs.Views.{view}
 use Rattle.field_proxy.specs.declared.writes.Write.{Write}
-use Rattle.field_proxy.specs.Front.{Front}
-use Rattle.operator_screen.specs.Board.{Desk}
+use Rattle.field_proxy.specs.Front.{Front, ProxyState}
+use Rattle.operator_screen.specs.Board.{Desk, ScreenState, IsDeskOf}
 use Rattle.hash_signatures.specs.Signatures.{all_leaves}
 use Rattle.hash_signatures.specs.State.{KeyUse}
 use Rattle.scenario_file.specs.Reading.{Contents}
@@ -186,11 +186,11 @@ client_is_screen c actor client is =
     ap (λ (x : Bool). cond x false (not (nat_lt (actor - masters_in c) (proxies_in c)))) (behind c actor client is)
     ∙ ap (λ (n : ℕ). not (nat_lt n (proxies_in c))) (client_number c actor client is)
 
-pub writes_told : (b : BenchState) (front : Front) (list : List Write) → HasRole b (role.Proxy front) →
+pub writes_told : (b : BenchState) (front : ProxyState) (list : List Write) → HasRole b (role.Proxy front) →
     list ≡ front.writes → list ≡ writes_shown b
 writes_told b front list (client, is, low, same) tells =
     tells
-    ∙ ap (λ (s : Front). s.writes) same
+    ∙ ap (λ (s : Front). s.writes) (sym same.same)
     ∙ ap (λ (n : ℕ). (front_of (masters_in b.world) b.world.settings.f b.world.plant n b.list).writes)
     (sym (client_number b.world b.actor client is))
     ∙ sym (ap (λ (x : Bool). cond x
@@ -198,11 +198,10 @@ writes_told b front list (client, is, low, same) tells =
     [])
     (client_is_proxy b.world b.actor client is ∙ lt-ltb client (proxies_in b.world) low))
 
-pub board_told : (b : BenchState) (desk : Desk) (list : List Notice) → HasRole b (role.Screen desk) →
-    list ≡ board_of desk → list ≡ board_shown b
+pub board_told : (b : BenchState) (desk : ScreenState) (list : List Notice) → HasRole b (role.Screen desk) →
+    ((s : Desk) → IsDeskOf desk s → list ≡ board_of s) → list ≡ board_shown b
 board_told b desk list (client, is, high, same) tells =
-    tells
-    ∙ ap board_of same
+    tells (desk_of (masters_in b.world) b.world.settings.f client b.list) same
     ∙ ap (λ (n : ℕ). board_of (desk_of (masters_in b.world) b.world.settings.f n b.list))
     (sym (client_number b.world b.actor client is))
     ∙ sym (ap (λ (x : Bool). cond x
@@ -225,13 +224,13 @@ abbrev pub is_screen_role : Role → Bool
 is_screen_role (role.Screen desk) = true
 is_screen_role _ = false
 
-pub other_than_proxy : (r : Role) → ((front : Front) → r ≡ role.Proxy front → ⊥) → is_proxy_role r ≡ false
+pub other_than_proxy : (r : Role) → ((front : ProxyState) → r ≡ role.Proxy front → ⊥) → is_proxy_role r ≡ false
 other_than_proxy (role.Master node) other = refl
 other_than_proxy (role.Intruded known) other = refl
 other_than_proxy (role.Proxy front) other = absurd (other front refl)
 other_than_proxy (role.Screen desk) other = refl
 
-pub other_than_screen : (r : Role) → ((desk : Desk) → r ≡ role.Screen desk → ⊥) → is_screen_role r ≡ false
+pub other_than_screen : (r : Role) → ((desk : ScreenState) → r ≡ role.Screen desk → ⊥) → is_screen_role r ≡ false
 other_than_screen (role.Master node) other = refl
 other_than_screen (role.Intruded known) other = refl
 other_than_screen (role.Proxy front) other = refl

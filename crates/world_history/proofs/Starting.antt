@@ -9,8 +9,8 @@ use Rattle.quorum_sets.specs.Masters.{has_master}
 use Rattle.point_table.specs.declared.point.DeviceSizes.{DeviceSizes}
 use Rattle.protocol_rules.specs.Group.{Group}
 use Rattle.protocol_rules.specs.Master.{Heard}
-use Rattle.field_proxy.specs.Front.{Front, fresh}
-use Rattle.operator_screen.specs.Board.{Desk}
+use Rattle.field_proxy.specs.Front.{ProxyState, IsFrontOf, fresh}
+use Rattle.operator_screen.specs.Board.{ScreenState, IsDeskOf}
 use Rattle.hash_signatures.specs.Signatures.{Key, all_leaves}
 use Rattle.hash_signatures.specs.State.{KeyUse, key_use, IsLevelCount, HasMadeHeights}
 use Rattle.actor_keys.specs.Keys.{key_of}
@@ -68,18 +68,23 @@ intruded_begins c master known low intruded none = record {
   knows = none ∙ sym overheard_none;
 }
 
-pub proxy_begins : (c : Contents) (client : ℕ) (device : DeviceSizes) (front : Front) → client < proxies_in c →
+pub proxy_begins : (c : Contents) (client : ℕ) (device : DeviceSizes) (front : ProxyState) → client < proxies_in c →
     slice_get c.plant.devices client ≡ Some device
-    → front ≡ fresh client (masters_in c) c.settings.f c.plant.points device →
+    → IsFrontOf front (fresh client (masters_in c) c.settings.f c.plant.points device) →
     IsProxy c (masters_in c + client) [] front
-proxy_begins c client device front low there made =
-    (client, refl, low, made ∙ sym (proxies_begin_fresh (masters_in c) c.settings.f client c.plant device there))
+proxy_begins c client device front low there made = (
+  client,
+  refl,
+  low,
+  subst (IsFrontOf front)
+      (sym (proxies_begin_fresh (masters_in c) c.settings.f client c.plant device there)) made,
+)
 
-pub screen_begins : (c : Contents) (client : ℕ) (desk : Desk) → proxies_in c ≤ client →
-    desk ≡ record { client = client; n = masters_in c; f = c.settings.f; commands = 0; votes = [] }
+pub screen_begins : (c : Contents) (client : ℕ) (desk : ScreenState) → proxies_in c ≤ client →
+    IsDeskOf desk (record { client = client; n = masters_in c; f = c.settings.f; commands = 0; votes = [] })
     → IsScreen c (masters_in c + client) [] desk
 screen_begins c client desk high made =
-    (client, refl, high, made ∙ sym (screens_begin_fresh (masters_in c) c.settings.f client))
+    (client, refl, high, subst (IsDeskOf desk) (sym (screens_begin_fresh (masters_in c) c.settings.f client)) made)
 
 -- before its first entry an actor's state is the replay of no entries
 pub replays_nothing : (c : Contents) (actor : ℕ) (role : Role) (k : KeyUse) → IsScenario c →
@@ -103,25 +108,25 @@ some_and (Some x) P h = (x, refl, h)
 pub masters_are : (s : Scenario) → s.sizes.n ≡ masters_in (contents s)
 masters_are s = s.sizes.all
 
-pub scenario_proxy_begins : (s : Scenario) (client : ℕ) (front : Front) → client < length s.plant.devices
+pub scenario_proxy_begins : (s : Scenario) (client : ℕ) (front : ProxyState) → client < length s.plant.devices
     → IsSomeAnd (slice_get s.plant.devices client)
-    (λ device. front ≡ fresh client s.sizes.n s.sizes.f s.plant.points device) →
+    (λ device. IsFrontOf front (fresh client s.sizes.n s.sizes.f s.plant.points device)) →
     IsProxy (contents s) (s.sizes.n + client) [] front
 scenario_proxy_begins s client front low made =
     let found = some_and (slice_get s.plant.devices client)
-    (λ device. front ≡ fresh client s.sizes.n s.sizes.f s.plant.points device) made in
+    (λ device. IsFrontOf front (fresh client s.sizes.n s.sizes.f s.plant.points device)) made in
     subst (λ (n : ℕ). IsProxy (contents s) (n + client) [] front) (sym (masters_are s))
     (proxy_begins (contents s) client found.0 front low found.1
-    (found.2 ∙ ap (λ (n : ℕ). fresh client n s.sizes.f s.plant.points found.0) (masters_are s)))
+    (subst (λ (n : ℕ). IsFrontOf front (fresh client n s.sizes.f s.plant.points found.0)) (masters_are s) found.2))
 
-pub scenario_screen_begins : (s : Scenario) (client : ℕ) (desk : Desk) → length s.plant.devices ≤ client
-    → desk ≡ record { client = client; n = s.sizes.n; f = s.sizes.f; commands = 0; votes = [] } →
+pub scenario_screen_begins : (s : Scenario) (client : ℕ) (desk : ScreenState) → length s.plant.devices ≤ client
+    → IsDeskOf desk (record { client = client; n = s.sizes.n; f = s.sizes.f; commands = 0; votes = [] }) →
     IsScreen (contents s) (s.sizes.n + client) [] desk
 scenario_screen_begins s client desk high made =
     subst (λ (n : ℕ). IsScreen (contents s) (n + client) [] desk) (sym (masters_are s))
     (screen_begins (contents s) client desk high
-    (made ∙ ap (λ (n : ℕ). record { client = client; n = n; f = s.sizes.f; commands = 0; votes = [] })
-    (masters_are s)))
+    (subst (λ (n : ℕ). IsDeskOf desk (record { client = client; n = n; f = s.sizes.f; commands = 0; votes = [] }))
+    (masters_are s) made))
 
 -- an actor's key is that which its seed makes
 key_is : (c : Contents) (actor : ℕ) → key_of c.settings.seed c.settings.heights actor ≡ key_in c actor

@@ -17,6 +17,8 @@ use Rattle.scenario_file.specs.Valid.{IsScenario}
 use Rattle.history_rules.specs.Events.{Event, Took, Entry, frame_taken, is_tick, is_silent}
 use Rattle.history_rules.specs.Setup.{Setup, is_correct_master}
 use Rattle.history_rules.specs.Legal.{heard_in}
+use Rattle.field_proxy.specs.Front.{IsFrontOf}
+use Rattle.operator_screen.specs.Board.{IsDeskOf}
 use Rattle.world_rules.specs.Clients.{front_of, desk_of}
 use Rattle.world_rules.specs.Frames.{overheard}
 use Rattle.world_rules.specs.Scenarios.{setup_of, group_in as sizes_in, masters_in, proxies_in, fits_correct}
@@ -52,10 +54,10 @@ IsRole c actor own (role.Master node) = IsMaster (setup_of c) actor own node
 IsRole c actor own (role.Intruded known) = IsIntruded (setup_of c) actor own known
 IsRole c actor own (role.Proxy front) =
     (client : ℕ) × (actor ≡ masters_in c + client) × (client < proxies_in c)
-    × (front ≡ front_of (masters_in c) c.settings.f c.plant client own)
+    × IsFrontOf front (front_of (masters_in c) c.settings.f c.plant client own)
 IsRole c actor own (role.Screen desk) =
     (client : ℕ) × (actor ≡ masters_in c + client) × (proxies_in c ≤ client)
-    × (desk ≡ desk_of (masters_in c) c.settings.f client own)
+    × IsDeskOf desk (desk_of (masters_in c) c.settings.f client own)
 
 -- what a master says at an event of whatever kind
 abbrev pub says_event : Charge → List Heard → Event → List Body

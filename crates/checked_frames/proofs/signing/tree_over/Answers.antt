@@ -1,3 +1,4 @@
+-- Raised five levels, one leaf or more leave a node at the top, so the branch without a root can't be reached.
 use Rattle.std.proofs.Common.{◌≤◌, length, ◌∙◌, ap, sym, subst, List, ℕ}
 use Rattle.std.specs.Prelude.{slice_get}
 use Rattle.std.specs.Option.{option_copied}

@@ -1,12 +1,10 @@
 -- The name and the rows of the subcommand are those of the definition, and so is the choice by the name.
-use Rattle.std.proofs.Common.{◌≡◌, ◌∙◌, ap, codes, false, refl, sym, List, None}
+use Rattle.std.proofs.Common.{◌≡◌, codes, false, refl, sym, List, None}
 use Rattle.std.specs.Str.{bytes_eq}
-use Rattle.std.specs.Box.{box_value}
-use Rattle.clap.specs.Walk.{Row, Text}
+use Rattle.clap.specs.Walk.{Row}
 use Rattle.clap.specs.Words.{found_of, rows_of, subcommand_rows_of}
-use Rattle.clap.specs.declared.parser.matches.ArgMatches.TheViews.{out-ArgMatches, out-SubCommand}
-use Rattle.command_words.specs.Wanted.{asked_in, command_in}
-use Rattle.command_words.proofs.Found.{met, other_name, unmet}
+use Rattle.command_words.specs.Wanted.{command_in}
+use Rattle.command_words.proofs.Found.{asked_by, other_name, unmet}
 use Rattle.command_words.proofs.asked.asked_of.Goals as goal
 
 pub returns-in_err-name : goal.returns-in_err-name
@@ -15,91 +13,48 @@ returns-in_err-name c =
     rw (c.from_residual.ensures, none) refl
 
 pub returns-in-play : goal.returns-in-play
-returns-in-play c =
-    let rows : List Row = rows_of (found_of c.in_ok-name.found.now) in
-    let found = met (λ b. (out-SubCommand (box_value b)).name.now)
-    (λ b. rows_of (found_of (out-SubCommand (box_value b)).matches)) (out-ArgMatches c.args.matches.now).subcommand
-    c.in_ok-name.name.now rows c.in_ok-name.ensures.name c.in_ok-name.ensures.rows in
-    c.play.ensures ∙ sym (ap asked_in found ∙ ap (λ (n : Text). command_in n rows) c.in-play.is)
+returns-in-play c = asked_by c.args.matches.now _ (codes "play") _ _
+    c.in_ok-name.ensures.name c.in_ok-name.ensures.rows c.in-play.is c.play.ensures
 
 pub returns-in-run : goal.returns-in-run
-returns-in-run c =
-    let rows : List Row = rows_of (found_of c.in_ok-name.found.now) in
-    let found = met (λ b. (out-SubCommand (box_value b)).name.now)
-    (λ b. rows_of (found_of (out-SubCommand (box_value b)).matches)) (out-ArgMatches c.args.matches.now).subcommand
-    c.in_ok-name.name.now rows c.in_ok-name.ensures.name c.in_ok-name.ensures.rows in
-    c.run.ensures ∙ sym (ap asked_in found ∙ ap (λ (n : Text). command_in n rows) c.in-run.is)
+returns-in-run c = asked_by c.args.matches.now _ (codes "run") _ _
+    c.in_ok-name.ensures.name c.in_ok-name.ensures.rows c.in-run.is c.run.ensures
 
 pub returns-in-replay : goal.returns-in-replay
-returns-in-replay c =
-    let rows : List Row = rows_of (found_of c.in_ok-name.found.now) in
-    let found = met (λ b. (out-SubCommand (box_value b)).name.now)
-    (λ b. rows_of (found_of (out-SubCommand (box_value b)).matches)) (out-ArgMatches c.args.matches.now).subcommand
-    c.in_ok-name.name.now rows c.in_ok-name.ensures.name c.in_ok-name.ensures.rows in
-    c.replay.ensures ∙ sym (ap asked_in found ∙ ap (λ (n : Text). command_in n rows) c.in-replay.is)
+returns-in-replay c = asked_by c.args.matches.now _ (codes "replay") _ _
+    c.in_ok-name.ensures.name c.in_ok-name.ensures.rows c.in-replay.is c.replay.ensures
 
 pub returns-in-make : goal.returns-in-make
-returns-in-make c =
-    let rows : List Row = rows_of (found_of c.in_ok-name.found.now) in
-    let found = met (λ b. (out-SubCommand (box_value b)).name.now)
-    (λ b. rows_of (found_of (out-SubCommand (box_value b)).matches)) (out-ArgMatches c.args.matches.now).subcommand
-    c.in_ok-name.name.now rows c.in_ok-name.ensures.name c.in_ok-name.ensures.rows in
-    c.make.ensures ∙ sym (ap asked_in found ∙ ap (λ (n : Text). command_in n rows) c.in-make.is)
+returns-in-make c = asked_by c.args.matches.now _ (codes "make") _ _
+    c.in_ok-name.ensures.name c.in_ok-name.ensures.rows c.in-make.is c.make.ensures
 
 pub returns-in-keys : goal.returns-in-keys
-returns-in-keys c =
-    let rows : List Row = rows_of (found_of c.in_ok-name.found.now) in
-    let found = met (λ b. (out-SubCommand (box_value b)).name.now)
-    (λ b. rows_of (found_of (out-SubCommand (box_value b)).matches)) (out-ArgMatches c.args.matches.now).subcommand
-    c.in_ok-name.name.now rows c.in_ok-name.ensures.name c.in_ok-name.ensures.rows in
-    c.keys.ensures ∙ sym (ap asked_in found ∙ ap (λ (n : Text). command_in n rows) c.in-keys.is)
+returns-in-keys c = asked_by c.args.matches.now _ (codes "keys") _ _
+    c.in_ok-name.ensures.name c.in_ok-name.ensures.rows c.in-keys.is c.keys.ensures
 
 pub returns-in-verify : goal.returns-in-verify
-returns-in-verify c =
-    let rows : List Row = rows_of (found_of c.in_ok-name.found.now) in
-    let found = met (λ b. (out-SubCommand (box_value b)).name.now)
-    (λ b. rows_of (found_of (out-SubCommand (box_value b)).matches)) (out-ArgMatches c.args.matches.now).subcommand
-    c.in_ok-name.name.now rows c.in_ok-name.ensures.name c.in_ok-name.ensures.rows in
-    c.verify.ensures ∙ sym (ap asked_in found ∙ ap (λ (n : Text). command_in n rows) c.in-verify.is)
+returns-in-verify c = asked_by c.args.matches.now _ (codes "verify") _ _
+    c.in_ok-name.ensures.name c.in_ok-name.ensures.rows c.in-verify.is c.verify.ensures
 
 pub returns-in-parts : goal.returns-in-parts
-returns-in-parts c =
-    let rows : List Row = rows_of (found_of c.in_ok-name.found.now) in
-    let found = met (λ b. (out-SubCommand (box_value b)).name.now)
-    (λ b. rows_of (found_of (out-SubCommand (box_value b)).matches)) (out-ArgMatches c.args.matches.now).subcommand
-    c.in_ok-name.name.now rows c.in_ok-name.ensures.name c.in_ok-name.ensures.rows in
-    c.parts.ensures ∙ sym (ap asked_in found ∙ ap (λ (n : Text). command_in n rows) c.in-parts.is)
+returns-in-parts c = asked_by c.args.matches.now _ (codes "parts") _ _
+    c.in_ok-name.ensures.name c.in_ok-name.ensures.rows c.in-parts.is c.parts.ensures
 
 pub returns-in-rebuild : goal.returns-in-rebuild
-returns-in-rebuild c =
-    let rows : List Row = rows_of (found_of c.in_ok-name.found.now) in
-    let found = met (λ b. (out-SubCommand (box_value b)).name.now)
-    (λ b. rows_of (found_of (out-SubCommand (box_value b)).matches)) (out-ArgMatches c.args.matches.now).subcommand
-    c.in_ok-name.name.now rows c.in_ok-name.ensures.name c.in_ok-name.ensures.rows in
-    c.rebuild.ensures ∙ sym (ap asked_in found ∙ ap (λ (n : Text). command_in n rows) c.in-rebuild.is)
+returns-in-rebuild c = asked_by c.args.matches.now _ (codes "rebuild") _ _
+    c.in_ok-name.ensures.name c.in_ok-name.ensures.rows c.in-rebuild.is c.rebuild.ensures
 
 pub returns-in-blame : goal.returns-in-blame
-returns-in-blame c =
-    let rows : List Row = rows_of (found_of c.in_ok-name.found.now) in
-    let found = met (λ b. (out-SubCommand (box_value b)).name.now)
-    (λ b. rows_of (found_of (out-SubCommand (box_value b)).matches)) (out-ArgMatches c.args.matches.now).subcommand
-    c.in_ok-name.name.now rows c.in_ok-name.ensures.name c.in_ok-name.ensures.rows in
-    c.blame.ensures ∙ sym (ap asked_in found ∙ ap (λ (n : Text). command_in n rows) c.in-blame.is)
+returns-in-blame c = asked_by c.args.matches.now _ (codes "blame") _ _
+    c.in_ok-name.ensures.name c.in_ok-name.ensures.rows c.in-blame.is c.blame.ensures
 
 pub returns-in-trend : goal.returns-in-trend
-returns-in-trend c =
-    let rows : List Row = rows_of (found_of c.in_ok-name.found.now) in
-    let found = met (λ b. (out-SubCommand (box_value b)).name.now)
-    (λ b. rows_of (found_of (out-SubCommand (box_value b)).matches)) (out-ArgMatches c.args.matches.now).subcommand
-    c.in_ok-name.name.now rows c.in_ok-name.ensures.name c.in_ok-name.ensures.rows in
-    c.trend.ensures ∙ sym (ap asked_in found ∙ ap (λ (n : Text). command_in n rows) c.in-trend.is)
+returns-in-trend c = asked_by c.args.matches.now _ (codes "trend") _ _
+    c.in_ok-name.ensures.name c.in_ok-name.ensures.rows c.in-trend.is c.trend.ensures
 
 pub returns-in_default : goal.returns-in_default
 returns-in_default c =
     let rows : List Row = rows_of (found_of c.in_ok-name.found.now) in
-    let found = met (λ b. (out-SubCommand (box_value b)).name.now)
-    (λ b. rows_of (found_of (out-SubCommand (box_value b)).matches)) (out-ArgMatches c.args.matches.now).subcommand
-    c.in_ok-name.name.now rows c.in_ok-name.ensures.name c.in_ok-name.ensures.rows in
     let no0 : bytes_eq c.in_ok-name.name.now (codes "play") ≡ false = other_name _ _ c.in_default.not-play in
     let no1 : bytes_eq c.in_ok-name.name.now (codes "run") ≡ false = other_name _ _ c.in_default.not-run in
     let no2 : bytes_eq c.in_ok-name.name.now (codes "replay") ≡ false = other_name _ _ c.in_default.not-replay in
@@ -112,4 +67,5 @@ returns-in_default c =
     let no9 : bytes_eq c.in_ok-name.name.now (codes "trend") ≡ false = other_name _ _ c.in_default.not-trend in
     let other : command_in c.in_ok-name.name.now rows ≡ None = rw (no0, no1, no2, no3, no4, no5, no6, no7, no8, no9)
     refl in
-    sym (ap asked_in found ∙ other)
+    asked_by c.args.matches.now c.in_ok-name.name.now _ rows _ c.in_ok-name.ensures.name c.in_ok-name.ensures.rows refl
+    (sym other)

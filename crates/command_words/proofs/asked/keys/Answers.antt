@@ -1,18 +1,14 @@
 -- Each value is that of its name among the rows; where one is missing, so is the command.
-use Rattle.std.proofs.Common.{◌≡◌, ◌∙◌, ap, codes, refl, sym, option_map, Some, None}
-use Rattle.std.specs.Borrow.{Bor}
-use Rattle.clap.specs.Walk.{Text}
-use Rattle.clap.specs.Words.{first_of, found_of, rows_of}
+use Rattle.std.proofs.Common.{codes, refl}
+use Rattle.command_words.proofs.Found.{text_read}
 use Rattle.command_words.proofs.asked.keys.Goals as goal
 
 pub returns-in_err-text : goal.returns-in_err-text
 returns-in_err-text c =
-    let e0 : first_of (codes "scenario") (rows_of (found_of c.args.found.now)) ≡ None =
-    sym c.text.ensures ∙ ap (option_map (λ (s : Bor Text). s.now)) c.in_err-text.was in
-    rw (c.from_residual.ensures, e0) refl
+    let scenario = text_read c.args.found.now (codes "scenario") _ _ c.text.ensures c.in_err-text.was in
+    rw (c.from_residual.ensures, scenario) refl
 
 pub returns : goal.returns
 returns c =
-    let e0 : first_of (codes "scenario") (rows_of (found_of c.args.found.now)) ≡ Some c.in_ok-text.field-0.now =
-    sym c.text.ensures ∙ ap (option_map (λ (s : Bor Text). s.now)) c.in_ok-text.was in
-    rw (e0) refl
+    let scenario = text_read c.args.found.now (codes "scenario") _ _ c.text.ensures c.in_ok-text.was in
+    rw scenario refl

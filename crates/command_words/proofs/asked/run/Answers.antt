@@ -1,71 +1,48 @@
 -- Each value is that of its name among the rows; where one is missing, so is the command.
-use Rattle.std.proofs.Common.{◌≡◌, ◌∙◌, ap, codes, refl, sym, option_map, Some, None}
-use Rattle.std.specs.Borrow.{Bor}
-use Rattle.clap.specs.Walk.{Text}
-use Rattle.clap.specs.Words.{first_of, found_of, rows_of}
-use Rattle.command_words.specs.Wanted.{number_of}
+use Rattle.std.proofs.Common.{codes, refl}
+use Rattle.command_words.proofs.Found.{text_read, value_read}
 use Rattle.command_words.proofs.asked.run.Goals as goal
 
 pub returns-in_err-text : goal.returns-in_err-text
 returns-in_err-text c =
-    let e0 : first_of (codes "scenario") (rows_of (found_of c.args.found.now)) ≡ None =
-    sym c.text.ensures ∙ ap (option_map (λ (s : Bor Text). s.now)) c.in_err-text.was in
-    rw (c.from_residual.ensures, e0) refl
+    let scenario = text_read c.args.found.now (codes "scenario") _ _ c.text.ensures c.in_err-text.was in
+    rw (c.from_residual.ensures, scenario) refl
 
 pub returns-in_err-text-2 : goal.returns-in_err-text-2
 returns-in_err-text-2 c =
-    let e0 : first_of (codes "scenario") (rows_of (found_of c.args.found.now)) ≡ Some c.in_ok-text.field-0.now =
-    sym c.text.ensures ∙ ap (option_map (λ (s : Bor Text). s.now)) c.in_ok-text.was in
-    let e1 : first_of (codes "script") (rows_of (found_of c.args.found.now)) ≡ None =
-    sym c.text-2.ensures ∙ ap (option_map (λ (s : Bor Text). s.now)) c.in_err-text-2.was in
-    rw (c.from_residual-in_err-text-2.ensures, e0, e1) refl
+    let scenario = text_read c.args.found.now (codes "scenario") _ _ c.text.ensures c.in_ok-text.was in
+    let script = text_read c.args.found.now (codes "script") _ _ c.text-2.ensures c.in_err-text-2.was in
+    rw (c.from_residual-in_err-text-2.ensures, scenario, script) refl
 
 pub returns-in_err-text-3 : goal.returns-in_err-text-3
 returns-in_err-text-3 c =
-    let e0 : first_of (codes "scenario") (rows_of (found_of c.args.found.now)) ≡ Some c.in_ok-text.field-0.now =
-    sym c.text.ensures ∙ ap (option_map (λ (s : Bor Text). s.now)) c.in_ok-text.was in
-    let e1 : first_of (codes "script") (rows_of (found_of c.args.found.now)) ≡ Some c.in_ok-text-2.field-0.now =
-    sym c.text-2.ensures ∙ ap (option_map (λ (s : Bor Text). s.now)) c.in_ok-text-2.was in
-    let e2 : first_of (codes "words") (rows_of (found_of c.args.found.now)) ≡ None =
-    sym c.text-3.ensures ∙ ap (option_map (λ (s : Bor Text). s.now)) c.in_err-text-3.was in
-    rw (c.from_residual-in_err-text-3.ensures, e0, e1, e2) refl
+    let scenario = text_read c.args.found.now (codes "scenario") _ _ c.text.ensures c.in_ok-text.was in
+    let script = text_read c.args.found.now (codes "script") _ _ c.text-2.ensures c.in_ok-text-2.was in
+    let words = text_read c.args.found.now (codes "words") _ _ c.text-3.ensures c.in_err-text-3.was in
+    rw (c.from_residual-in_err-text-3.ensures, scenario, script, words) refl
 
 pub returns-in_err-number : goal.returns-in_err-number
 returns-in_err-number c =
-    let e0 : first_of (codes "scenario") (rows_of (found_of c.args.found.now)) ≡ Some c.in_ok-text.field-0.now =
-    sym c.text.ensures ∙ ap (option_map (λ (s : Bor Text). s.now)) c.in_ok-text.was in
-    let e1 : first_of (codes "script") (rows_of (found_of c.args.found.now)) ≡ Some c.in_ok-text-2.field-0.now =
-    sym c.text-2.ensures ∙ ap (option_map (λ (s : Bor Text). s.now)) c.in_ok-text-2.was in
-    let e2 : first_of (codes "words") (rows_of (found_of c.args.found.now)) ≡ Some c.in_ok-text-3.field-0.now =
-    sym c.text-3.ensures ∙ ap (option_map (λ (s : Bor Text). s.now)) c.in_ok-text-3.was in
-    let e3 : number_of (codes "hands") (rows_of (found_of c.args.found.now)) ≡ None =
-    sym c.number.ensures ∙ c.in_err-number.was in
-    rw (c.from_residual-in_err-number.ensures, e0, e1, e2, e3) refl
+    let scenario = text_read c.args.found.now (codes "scenario") _ _ c.text.ensures c.in_ok-text.was in
+    let script = text_read c.args.found.now (codes "script") _ _ c.text-2.ensures c.in_ok-text-2.was in
+    let words = text_read c.args.found.now (codes "words") _ _ c.text-3.ensures c.in_ok-text-3.was in
+    let hands = value_read c.args.found.now (codes "hands") _ _ c.number.ensures c.in_err-number.was in
+    rw (c.from_residual-in_err-number.ensures, scenario, script, words, hands) refl
 
 pub returns-in_err-number-2 : goal.returns-in_err-number-2
 returns-in_err-number-2 c =
-    let e0 : first_of (codes "scenario") (rows_of (found_of c.args.found.now)) ≡ Some c.in_ok-text.field-0.now =
-    sym c.text.ensures ∙ ap (option_map (λ (s : Bor Text). s.now)) c.in_ok-text.was in
-    let e1 : first_of (codes "script") (rows_of (found_of c.args.found.now)) ≡ Some c.in_ok-text-2.field-0.now =
-    sym c.text-2.ensures ∙ ap (option_map (λ (s : Bor Text). s.now)) c.in_ok-text-2.was in
-    let e2 : first_of (codes "words") (rows_of (found_of c.args.found.now)) ≡ Some c.in_ok-text-3.field-0.now =
-    sym c.text-3.ensures ∙ ap (option_map (λ (s : Bor Text). s.now)) c.in_ok-text-3.was in
-    let e3 : number_of (codes "hands") (rows_of (found_of c.args.found.now)) ≡ Some c.in_ok-number.field-0 =
-    sym c.number.ensures ∙ c.in_ok-number.was in
-    let e4 : number_of (codes "turns") (rows_of (found_of c.args.found.now)) ≡ None =
-    sym c.number-2.ensures ∙ c.in_err-number-2.was in
-    rw (c.from_residual-in_err-number-2.ensures, e0, e1, e2, e3, e4) refl
+    let scenario = text_read c.args.found.now (codes "scenario") _ _ c.text.ensures c.in_ok-text.was in
+    let script = text_read c.args.found.now (codes "script") _ _ c.text-2.ensures c.in_ok-text-2.was in
+    let words = text_read c.args.found.now (codes "words") _ _ c.text-3.ensures c.in_ok-text-3.was in
+    let hands = value_read c.args.found.now (codes "hands") _ _ c.number.ensures c.in_ok-number.was in
+    let turns = value_read c.args.found.now (codes "turns") _ _ c.number-2.ensures c.in_err-number-2.was in
+    rw (c.from_residual-in_err-number-2.ensures, scenario, script, words, hands, turns) refl
 
 pub returns : goal.returns
 returns c =
-    let e0 : first_of (codes "scenario") (rows_of (found_of c.args.found.now)) ≡ Some c.in_ok-text.field-0.now =
-    sym c.text.ensures ∙ ap (option_map (λ (s : Bor Text). s.now)) c.in_ok-text.was in
-    let e1 : first_of (codes "script") (rows_of (found_of c.args.found.now)) ≡ Some c.in_ok-text-2.field-0.now =
-    sym c.text-2.ensures ∙ ap (option_map (λ (s : Bor Text). s.now)) c.in_ok-text-2.was in
-    let e2 : first_of (codes "words") (rows_of (found_of c.args.found.now)) ≡ Some c.in_ok-text-3.field-0.now =
-    sym c.text-3.ensures ∙ ap (option_map (λ (s : Bor Text). s.now)) c.in_ok-text-3.was in
-    let e3 : number_of (codes "hands") (rows_of (found_of c.args.found.now)) ≡ Some c.in_ok-number.field-0 =
-    sym c.number.ensures ∙ c.in_ok-number.was in
-    let e4 : number_of (codes "turns") (rows_of (found_of c.args.found.now)) ≡ Some c.in_ok-number-2.field-0 =
-    sym c.number-2.ensures ∙ c.in_ok-number-2.was in
-    rw (e0, e1, e2, e3, e4) refl
+    let scenario = text_read c.args.found.now (codes "scenario") _ _ c.text.ensures c.in_ok-text.was in
+    let script = text_read c.args.found.now (codes "script") _ _ c.text-2.ensures c.in_ok-text-2.was in
+    let words = text_read c.args.found.now (codes "words") _ _ c.text-3.ensures c.in_ok-text-3.was in
+    let hands = value_read c.args.found.now (codes "hands") _ _ c.number.ensures c.in_ok-number.was in
+    let turns = value_read c.args.found.now (codes "turns") _ _ c.number-2.ensures c.in_ok-number-2.was in
+    rw (scenario, script, words, hands, turns) refl

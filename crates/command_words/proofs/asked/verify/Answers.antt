@@ -1,40 +1,29 @@
 -- Each value is that of its name among the rows; where one is missing, so is the command.
-use Rattle.std.proofs.Common.{◌≡◌, ◌∙◌, ap, codes, refl, sym, option_map, Some, None}
-use Rattle.std.specs.Borrow.{Bor}
-use Rattle.clap.specs.Walk.{Text}
-use Rattle.clap.specs.Words.{first_of, found_of, rows_of}
+use Rattle.std.proofs.Common.{codes, refl}
+use Rattle.command_words.proofs.Found.{text_read}
 use Rattle.command_words.proofs.asked.verify.Goals as goal
 
 pub returns-in_err-text : goal.returns-in_err-text
 returns-in_err-text c =
-    let e0 : first_of (codes "public") (rows_of (found_of c.args.found.now)) ≡ None =
-    sym c.text.ensures ∙ ap (option_map (λ (s : Bor Text). s.now)) c.in_err-text.was in
-    rw (c.from_residual.ensures, e0) refl
+    let public = text_read c.args.found.now (codes "public") _ _ c.text.ensures c.in_err-text.was in
+    rw (c.from_residual.ensures, public) refl
 
 pub returns-in_err-text-2 : goal.returns-in_err-text-2
 returns-in_err-text-2 c =
-    let e0 : first_of (codes "public") (rows_of (found_of c.args.found.now)) ≡ Some c.in_ok-text.field-0.now =
-    sym c.text.ensures ∙ ap (option_map (λ (s : Bor Text). s.now)) c.in_ok-text.was in
-    let e1 : first_of (codes "message") (rows_of (found_of c.args.found.now)) ≡ None =
-    sym c.text-2.ensures ∙ ap (option_map (λ (s : Bor Text). s.now)) c.in_err-text-2.was in
-    rw (c.from_residual-in_err-text-2.ensures, e0, e1) refl
+    let public = text_read c.args.found.now (codes "public") _ _ c.text.ensures c.in_ok-text.was in
+    let message = text_read c.args.found.now (codes "message") _ _ c.text-2.ensures c.in_err-text-2.was in
+    rw (c.from_residual-in_err-text-2.ensures, public, message) refl
 
 pub returns-in_err-text-3 : goal.returns-in_err-text-3
 returns-in_err-text-3 c =
-    let e0 : first_of (codes "public") (rows_of (found_of c.args.found.now)) ≡ Some c.in_ok-text.field-0.now =
-    sym c.text.ensures ∙ ap (option_map (λ (s : Bor Text). s.now)) c.in_ok-text.was in
-    let e1 : first_of (codes "message") (rows_of (found_of c.args.found.now)) ≡ Some c.in_ok-text-2.field-0.now =
-    sym c.text-2.ensures ∙ ap (option_map (λ (s : Bor Text). s.now)) c.in_ok-text-2.was in
-    let e2 : first_of (codes "signature") (rows_of (found_of c.args.found.now)) ≡ None =
-    sym c.text-3.ensures ∙ ap (option_map (λ (s : Bor Text). s.now)) c.in_err-text-3.was in
-    rw (c.from_residual-in_err-text-3.ensures, e0, e1, e2) refl
+    let public = text_read c.args.found.now (codes "public") _ _ c.text.ensures c.in_ok-text.was in
+    let message = text_read c.args.found.now (codes "message") _ _ c.text-2.ensures c.in_ok-text-2.was in
+    let signature = text_read c.args.found.now (codes "signature") _ _ c.text-3.ensures c.in_err-text-3.was in
+    rw (c.from_residual-in_err-text-3.ensures, public, message, signature) refl
 
 pub returns : goal.returns
 returns c =
-    let e0 : first_of (codes "public") (rows_of (found_of c.args.found.now)) ≡ Some c.in_ok-text.field-0.now =
-    sym c.text.ensures ∙ ap (option_map (λ (s : Bor Text). s.now)) c.in_ok-text.was in
-    let e1 : first_of (codes "message") (rows_of (found_of c.args.found.now)) ≡ Some c.in_ok-text-2.field-0.now =
-    sym c.text-2.ensures ∙ ap (option_map (λ (s : Bor Text). s.now)) c.in_ok-text-2.was in
-    let e2 : first_of (codes "signature") (rows_of (found_of c.args.found.now)) ≡ Some c.in_ok-text-3.field-0.now =
-    sym c.text-3.ensures ∙ ap (option_map (λ (s : Bor Text). s.now)) c.in_ok-text-3.was in
-    rw (e0, e1, e2) refl
+    let public = text_read c.args.found.now (codes "public") _ _ c.text.ensures c.in_ok-text.was in
+    let message = text_read c.args.found.now (codes "message") _ _ c.text-2.ensures c.in_ok-text-2.was in
+    let signature = text_read c.args.found.now (codes "signature") _ _ c.text-3.ensures c.in_ok-text-3.was in
+    rw (public, message, signature) refl

@@ -1,23 +1,17 @@
--- The groups of subcommands, joined in order, are the literal of the definitions.
-use Rattle.std.proofs.Common.{rules, ap, ◌≡◌, ◌∙◌}
-use Rattle.std.proofs.lemmas.Result.{IfOk-weaker}
-use Rattle.clap.specs.Words.{app_of}
-use Rattle.command_words.specs.CommandLine.{spire_app}
-use Rattle.command_words.proofs.Chains.{histories, keyed, parted, reporting}
+-- The subcommands, joined in order, are the literal of the definitions.
+use Rattle.command_words.specs.CommandLine.{play_shape, run_shape, replay_shape, make_shape, keys_shape}
+use Rattle.command_words.specs.CommandLine.{verify_shape, parts_shape, rebuild_shape, blame_shape, trend_shape}
 use Rattle.command_words.proofs.command_line.command_line.Goals as goal
-
-pub returns-in_err-histories : goal.returns-in_err-histories
-returns-in_err-histories c = search rules
-
-pub returns-in_err-keys : goal.returns-in_err-keys
-returns-in_err-keys c = search rules
-
-pub returns-in_err-parts : goal.returns-in_err-parts
-returns-in_err-parts c = search rules
 
 pub returns : goal.returns
 returns c =
-    let first = c.in_ok-histories.ensures ∙ ap histories c.top.ensures in
-    let second = c.in_ok-keys.ensures ∙ ap keyed first in
-    let third = c.in_ok-parts.ensures ∙ ap parted second in
-    IfOk-weaker _ _ (λ made. app_of made ≡ spire_app) (λ made is. is ∙ ap reporting third) c.with_reports.ensures
+    let first = c.joined-commands.ensures _ play_shape c.top.ensures c.play.ensures in
+    let second = c.joined-commands-2.ensures _ run_shape first c.run.ensures in
+    let third = c.joined-commands-3.ensures _ replay_shape second c.replay.ensures in
+    let fourth = c.joined-commands-4.ensures _ make_shape third c.make.ensures in
+    let fifth = c.joined-commands-5.ensures _ keys_shape fourth c.keys.ensures in
+    let sixth = c.joined-commands-6.ensures _ verify_shape fifth c.verify.ensures in
+    let seventh = c.joined-commands-7.ensures _ parts_shape sixth c.parts.ensures in
+    let eighth = c.joined-commands-8.ensures _ rebuild_shape seventh c.rebuild.ensures in
+    let ninth = c.joined-commands-9.ensures _ blame_shape eighth c.blame.ensures in
+    c.joined.ensures _ trend_shape ninth c.trend.ensures

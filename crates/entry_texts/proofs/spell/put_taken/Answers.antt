@@ -1,3 +1,4 @@
+-- The frame's length fits its four bytes: a checked frame has a spelling, and a frame that has one is short.
 use Rattle.std.proofs.Common.{◌<◌, ◌^◌, length, ap, sym, subst, arith}
 use Rattle.std.specs.Prelude.{IsTrue}
 use Rattle.message_types.specs.Texts.{frame_text}

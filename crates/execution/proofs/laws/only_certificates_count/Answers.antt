@@ -1,3 +1,4 @@
+-- One field alone of what makes a run asks which requests are certified, each by itself, and there both answer alike.
 use Rattle.std.proofs.Common.{◌∙◌}
 use Rattle.execution.proofs.laws.only_certificates_count.Goals as goal
 

@@ -1,3 +1,4 @@
+-- The device is as it was or as its reply to the read leaves it, and a read changes none of its tables.
 use Rattle.std.proofs.Common.{ap, ◌∙◌}
 use Rattle.field_device.specs.Table.{after}
 use Rattle.field_proxy.proofs.ExchangeLaws.{stays, after_read}

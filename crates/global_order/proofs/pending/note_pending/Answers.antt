@@ -1,3 +1,5 @@
+-- Where nothing is noted the number isn't one of the pending view: its view is another, it is 0, or it isn't below the
+-- end. Each case refutes that a word may be due for it.
 use Rattle.std.proofs.Common.{arith}
 use Rattle.global_order.proofs.Touching.{noted-not}
 use Rattle.global_order.proofs.pending.note_pending.Goals as goal

@@ -1,3 +1,4 @@
+-- The rows noted are those that the rules make of the proposal's frames, so their text is the one that is added.
 use Rattle.std.proofs.Common.{ℕ, List, ◌++◌, ◌∷◌, [], subst, ap, ◌∙◌}
 use Rattle.message_types.specs.declared.signed.Signed.{Signed}
 use Rattle.message_types.specs.declared.preordering.PoSummary.{PoSummary}

@@ -1,3 +1,4 @@
+-- Noting each certificate adds the text of its rows, and mapping twice is mapping once.
 use Rattle.std.proofs.Common.{ℕ, List, ◌++◌, map, subst, sym, ap, ◌∙◌}
 use Rattle.message_types.specs.declared.ordering.Certificate.{Certificate}
 use Rattle.message_types.specs.Texts.{rows_text}

@@ -1,3 +1,5 @@
+-- The signs written so far, with those of the updates that are left, are the whole text: each update moves its reading
+-- and its setting from the rest to the text.
 use Rattle.std.proofs.Common.{arith}
 use Rattle.history_pictures.proofs.Plotted.{one_more_at, none_more}
 use Rattle.history_pictures.proofs.plot.put_signs.Goals as goal

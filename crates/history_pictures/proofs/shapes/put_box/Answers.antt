@@ -1,3 +1,4 @@
+-- The macro writes its pieces one by one; joined they are the text that the definition has in one.
 use Rattle.std.proofs.Common.{◌++◌, ◌∙◌, List, ℕ, ap, codes, decimal}
 use Rattle.std.specs.Prelude.{string_bytes}
 use Rattle.history_pictures.specs.Shapes.{box_text}
@@ -9,4 +10,6 @@ unfolding box_text
 returns c =
     c.in_ok-write.ensures.bytes
     ∙ ap (λ (t : List ℕ). string_bytes c.args.text.now ++ t)
-    (eleven-parts (codes "<rect x=\"") (decimal c.args.x) (codes "\" y=\"") (decimal c.args.y) (codes "\" width=\"") (decimal c.args.width) (codes "\" height=\"") (decimal c.args.height) (codes "\" fill=\"") c.args.colour.now (codes "\"/>\n"))
+    (eleven-parts (codes "<rect x=\"") (decimal c.args.x) (codes "\" y=\"") (decimal c.args.y) (codes "\" width=\"")
+    (decimal c.args.width) (codes "\" height=\"") (decimal c.args.height)
+    (codes "\" fill=\"") c.args.colour.now (codes "\"/>\n"))

@@ -1,3 +1,4 @@
+-- The macro writes its pieces one by one; joined they are the text that the definition has in one.
 use Rattle.std.proofs.Common.{◌++◌, ◌∙◌, List, ℕ, ap, codes, decimal}
 use Rattle.std.specs.Prelude.{string_bytes}
 use Rattle.history_pictures.specs.Shapes.{ring_text}
@@ -9,4 +10,6 @@ unfolding ring_text
 returns c =
     c.in_ok-write.ensures.bytes
     ∙ ap (λ (t : List ℕ). string_bytes c.args.text.now ++ t)
-    (nine-parts (codes "<circle cx=\"") (decimal c.args.x) (codes "\" cy=\"") (decimal c.args.y) (codes "\" r=\"") (decimal c.args.radius) (codes "\" fill=\"#ffffff\" stroke=\"") c.args.colour.now (codes "\" stroke-width=\"2\"/>\n"))
+    (nine-parts (codes "<circle cx=\"") (decimal c.args.x) (codes "\" cy=\"") (decimal c.args.y) (codes "\" r=\"")
+    (decimal c.args.radius) (codes "\" fill=\"#ffffff\" stroke=\"") c.args.colour.now
+    (codes "\" stroke-width=\"2\"/>\n"))

@@ -1,3 +1,4 @@
+-- `all` over the slice tests each entry, and an entry's stamp is that of the entry that it stands for.
 use Rattle.std.proofs.Common.{nat_lt, sym, ◌∙◌, rules, tests}
 use Rattle.std.proofs.lemmas.Iterator.{YieldsList-from_slice}
 use Rattle.std.proofs.lemmas.Iterator.Search.{all_from_yields_List}

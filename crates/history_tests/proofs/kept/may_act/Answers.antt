@@ -1,3 +1,4 @@
+-- Only who passes each test in turn gets to the end, and each tells one clause of the bench that is kept.
 use Rattle.std.proofs.Common.{◌≡◌, true, List, length, nat_lt, sym, ◌∙◌, ap, subst, arith}
 use Rattle.std.specs.List.{list_all}
 use Rattle.history_rules.specs.Events.{Entry}

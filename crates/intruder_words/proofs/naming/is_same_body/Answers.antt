@@ -1,3 +1,4 @@
+-- The call and the rules' test are both true exactly of equal bodies, so they answer alike.
 use Rattle.std.proofs.Common.{◌≡◌, Bool, true, false, refl, sym}
 use Rattle.history_rules.specs.Sameness.{is_same_body}
 use Rattle.audit_counts.proofs.Same.{body_test}

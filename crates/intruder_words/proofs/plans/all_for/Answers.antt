@@ -1,3 +1,4 @@
+-- The certificates kept so far are those for the number among those gone over, and at the end all were gone over.
 use Rattle.std.proofs.Common.{filter, refl, ◌∙◌, ap, arith}
 use Rattle.std.proofs.lemmas.List.{take_all}
 use Rattle.view_change.specs.Planning.{is_for}

@@ -1,3 +1,4 @@
+-- The base so far is the greatest of the reports gone over, and at the end all were gone over.
 use Rattle.std.proofs.Common.{arith}
 use Rattle.message_types.specs.declared.signed.Signed.{Signed}
 use Rattle.message_types.specs.declared.views.Report.{Report}

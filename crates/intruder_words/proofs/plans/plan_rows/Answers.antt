@@ -1,3 +1,5 @@
+-- Certificates without their prepares are spelled as whole ones are, and with the greatest base of the reports they
+-- give the rows of the whole reports' plan.
 use Rattle.std.proofs.Common.{map, ◌∙◌}
 use Rattle.protocol_rules.specs.Group.{group_of}
 use Rattle.intruder_words.proofs.Shortening.{plan-rows, bare-fit, ok-weaker}

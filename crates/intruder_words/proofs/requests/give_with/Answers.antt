@@ -1,3 +1,5 @@
+-- Where no known request has the update's digest there is no gift; else the first one, with a quorum of its
+-- acknowledgements, is the gift of the definition.
 use Rattle.protocol_rules.specs.Group.{group_of}
 use Rattle.intruder_words.proofs.Giving.{gift-missing, gift-made}
 use Rattle.intruder_words.proofs.requests.give_with.Goals as goal

@@ -19,5 +19,6 @@ returns c = λ question. (
   told-plan question c.args.new_view.now.v
       (plan_of (group_of c.args.sizes.now 0) (map (λ r. r.body) c.args.new_view.now.reports)) _
       (subst (λ (rs : List (Signed Report)). HasSameRows c.in_ok-rows.rows.items
-      (plan_of (group_of c.args.sizes.now 0) (map (λ r. r.body) rs)).rows) c.as_slice.ensures c.in_ok-rows.ensures.same),
+      (plan_of (group_of c.args.sizes.now 0) (map (λ r. r.body) rs)).rows) c.as_slice.ensures
+      c.in_ok-rows.ensures.same),
 )

@@ -1,5 +1,5 @@
+use Rattle.std.proofs.Common.{rules}
 use Rattle.leader_proposals.proofs.counted.plan_to_offer.Goals as goal
 
 pub returns-then-is_open : goal.returns-then-is_open
-returns-then-is_open c g facts said is =
-    rw (c.if-at_tick.true, c.if-leads.true, c.if-is_open.true) (c.plan.ensures g facts said is)
+returns-then-is_open c g facts said is = let told = c.plan.ensures g facts said is in search rules

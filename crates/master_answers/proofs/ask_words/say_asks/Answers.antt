@@ -1,6 +1,6 @@
 -- The two asks are of different kinds, so parting the words by kind gives back exactly the one and the other.
 -- Both together are what counts as said from then on.
-use Rattle.std.proofs.Common.{◌≡◌, ◌++◌, List, filter, not, refl, sym, ◌∙◌, ap, subst}
+use Rattle.std.proofs.Common.{◌++◌, List, filter, not, refl, sym, ◌∙◌, ap, subst}
 use Rattle.message_types.specs.declared.body.Body.{Body}
 use Rattle.protocol_rules.specs.Reconcile.{ask_update_due, ask_order_due}
 use Rattle.protocol_rules.specs.Master.{waiting_for, gap_of}

@@ -1,6 +1,6 @@
 -- Prepares, commits and marks are of three kinds, so parting by kind leaves the two votes on one side and the
 -- marks on the other, and words of other kinds said beside them don't count.
-use Rattle.std.proofs.Common.{◌++◌, filter, not, refl, sym, ◌∙◌, ap}
+use Rattle.std.proofs.Common.{filter, not, refl, sym, ◌∙◌, ap}
 use Rattle.protocol_rules.specs.Order.{prepares_due, commits_due, marks_due}
 use Rattle.words_by_part.specs.Kinds.{is_of}
 use Rattle.words_by_part.proofs.Said.{prepares_kind, commits_kind, marks_kind}

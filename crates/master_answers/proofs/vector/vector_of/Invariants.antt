@@ -1,3 +1,4 @@
+-- The numbers of the masters so far are told.
 use Rattle.std.proofs.Common.{◌≡◌, ◌<◌, ℕ, List, length, get_or}
 use Rattle.message_types.specs.declared.signed.Signed.{Signed}
 use Rattle.message_types.specs.declared.body.Body.{Body}
@@ -6,7 +7,6 @@ use Rattle.protocol_rules.specs.Preorder.{vector}
 use Rattle.preorder.specs.PreorderState.{IsPreorderOf}
 use Rattle.master_answers.proofs.vector.vector_of.Given as goal
 
--- the numbers of the masters so far are told
 abbrev pub invariant-loop-master : goal.invariant-loop-master
 invariant-loop-master l = (length l.reach.numbers ≡ 14)
     × ((g : Group) (me : ℕ) (taken known : List (Signed Body)) (said : List Body) →

@@ -1,6 +1,6 @@
 -- A gift is made of requests and acknowledgements alone. A copy of such a part counts as the part itself, and
 -- any other part leaves what can be given as it was.
-use Rattle.std.proofs.Common.{◌≡◌, ◌∷◌, ◌++◌, [], List, refl, sym, ◌∙◌, ap, subst}
+use Rattle.std.proofs.Common.{◌∷◌, ◌++◌, [], refl, subst}
 use Rattle.std.proofs.lemmas.Result.{on_ok_weaker}
 use Rattle.message_types.specs.declared.signed.Signed.{Signed}
 use Rattle.message_types.specs.declared.body.Body.{Body}

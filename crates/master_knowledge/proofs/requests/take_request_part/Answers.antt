@@ -1,3 +1,5 @@
+-- What is handed on is an equal copy of the part, so what pre-ordering learns is the part itself. A part of another
+-- kind is handed to nobody, and changes nothing that pre-ordering goes by.
 use Rattle.std.proofs.Common.{◌∷◌, ◌++◌, [], refl, subst}
 use Rattle.std.proofs.lemmas.Result.{on_ok_weaker}
 use Rattle.message_types.specs.declared.signed.Signed.{Signed}

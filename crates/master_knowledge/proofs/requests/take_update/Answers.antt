@@ -1,3 +1,5 @@
+-- An update is handed on as an equal copy, so it is the frame itself that was taken. A frame of another kind changes
+-- nothing that pre-ordering goes by.
 use Rattle.std.proofs.Common.{◌∷◌, ◌++◌, [], refl, subst}
 use Rattle.std.proofs.lemmas.Result.{on_ok_weaker}
 use Rattle.message_types.specs.declared.signed.Signed.{Signed}

@@ -1,3 +1,4 @@
+-- The two copies fill the two parts of the array: the hash, and the two bytes of its checksum behind it.
 use Rattle.std.proofs.Common.{refl}
 use Rattle.wire_parts.specs.Fields.{u16_bytes}
 use Rattle.ots_keys.proofs.digits.checked_hash.Goals as goal

@@ -1,3 +1,4 @@
+-- A line that is text has the words between its blanks; one that isn't is refused, as the definition refuses it.
 use Rattle.std.proofs.Common.{Ok, List, ℕ, sym, ap, ◌∙◌}
 use Rattle.script_grammar.specs.Lines.{words_of}
 use Rattle.part_lines.proofs.Words.{text_line, no_text_line}

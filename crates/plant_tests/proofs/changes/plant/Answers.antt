@@ -1,3 +1,4 @@
+-- Each limit of a plant by the counts of what was made; each point's device is there, since two were made.
 use Rattle.std.proofs.Common.{sym, subst, ap, arith, length}
 use Rattle.master_points.specs.Orders.{AreOwned}
 use Rattle.plant_tests.proofs.changes.plant.Goals as goal

@@ -6,7 +6,8 @@ use Rattle.std.proofs.lemmas.List.{append-nil}
 use Rattle.message_types.specs.declared.body.Body.{Body}
 use Rattle.protocol_rules.specs.Words.{numbers_from}
 use Rattle.protocol_rules.specs.Preorder.{ack_due}
-use Rattle.preorder.proofs.Ranges.{flat_map-more, flat_map-none}
+use Rattle.preorder.proofs.Ranges.{flat_map-more}
+use Rattle.protocol_rules.proofs.Numbers.{flat_map-none}
 use Rattle.preorder.proofs.acks.push_acks_of.Goals as goal
 
 pub loop-number-init : goal.loop-number-init

@@ -2,8 +2,8 @@
 use Rattle.std.proofs.Common.{refl, ap, ◌∙◌, is_some}
 use Rattle.preorder.specs.declared.ballots.Ballot.{Ballot}
 use Rattle.std.proofs.Common.{Some}
-use Rattle.preorder.proofs.Choice.{none_there}
 use Rattle.preorder.proofs.Steps.{has_ballots-known, has_ballots-requested}
+use Rattle.protocol_rules.proofs.FirstMet.{none_there}
 use Rattle.preorder.proofs.ballots.note_requested.Goals as goal
 
 pub returns-then-is_some-clause-noted : goal.returns-then-is_some-clause-noted

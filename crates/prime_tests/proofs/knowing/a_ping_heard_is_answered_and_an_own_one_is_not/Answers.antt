@@ -1,3 +1,5 @@
+-- What the master knows before each call is written out: nothing, then the ping that it said, then also the one that
+-- it heard. A ping is whole in a group of four, which one intruded master makes.
 use Rattle.std.proofs.Common.{◌≡◌, ◌+◌, ◌*◌, ◌<◌, ℕ, [], ◌∷◌, ◌++◌, true, sym, ◌∙◌, ap, subst, arith}
 use Rattle.message_types.specs.Parts.{parts}
 use Rattle.protocol_rules.specs.Group.{Group, group_of}

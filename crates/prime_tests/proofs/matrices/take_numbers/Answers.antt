@@ -1,3 +1,4 @@
+-- The summary is in its place: its signer is one of four masters, and its four numbers are within the limit of 4,096.
 use Rattle.std.proofs.Common.{◌≡◌, ◌<◌, ℕ, true, ◌&&◌, List, length, nat_eq, nat_le, nat_lt, ◌∙◌, ap, arith}
 use Rattle.std.specs.List.{list_all}
 use Rattle.std.proofs.lemmas.Bool.{and_from, lt-ltb, eq-eqb}

@@ -1,9 +1,9 @@
+-- A new order was handed no facts, so it knows few rows.
 use Rattle.std.proofs.Common.{[]}
 use Rattle.protocol_rules.specs.Group.{group_of}
 use Rattle.leader_proposals.proofs.Few.{few-none}
 use Rattle.prime_tests.proofs.offers.knowing_nothing.Goals as goal
 
--- a new order was handed no facts
 pub returns-clause-few : goal.returns-clause-few
 returns-clause-few c = record {
   group = group_of c.args.sizes 0;

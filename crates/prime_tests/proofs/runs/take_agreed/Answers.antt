@@ -1,3 +1,5 @@
+-- The four equal rows are in their place: a row has a number for each of the four masters, two of the caller's and two
+-- zeros, and none is above the limit of 4,096.
 use Rattle.std.proofs.Common.{◌≡◌, ◌<◌, ◌≤◌, ℕ, true, ◌&&◌, List, [], ◌∷◌, length, nat_eq, nat_le, sym, ◌∙◌, ap}
 use Rattle.std.proofs.Common.{subst, refl, arith}
 use Rattle.std.specs.Prelude.{replicate}

@@ -1,3 +1,5 @@
+-- The counts are those of the audit and the benches agree where their definition says so: so the two texts, one behind
+-- the other, are the totals.
 use Rattle.std.proofs.Common.{refl}
 use Rattle.std.specs.Prelude.{string_bytes}
 use Rattle.scenario_file.specs.Reading.{contents}

@@ -1,3 +1,4 @@
+-- The rows so far are those of the masters below, and after the last master those of the whole group.
 use Rattle.std.proofs.Common.{◌≡◌, ◌++◌, ◌∷◌, [], map, sym, ◌∙◌, ap, arith}
 use Rattle.quorum_sets.specs.Masters.{numbers_below}
 use Rattle.quorum_sets.proofs.Numbered.{map_start, map_more}

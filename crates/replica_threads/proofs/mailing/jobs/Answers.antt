@@ -1,3 +1,4 @@
+-- The hands so far are those of the actors below, in order; each actor adds its own behind them.
 use Rattle.replica_threads.proofs.Passes.{none_handed, one_handed}
 use Rattle.replica_threads.proofs.mailing.jobs.Goals as goal
 

@@ -1,3 +1,5 @@
+-- What the end of a run asks is what came before it: all stations were made and have ended, and the first seat was
+-- split once for each of them.
 use Rattle.std.proofs.Common.{sym, ap, ◌∙◌}
 use Rattle.replica_threads.specs.Courses.{seats_made}
 use Rattle.replica_threads.proofs.running.run_named.Goals as goal

@@ -1,3 +1,4 @@
+-- What was loaded is what the file holds, so the script read from it is the file's.
 use Rattle.std.proofs.Common.{◌≡◌, Ok}
 use Rattle.scenario_file.specs.Reading.{contents}
 use Rattle.script_grammar.specs.Names.{who_of}

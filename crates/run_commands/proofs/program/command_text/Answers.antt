@@ -1,3 +1,5 @@
+-- A command that poses a question is that question's course over its scenario and its history, so the cause of the
+-- answer is the command's.
 use Rattle.std.proofs.Common.{sym}
 use Rattle.command_words.specs.Wanted.{wanted}
 use Rattle.run_commands.proofs.Posing.{question-cause}

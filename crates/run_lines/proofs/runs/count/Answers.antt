@@ -1,3 +1,4 @@
+-- Digits that are text are read as a number below 2^32, by the definition; bytes that aren't are a bad line in both.
 use Rattle.std.proofs.Common.{◌∙◌, ap, sym, subst}
 use Rattle.script_grammar.specs.Faults.{Answers}
 use Rattle.script_grammar.specs.Numbers.{narrow_in}

@@ -1,3 +1,4 @@
+-- The lists so far are those of the actors below, one of each.
 use Rattle.std.proofs.Common.{sym, ◌∙◌}
 use Rattle.scenario_file.specs.Keepers.{calls_of}
 use Rattle.quorum_sets.proofs.Numbered.{map_more, map_start}

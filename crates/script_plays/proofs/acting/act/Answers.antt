@@ -10,31 +10,31 @@ use Rattle.script_plays.specs.Making.{most_entries}
 use Rattle.script_plays.specs.Playing.{given_in}
 use Rattle.script_plays.proofs.Acted.{place_there, its_world, its_running, its_role, its_stamps, it_takes}
 use Rattle.script_plays.proofs.Acted.{its_list_short, they_stand, their_slots, act_done}
+use Rattle.script_plays.proofs.acting.act.Goals.{Start}
 use Rattle.script_plays.proofs.acting.act.Goals as goal
+
+actor_there : (c : Start) → is_there (contents c.args.world.now.scenario.now) c.args.actor ≡ true
+actor_there c = (and_parts (is_there (contents c.args.world.now.scenario.now) c.args.actor)
+    (fits_in (contents c.args.world.now.scenario.now) c.args.actor (event_of c.args.event)) c.requires.role).0
 
 pub index_mut-requires : goal.index_mut-requires
 index_mut-requires c =
-    let there = (and_parts (is_there (contents c.args.world.now.scenario.now) c.args.actor)
-    (fits_in (contents c.args.world.now.scenario.now) c.args.actor (event_of c.args.event)) c.requires.role).0 in
     omega (
       arith,
-      place_there (given_in c.args.world.now) c.args.playing.now c.args.actor c.requires.playing there,
+      place_there (given_in c.args.world.now) c.args.playing.now c.args.actor c.requires.playing
+          (actor_there (goal.at.index_mut-requires c).Start),
       c.args.playing.now.kept.ok,
     )
 
 pub add_entry-requires-clause-scenario : goal.add_entry-requires-clause-scenario
 add_entry-requires-clause-scenario c =
-    let there = (and_parts (is_there (contents c.args.world.now.scenario.now) c.args.actor)
-    (fits_in (contents c.args.world.now.scenario.now) c.args.actor (event_of c.args.event)) c.requires.role).0 in
     its_world (given_in c.args.world.now) c.args.playing.now c.args.actor c.index_mut.result.now c.requires.playing
-    there c.index_mut.ensures.value
+    (actor_there (goal.at.add_entry-requires-clause-scenario c).Start) c.index_mut.ensures.value
 
 pub add_entry-requires-clause-running : goal.add_entry-requires-clause-running
 add_entry-requires-clause-running c =
-    let there = (and_parts (is_there (contents c.args.world.now.scenario.now) c.args.actor)
-    (fits_in (contents c.args.world.now.scenario.now) c.args.actor (event_of c.args.event)) c.requires.role).0 in
     its_running (given_in c.args.world.now) c.args.playing.now c.args.actor c.index_mut.result.now c.requires.playing
-    there c.index_mut.ensures.value c.requires.running
+    (actor_there (goal.at.add_entry-requires-clause-running c).Start) c.index_mut.ensures.value c.requires.running
 
 pub add_entry-requires-clause-fits : goal.add_entry-requires-clause-fits
 add_entry-requires-clause-fits c =
@@ -43,38 +43,31 @@ add_entry-requires-clause-fits c =
 
 pub add_entry-requires-clause-later : goal.add_entry-requires-clause-later
 add_entry-requires-clause-later c =
-    let there = (and_parts (is_there (contents c.args.world.now.scenario.now) c.args.actor)
-    (fits_in (contents c.args.world.now.scenario.now) c.args.actor (event_of c.args.event)) c.requires.role).0 in
     its_stamps (given_in c.args.world.now) c.args.playing.now c.args.actor c.index_mut.result.now c.requires.playing
-    there c.index_mut.ensures.value
+    (actor_there (goal.at.add_entry-requires-clause-later c).Start) c.index_mut.ensures.value
 
 pub add_entry-requires-clause-taken : goal.add_entry-requires-clause-taken
 add_entry-requires-clause-taken c =
-    let there = (and_parts (is_there (contents c.args.world.now.scenario.now) c.args.actor)
-    (fits_in (contents c.args.world.now.scenario.now) c.args.actor (event_of c.args.event)) c.requires.role).0 in
     it_takes (given_in c.args.world.now) c.args.playing.now c.args.actor (event_of c.args.event)
-    c.index_mut.result.now c.requires.playing there c.index_mut.ensures.value c.requires.taken
+    c.index_mut.result.now c.requires.playing (actor_there (goal.at.add_entry-requires-clause-taken c).Start)
+    c.index_mut.ensures.value c.requires.taken
 
 pub add_entry-requires-clause-short : goal.add_entry-requires-clause-short
 add_entry-requires-clause-short c =
-    let there = (and_parts (is_there (contents c.args.world.now.scenario.now) c.args.actor)
-    (fits_in (contents c.args.world.now.scenario.now) c.args.actor (event_of c.args.event)) c.requires.role).0 in
     its_list_short (given_in c.args.world.now) c.args.playing.now c.args.actor c.index_mut.result.now
-    c.requires.playing there c.index_mut.ensures.value
+    c.requires.playing (actor_there (goal.at.add_entry-requires-clause-short c).Start) c.index_mut.ensures.value
 
 pub posts_of-requires-clause-stand : goal.posts_of-requires-clause-stand
 posts_of-requires-clause-stand c =
-    let there = (and_parts (is_there (contents c.args.world.now.scenario.now) c.args.actor)
-    (fits_in (contents c.args.world.now.scenario.now) c.args.actor (event_of c.args.event)) c.requires.role).0 in
     they_stand (given_in c.args.world.now) c.args.playing.now c.args.actor c.index_mut.result.now
-    c.in_ok-said.frames.items c.requires.playing there c.index_mut.ensures.value c.in_ok-said.ensures.stand
+    c.in_ok-said.frames.items c.requires.playing (actor_there (goal.at.posts_of-requires-clause-stand c).Start)
+    c.index_mut.ensures.value c.in_ok-said.ensures.stand
 
 pub post-requires : goal.post-requires
 post-requires c =
-    let there = (and_parts (is_there (contents c.args.world.now.scenario.now) c.args.actor)
-    (fits_in (contents c.args.world.now.scenario.now) c.args.actor (event_of c.args.event)) c.requires.role).0 in
     their_slots (given_in c.args.world.now) c.args.playing.now c.args.actor c.in_ok-said.said
-    c.in_ok-said.frames.items c.deref.result.now c.requires.world.valid c.requires.playing there
+    c.in_ok-said.frames.items c.deref.result.now c.requires.world.valid c.requires.playing
+    (actor_there (goal.at.post-requires c).Start)
     (c.deref.ensures.value ∙ c.in_ok-posts.ensures)
 
 pub overflow_add-playing : goal.overflow_add-playing

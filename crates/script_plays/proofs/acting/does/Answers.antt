@@ -11,39 +11,40 @@ use Rattle.script_plays.specs.Making.{does, most_entries}
 use Rattle.script_plays.specs.Playing.{given_in}
 use Rattle.script_plays.proofs.Going.{wants}
 use Rattle.script_plays.proofs.Acted.{place_there, halted_goes, runs_on, full_goes, act_goes}
+use Rattle.script_plays.proofs.acting.does.Goals.{Start}
 use Rattle.script_plays.proofs.acting.does.Goals as goal
+
+actor_there : (c : Start) → is_there (contents c.args.world.now.scenario.now) c.args.actor ≡ true
+actor_there c = (and_parts (is_there (contents c.args.world.now.scenario.now) c.args.actor)
+    (fits_in (contents c.args.world.now.scenario.now) c.args.actor (event_of c.args.event)) c.requires.role).0
 
 pub index-requires : goal.index-requires
 index-requires c =
-    let there = (and_parts (is_there (contents c.args.world.now.scenario.now) c.args.actor)
-    (fits_in (contents c.args.world.now.scenario.now) c.args.actor (event_of c.args.event)) c.requires.role).0 in
     omega (
       arith,
-      place_there (given_in c.args.world.now) c.args.playing.now c.args.actor c.requires.playing there,
+      place_there (given_in c.args.world.now) c.args.playing.now c.args.actor c.requires.playing
+          (actor_there (goal.at.index-requires c).Start),
       c.args.playing.now.kept.ok,
     )
 
 pub returns-then-halted : goal.returns-then-halted
 returns-then-halted c = λ m is.
-    let there = (and_parts (is_there (contents c.args.world.now.scenario.now) c.args.actor)
-    (fits_in (contents c.args.world.now.scenario.now) c.args.actor (event_of c.args.event)) c.requires.role).0 in
     halted_goes (given_in c.args.world.now) m c.args.playing.now c.args.actor (event_of c.args.event)
-    c.index.result.now c.halted.result is there c.index.ensures c.halted.ensures c.if-halted.true
+    c.index.result.now c.halted.result is (actor_there (goal.at.returns-then-halted c).Start)
+    c.index.ensures c.halted.ensures c.if-halted.true
 
 pub returns-then-playing-ge-MOST_ENTRIES : goal.returns-then-playing-ge-MOST_ENTRIES
 unfolding most_entries
 returns-then-playing-ge-MOST_ENTRIES c = λ m is.
-    let there = (and_parts (is_there (contents c.args.world.now.scenario.now) c.args.actor)
-    (fits_in (contents c.args.world.now.scenario.now) c.args.actor (event_of c.args.event)) c.requires.role).0 in
     full_goes (given_in c.args.world.now) m c.args.playing.now c.args.actor (event_of c.args.event) is
-    (runs_on (given_in c.args.world.now) m c.args.playing.now c.args.actor c.index.result.now c.halted.result is there
+    (runs_on (given_in c.args.world.now) m c.args.playing.now c.args.actor c.index.result.now c.halted.result is
+    (actor_there (goal.at.returns-then-playing-ge-MOST_ENTRIES c).Start)
     c.index.ensures c.halted.ensures c.if-halted.false) c.if-playing-ge-MOST_ENTRIES.true
 
 pub act-requires-clause-running : goal.act-requires-clause-running
 act-requires-clause-running c = λ m is.
-    let there = (and_parts (is_there (contents c.args.world.now.scenario.now) c.args.actor)
-    (fits_in (contents c.args.world.now.scenario.now) c.args.actor (event_of c.args.event)) c.requires.role).0 in
-    runs_on (given_in c.args.world.now) m c.args.playing.now c.args.actor c.index.result.now c.halted.result is there
+    runs_on (given_in c.args.world.now) m c.args.playing.now c.args.actor c.index.result.now c.halted.result is
+    (actor_there (goal.at.act-requires-clause-running c).Start)
     c.index.ensures c.halted.ensures c.if-halted.false
 
 pub act-requires-clause-room : goal.act-requires-clause-room
@@ -58,9 +59,8 @@ returns-in_err-act c = λ m is.
 pub returns : goal.returns
 unfolding most_entries
 returns c = λ m is.
-    let there = (and_parts (is_there (contents c.args.world.now.scenario.now) c.args.actor)
-    (fits_in (contents c.args.world.now.scenario.now) c.args.actor (event_of c.args.event)) c.requires.role).0 in
     act_goes (given_in c.args.world.now) m c.args.playing.now _ c.args.actor (event_of c.args.event) is
-    (runs_on (given_in c.args.world.now) m c.args.playing.now c.args.actor c.index.result.now c.halted.result is there
+    (runs_on (given_in c.args.world.now) m c.args.playing.now c.args.actor c.index.result.now c.halted.result is
+    (actor_there (goal.at.returns c).Start)
     c.index.ensures c.halted.ensures c.if-halted.false)
     (omega (arith, c.if-playing-ge-MOST_ENTRIES.false)) (c.in_ok-act.ensures m is)

@@ -1,3 +1,5 @@
+-- What is posted is the actor's own frames, which stand and so have a spelling, and the frame of a cry if there is
+-- one; where nothing is cried they are alone.
 use Rattle.std.proofs.Common.{sym, ◌∙◌}
 use Rattle.world_history.specs.State.{setup_in}
 use Rattle.station_turns.proofs.Posting.{all_spelled, own_stand}

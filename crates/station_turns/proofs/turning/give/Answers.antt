@@ -7,23 +7,46 @@ use Rattle.world_entries.specs.Entries.{event_of}
 use Rattle.station_turns.specs.Turns.{stationed}
 use Rattle.station_turns.proofs.Given.{inside_fits}
 use Rattle.station_turns.proofs.Skipped.{kept_so}
-use Rattle.station_turns.proofs.Entering.{none_given, some_given, next_is, input_fits, input_enters, input_used}
+use Rattle.station_turns.proofs.Entering.{
+  IsGiven,
+  none_given,
+  some_given,
+  next_is,
+  input_fits,
+  input_enters,
+  input_used,
+}
 use Rattle.station_turns.proofs.Entering.{named_cried, stand_before, unsaid_enters, unsaid_used}
+use Rattle.station_turns.proofs.turning.give.Goals.{In-Some, In_default}
 use Rattle.station_turns.proofs.turning.give.Goals as goal
 
 pub add-requires-clause-fits : goal.add-requires-clause-fits
 add-requires-clause-fits c = inside_fits c.event_given.new.kept.bench Tick refl
 
+-- what the next input gave: nothing that can be said now, or an event
+none_now : (c : In_default) →
+    IsGiven (stationed c.args.live.now) c.index-input.result.now c.event_given.new.kept.bench None
+none_now c = record {
+  next = next_is (stationed c.args.live.now) c.args.live.now.used c.index-input.result.now c.requires.used
+      c.requires.left c.index-input.ensures;
+  after_is = c.in_ok-event.ensures.bench;
+  given_is = none_given _ _ c.in_ok-event.ensures.event c.in_default.is;
+}
+
+event_now : (c : In-Some) → IsGiven (stationed c.args.live.now) c.index-input.result.now
+    c.event_given.new.kept.bench (Some (event_of c.in-Some.event))
+event_now c = record {
+  next = next_is (stationed c.args.live.now) c.args.live.now.used c.index-input.result.now c.requires.used
+      c.requires.left c.index-input.ensures;
+  after_is = c.in_ok-event.ensures.bench;
+  given_is = some_given _ _ c.in-Some.event c.in_ok-event.ensures.event c.in-Some.is;
+}
+
 pub returns-in_default-clause-enters : goal.returns-in_default-clause-enters
 returns-in_default-clause-enters c =
     unsaid_enters (stationed c.args.live.now) (kept_so (stationed c.args.live.now) c.add.new.kept)
     c.args.stamp c.index-input.result.now c.event_given.new.kept.bench _ c.requires.can
-    (record {
-      next = next_is (stationed c.args.live.now) c.args.live.now.used c.index-input.result.now c.requires.used
-          c.requires.left c.index-input.ensures;
-      after_is = c.in_ok-event.ensures.bench;
-      given_is = none_given _ _ c.in_ok-event.ensures.event c.in_default.is;
-    })
+    (none_now (goal.at.returns-in_default-clause-enters c).In_default)
     c.in_ok-posting.ensures.entry c.in_ok-posting.ensures.works refl refl refl c.in_ok-posting.ensures.stamp
     c.in_ok-posting.ensures.frames c.in_ok-posting.ensures.cried c.new.ensures
 
@@ -37,36 +60,21 @@ pub returns-in_default-clause-used : goal.returns-in_default-clause-used
 returns-in_default-clause-used c =
     unsaid_used (stationed c.args.live.now) (kept_so (stationed c.args.live.now) c.add.new.kept)
     c.args.stamp c.args.live.now.used c.index-input.result.now c.event_given.new.kept.bench
-    (record {
-      next = next_is (stationed c.args.live.now) c.args.live.now.used c.index-input.result.now c.requires.used
-          c.requires.left c.index-input.ensures;
-      after_is = c.in_ok-event.ensures.bench;
-      given_is = none_given _ _ c.in_ok-event.ensures.event c.in_default.is;
-    })
+    (none_now (goal.at.returns-in_default-clause-used c).In_default)
     c.in_ok-posting.ensures.entry c.requires.used
 
 pub add-requires-2-clause-fits : goal.add-requires-2-clause-fits
 add-requires-2-clause-fits c =
     input_fits (stationed c.args.live.now) (c.args.stamp ∷ []) c.index-input.result.now c.event_given.new.kept.bench
     (event_of c.in-Some.event) c.requires.can.steady
-    (record {
-      next = next_is (stationed c.args.live.now) c.args.live.now.used c.index-input.result.now c.requires.used
-          c.requires.left c.index-input.ensures;
-      after_is = c.in_ok-event.ensures.bench;
-      given_is = some_given _ _ c.in-Some.event c.in_ok-event.ensures.event c.in-Some.is;
-    })
+    (event_now (goal.at.add-requires-2-clause-fits c).In-Some)
 
 pub returns-clause-enters : goal.returns-clause-enters
 returns-clause-enters c =
     input_enters (stationed c.args.live.now) (kept_so (stationed c.args.live.now) c.add-2.new.kept)
     c.args.stamp c.index-input.result.now c.event_given.new.kept.bench (event_of c.in-Some.event) _
     c.requires.can
-    (record {
-      next = next_is (stationed c.args.live.now) c.args.live.now.used c.index-input.result.now c.requires.used
-          c.requires.left c.index-input.ensures;
-      after_is = c.in_ok-event.ensures.bench;
-      given_is = some_given _ _ c.in-Some.event c.in_ok-event.ensures.event c.in-Some.is;
-    })
+    (event_now (goal.at.returns-clause-enters c).In-Some)
     c.in_ok-posting-2.ensures.entry c.in_ok-posting-2.ensures.works refl refl refl c.in_ok-posting-2.ensures.stamp
     c.in_ok-posting-2.ensures.frames c.in_ok-posting-2.ensures.cried
     (named_cried c.in_ok-posting-2.posting.cries (event_of c.in-Some.event) c.index-input.result.now c.in_ok-to.to
@@ -83,10 +91,5 @@ returns-clause-used c =
     input_used (stationed c.args.live.now) (kept_so (stationed c.args.live.now) c.add-2.new.kept)
     c.args.stamp c.args.live.now.used c.index-input.result.now c.event_given.new.kept.bench
     (event_of c.in-Some.event)
-    (record {
-      next = next_is (stationed c.args.live.now) c.args.live.now.used c.index-input.result.now c.requires.used
-          c.requires.left c.index-input.ensures;
-      after_is = c.in_ok-event.ensures.bench;
-      given_is = some_given _ _ c.in-Some.event c.in_ok-event.ensures.event c.in-Some.is;
-    })
+    (event_now (goal.at.returns-clause-used c).In-Some)
     c.in_ok-posting-2.ensures.entry c.requires.used

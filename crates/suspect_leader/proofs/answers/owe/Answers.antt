@@ -1,3 +1,4 @@
+-- An answer that was said isn't owed, so nothing changes; any other joins those that wait, and it alone.
 use Rattle.std.proofs.Common.{◌∙◌, sym}
 use Rattle.suspect_leader.proofs.Sets.{among_put, owed_put, owed_none, said_is}
 use Rattle.suspect_leader.proofs.answers.owe.Goals as goal

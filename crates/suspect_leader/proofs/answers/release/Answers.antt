@@ -1,3 +1,4 @@
+-- Moves one after another are a move. What a body released stays released, since no later move brings it back.
 use Rattle.suspect_leader.proofs.Early.{moved_again, gone_more}
 use Rattle.suspect_leader.proofs.answers.release.Goals as goal
 

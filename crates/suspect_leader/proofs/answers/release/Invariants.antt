@@ -1,3 +1,4 @@
+-- So far answers have only moved, and none of those that waited for a ping among the bodies gone over waits any more.
 use Rattle.std.proofs.Common.{◌≡◌, ◌<◌, ℕ, true, false, take}
 use Rattle.std.specs.List.{list_any}
 use Rattle.protocol_rules.specs.Measures.{pings_said}

@@ -1,3 +1,4 @@
+-- A ping releases the round trips of its own number and is a ping of no other; other bodies are pings of none.
 use Rattle.std.proofs.Common.{ℕ, ◌∙◌, sym, ap}
 use Rattle.std.proofs.lemmas.Bool.{eqb-true}
 use Rattle.std.proofs.lemmas.Result.{on_ok_weaker}

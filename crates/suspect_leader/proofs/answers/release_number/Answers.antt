@@ -1,3 +1,5 @@
+-- The round trips of the number that the masters below waited for are released; one move more releases the next
+-- master's and brings none back.
 use Rattle.std.proofs.Common.{arith}
 use Rattle.suspect_leader.proofs.Early.{not_moved, moved_again, gone_step}
 use Rattle.suspect_leader.proofs.answers.release_number.Goals as goal

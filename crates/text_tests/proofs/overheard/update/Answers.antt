@@ -1,3 +1,4 @@
+-- All of the frame is written out but its signature, and with that one empty the test of its spelling computes.
 use Rattle.std.proofs.Common.{ℕ, List, ap}
 use Rattle.message_types.specs.declared.updates.Op.TheVariants as op
 use Rattle.message_types.specs.declared.body.Body.TheVariants as body

@@ -1,3 +1,4 @@
+-- The point's own list gets the change at its end and no other list changes, which is the definition.
 use Rattle.std.proofs.Common.{◌≡◌, ◌++◌, ◌∷◌, []}
 use Rattle.std.proofs.lemmas.Result.{on_ok_weaker}
 use Rattle.trend_archive.proofs.RangeLaws.{with_change-set}

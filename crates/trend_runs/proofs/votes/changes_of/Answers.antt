@@ -1,3 +1,5 @@
+-- The trend is the definition's for any number of screens, so its changes are too. The question is one that isn't
+-- refused, so only want of memory is left.
 use Rattle.std.proofs.lemmas.Result.{IfOk-weaker}
 use Rattle.trend_runs.proofs.Asking.{only_want}
 use Rattle.trend_runs.proofs.votes.changes_of.Goals as goal

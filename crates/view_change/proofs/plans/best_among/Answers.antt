@@ -1,3 +1,4 @@
+-- The better of the best so far and one certificate more is one step of the definition, and is spelled since both are.
 use Rattle.std.proofs.Common.{◌≡◌, true, subst, sym}
 use Rattle.std.specs.Option.{option_copied, IfSome}
 use Rattle.view_change.specs.Planning.{is_spelled}

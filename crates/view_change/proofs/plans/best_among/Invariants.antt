@@ -1,3 +1,4 @@
+-- What was found so far is the best of those before and of the certificates gone over, and is spelled.
 use Rattle.std.proofs.Common.{◌≡◌, ◌++◌, List, take, filter, IsTrue}
 use Rattle.std.specs.Option.{option_copied, IfSome}
 use Rattle.message_types.specs.declared.ordering.Certificate.{Certificate}

@@ -1,3 +1,4 @@
+-- An actor without a keeper has none that fails, and can't restart: so the frames that it says are those that go out.
 use Rattle.std.proofs.Common.{false, subst}
 use Rattle.std.specs.Prelude.{Option}
 use Rattle.outside.specs.Keepers.{Binder}

@@ -1,3 +1,5 @@
+-- A correct master that is handed the frames it said, whether the event was silent or not, is the one of the list with
+-- the entry.
 use Rattle.std.proofs.Common.{subst}
 use Rattle.world_entries.specs.Entries.{event_of}
 use Rattle.world_history.specs.declared.role.Role.{Role}

@@ -1,3 +1,4 @@
+-- A client whose number is below that of the devices begins as its device's proxy, and any other as a screen.
 use Rattle.std.proofs.Common.{arith}
 use Rattle.world_history.proofs.Starting.{scenario_proxy_begins, scenario_screen_begins}
 use Rattle.world_history.proofs.start.begin_client.Goals as goal
@@ -10,4 +11,5 @@ returns-then-client-len c = scenario_proxy_begins c.args.scenario.now c.args.cli
     c.in_ok-make.ensures.made
 
 pub returns : goal.returns
-returns c = scenario_screen_begins c.args.scenario.now c.args.client c.make-2.result (omega arith) c.make-2.ensures
+returns c = scenario_screen_begins c.args.scenario.now c.args.client c.make-2.result (omega arith)
+    c.make-2.ensures.made

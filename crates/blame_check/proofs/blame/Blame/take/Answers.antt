@@ -1,3 +1,4 @@
+-- The parts that were listed are those of the checked frame, so taking all of them is taking the frame's words.
 use Rattle.std.proofs.Common.{ℕ, List, ◌++◌, subst, ap, ◌∙◌}
 use Rattle.std.specs.Result.{OnOk}
 use Rattle.message_types.specs.declared.signed.Signed.{Signed}

@@ -2,32 +2,22 @@
 -- So what a proxy keeps true holds from the start.
 use Rattle.std.proofs.Common.{arith, ap, sym, refl, ◌∙◌, length}
 use Rattle.std.specs.Prelude.{map}
-use Rattle.std.specs.List.{list_all}
 use Rattle.std.proofs.lemmas.List.{length-replicate}
-use Rattle.vouched_orders.specs.Vouching.{Votes, done}
 use Rattle.vouched_orders.proofs.VouchingLaws.{done-none}
-use Rattle.vouched_orders.specs.declared.vote.Vote.{Vote}
-use Rattle.field_proxy.specs.Writes.{can_write, order_of}
-use Rattle.field_proxy.proofs.FrontLaws.{fresh_is}
+use Rattle.field_proxy.specs.Writes.{order_of}
+use Rattle.field_proxy.proofs.FrontLaws.{front_made}
 use Rattle.field_proxy.proofs.proxy.Proxy.make.Goals as goal
 
 pub invariant_of-result : goal.invariant_of-result
 invariant_of-result c = (
   omega (arith, c.requires.few, ap length c.in_ok-points.ensures),
   ap length c.in_ok-none_said.ensures ∙ length-replicate _ _ ∙ c.len-count.ensures,
-  ap (λ (v : Votes). v.f) c.new-2.ensures,
-  ap (map order_of) c.new-3.ensures.items
-      ∙ sym (ap (λ (v : Votes). done c.args.sizes.n c.args.sizes.f v.votes) c.new-2.ensures
-      ∙ done-none c.args.sizes.n c.args.sizes.f),
-  ap (λ (v : Votes). list_all (λ (vote : Vote). can_write c.in_ok-points.points c.args.client vote.voucher.order)
-      v.votes) c.new-2.ensures,
-  ap (λ (v : Votes). v.n) c.new-2.ensures,
 )
 
 pub returns-clause-made : goal.returns-clause-made
 returns-clause-made c =
-    fresh_is c.args.plant.now.devices c.args.client c.args.sizes.n c.args.sizes.f c.args.plant.now.points
+    front_made c.args.plant.now.devices c.args.client c.args.sizes.n c.args.sizes.f c.args.plant.now.points
     c.in_ok-points.points c.device_of-sizes_of_device.result
     _ _ _ _ _ _ c.device_of-sizes_of_device.ensures c.in_ok-points.ensures c.in_ok-make.ensures c.new.ensures
     c.in_ok-none_said.ensures c.len-count.ensures
-    (ap (λ (v : Votes). v.votes) c.new-2.ensures) c.new-3.ensures.items
+    c.new-2.ensures c.new-3.ensures.items

@@ -1,35 +1,37 @@
 -- The readings due, cut to the room, are what is said, what is told as last values and what is counted; the
 -- line keeps the exchanges of this poll. So the proxy is as the definition has it after a poll.
-use Rattle.std.proofs.Common.{arith, ap, sym, ◌∙◌, ◌≡◌, ◌+◌, length, take}
+use Rattle.std.proofs.Common.{arith, ap, sym, ◌∙◌, ◌≡◌, ◌+◌, subst, length, take}
 use Rattle.std.proofs.lemmas.List.{take_at, length-take}
 use Rattle.field_proxy.specs.contracts.proxy.Proxy.{the_view}
 use Rattle.field_proxy.specs.Exchanges.{line_after}
 use Rattle.field_proxy.specs.Readings.{poll_requests, readings, last_in, told, numbered}
 use Rattle.field_proxy.proofs.LineLaws.{asked_is}
-use Rattle.field_proxy.specs.Front.{Front, polled}
+use Rattle.field_proxy.specs.Front.{Front, ProxyState, IsFrontOf, front_with_votes, polled, poll_says, after_poll}
 use Rattle.field_proxy.proofs.ReadingLaws.{length-numbered}
-use Rattle.field_proxy.proofs.FrontLaws.{polled_is, poll_after}
+use Rattle.field_proxy.proofs.FrontLaws.{front_is, front_seen, polled_is, poll_after}
 use Rattle.field_proxy.proofs.proxy.Proxy.poll.Goals as goal
 
 pub returns-clause-says : goal.returns-clause-says
-returns-clause-says c =
+returns-clause-says c = λ s is.
     let read = c.in_ok-ops.ensures.ops
     ∙ ap (λ points. readings c.self.inside.device c.self.inside.client points (last_in c.deref.result.now))
     c.as_slice.ensures
     ∙ ap (λ lasts. readings c.self.inside.device c.self.inside.client c.self.inside.points (last_in lasts))
     c.deref.ensures.value in
-    let ops = polled_is (the_view c.self.inside) c.args.room _ _ read
+    let ops = polled_is (front_with_votes (the_view c.self.inside) s.votes) c.args.room _ _ read
     (c.deref-2.ensures.value ∙ c.truncate.ensures.items) in
-    rw (← c.self.view_is) (c.in_ok-updates.ensures ∙ ap (numbered c.self.inside.client (c.self.inside.updates + 1)) ops)
+    subst (λ (t : Front). c.in_ok-updates.updates.items ≡ poll_says t c.args.room)
+    (front_is (the_view c.self.inside) c.args.self.now s c.self.view_is is)
+    (c.in_ok-updates.ensures ∙ ap (numbered c.self.inside.client (c.self.inside.updates + 1)) ops)
 
 pub returns-clause-after : goal.returns-clause-after
-returns-clause-after c =
+returns-clause-after c = λ s is.
     let read = c.in_ok-ops.ensures.ops
     ∙ ap (λ points. readings c.self.inside.device c.self.inside.client points (last_in c.deref.result.now))
     c.as_slice.ensures
     ∙ ap (λ lasts. readings c.self.inside.device c.self.inside.client c.self.inside.points (last_in lasts))
     c.deref.ensures.value in
-    let ops = polled_is (the_view c.self.inside) c.args.room _ _ read
+    let ops = polled_is (front_with_votes (the_view c.self.inside) s.votes) c.args.room _ _ read
     (c.deref-3.ensures.value ∙ c.truncate.ensures.items) in
     let lasts = take_at c.tell.new.lasts _ c.self.inside.lasts.len
     (omega (arith, c.tell.auto.lasts, c.deref_mut.ensures.len))
@@ -40,8 +42,16 @@ returns-clause-after c =
     let line = asked_is c.self.inside.line c.new-line.result c.due_readings.new.line c.keep.new.self
     c.self.inside.device (poll_requests c.self.inside.client c.self.inside.points)
     c.new-line.ensures passed c.keep.ensures.some c.keep.ensures.none in
-    rw (← c.self.view_is) (poll_after (the_view c.self.inside) c.args.room _ _ _ _ _ ops c.due_readings.ensures.same
-    line lasts (omega (arith, c.len.ensures, c.deref-3.ensures.len)))
+    let here = front_seen (the_view c.self.inside) c.args.self.now s c.self.view_is is in
+    record {
+      same = ap (λ (t : Front). after_poll t c.args.room)
+          (sym (front_is (the_view c.self.inside) c.args.self.now s c.self.view_is is))
+          ∙ sym (poll_after (front_with_votes (the_view c.self.inside) s.votes) c.args.room _ _ _ _ _ ops
+          c.due_readings.ensures.same line lasts (omega (arith, c.len.ensures, c.deref-3.ensures.len)));
+      tally = here.tally;
+      possible = here.possible;
+      written = here.written;
+    }
 
 pub returns-clause-room : goal.returns-clause-room
 returns-clause-room c =
@@ -55,5 +65,5 @@ pub returns-clause-counted : goal.returns-clause-counted
 returns-clause-counted c =
     let size : length c.in_ok-updates.updates.items ≡ length c.deref-2.result.now = ap length c.in_ok-updates.ensures
     ∙ length-numbered _ _ c.deref-2.result.now in
-    let before : c.self.inside.updates ≡ c.args.self.now.updates = ap (λ (s : Front). s.updates) c.self.view_is in
+    let before : c.self.inside.updates ≡ c.args.self.now.updates = ap (λ (p : ProxyState). p.updates) c.self.view_is in
     omega (arith, size, before, c.len.ensures, c.deref-2.ensures.len)

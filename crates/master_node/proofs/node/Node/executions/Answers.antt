@@ -1,3 +1,4 @@
+-- A running node's knowledge has caught up with all that it heard, so the list inside is what is executed by it.
 use Rattle.std.proofs.Common.{sym, ap, subst}
 use Rattle.history_rules.specs.Legal.{known_of}
 use Rattle.master_node.specs.declared.running.Running.{Running}

@@ -1,3 +1,4 @@
+-- The set is the masters with a mark: one was in it exactly where its mark stood, and a mark more puts its master in.
 use Rattle.std.proofs.Common.{◌≡◌, true, false, get_or, set as slice_set, sym, ◌∙◌, ap, subst}
 use Rattle.quorum_sets.specs.Masters.{has_master, voters, with_master}
 use Rattle.quorum_sets.proofs.MastersLemmas.{voters-marked, has_master-voters_below}

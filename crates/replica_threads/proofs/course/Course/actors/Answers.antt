@@ -1,3 +1,4 @@
+-- The cast of a scenario counts its actors, and a scenario that is valid has at most 26.
 use Rattle.std.proofs.Common.{arith}
 use Rattle.scenario_file.specs.Reading.{contents}
 use Rattle.script_plays.proofs.Begun.{cast_actors, begin_few}

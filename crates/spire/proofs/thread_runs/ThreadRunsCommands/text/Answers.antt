@@ -1,3 +1,4 @@
+-- The run asked for is the one that the definition reads from the words, so the run's cause is the words'.
 use Rattle.std.proofs.Common.{map, string_bytes}
 use Rattle.spire.specs.Asked.{wanted_run}
 use Rattle.spire.proofs.Asked.{asks-run}

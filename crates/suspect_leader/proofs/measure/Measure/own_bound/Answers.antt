@@ -1,6 +1,6 @@
 -- The round trips told by the other masters are put in order one by one. With fewer than q - 1 of them there is
 -- no bound, and else it is the (f + 1)st from above.
-use Rattle.std.proofs.Common.{◌≡◌, ◌<◌, ◌≤◌, ◌+◌, ℕ, length, reverse, sym, ap, ◌∙◌, arith, rules}
+use Rattle.std.proofs.Common.{◌≡◌, ◌<◌, ◌≤◌, ◌+◌, ℕ, List, length, reverse, sym, ap, ◌∙◌, arith, rules}
 use Rattle.std.specs.Prelude.{slice_index}
 use Rattle.std.specs.List.{filter_map}
 use Rattle.std.specs.Option.{option_to_list}
@@ -12,6 +12,10 @@ use Rattle.suspect_leader.proofs.Masters.{quorum_size, ranked_some, bound_some, 
 use Rattle.quorum_sets.proofs.Numbered.{filter_map_start, filter_map_more, masters_few}
 use Rattle.suspect_leader.proofs.measure.Measure.own_bound.Goals as goal
 
+-- the figures of the masters below a number, in order
+abbrev ranked_to : MeasureState → ℕ → List ℕ
+ranked_to kept m = in_order (filter_map (figure_at kept) (numbers_below m))
+
 pub loop-master-init : goal.loop-master-init
 loop-master-init c = c.new-figures.ensures
     ∙ sym (ap in_order (filter_map_start (figure_at c.args.self.now)) ∙ nothing_in_order)
@@ -20,9 +24,9 @@ pub put_if-requires : goal.put_if-requires
 put_if-requires c =
     let few : c.self.inside.sizes.n ≤ 14 = masters_few c.self.inside.sizes in
     let same : length c.loop-master.figures ≡ length
-    (in_order (filter_map (figure_at c.args.self.now) (numbers_below c.loop-master.master))) =
+    (ranked_to c.args.self.now c.loop-master.master) =
     ap length c.loop-master.invariant in
-    let most : length (in_order (filter_map (figure_at c.args.self.now) (numbers_below c.loop-master.master))) ≤
+    let most : length (ranked_to c.args.self.now c.loop-master.master) ≤
     c.loop-master.master = ranked_some (figure_at c.args.self.now) c.loop-master.master in
     omega arith
 
@@ -38,9 +42,9 @@ pub overflow_add-len : goal.overflow_add-len
 overflow_add-len c =
     let few : c.self.inside.sizes.n ≤ 14 = masters_few c.self.inside.sizes in
     let same : c.len.result ≡ length
-    (in_order (filter_map (figure_at c.args.self.now) (numbers_below c.loop-master.master))) =
+    (ranked_to c.args.self.now c.loop-master.master) =
     c.len.ensures ∙ ap length c.loop-master.invariant in
-    let most : length (in_order (filter_map (figure_at c.args.self.now) (numbers_below c.loop-master.master))) ≤
+    let most : length (ranked_to c.args.self.now c.loop-master.master) ≤
     c.loop-master.master = ranked_some (figure_at c.args.self.now) c.loop-master.master in
     let small : c.len.result + 1 < 18446744073709551616 = omega arith in
     search rules
@@ -51,7 +55,7 @@ returns-then-len-self c =
     (let at_end : c.loop-master.master ≡ c.self.inside.sizes.n = omega arith in
     at_end ∙ ap (λ (k : MeasureState). k.group.n) c.self.view_is) in
     let ranked : c.loop-master.figures ≡ in_order (figures_kept c.args.self.now) = c.loop-master.invariant
-    ∙ ap (λ (n : ℕ). in_order (filter_map (figure_at c.args.self.now) (numbers_below n))) ended in
+    ∙ ap (ranked_to c.args.self.now) ended in
     let same : c.self.inside.sizes.q ≡ c.args.self.now.group.q = ap (λ (k : MeasureState). k.group.q) c.self.view_is in
     let count : c.len.result ≡ length c.loop-master.figures = c.len.ensures in
     bound_none c.args.self.now c.loop-master.figures ranked (omega arith)
@@ -68,7 +72,7 @@ returns c =
     (let at_end : c.loop-master.master ≡ c.self.inside.sizes.n = omega arith in
     at_end ∙ ap (λ (k : MeasureState). k.group.n) c.self.view_is) in
     let ranked : c.loop-master.figures ≡ in_order (figures_kept c.args.self.now) = c.loop-master.invariant
-    ∙ ap (λ (n : ℕ). in_order (filter_map (figure_at c.args.self.now) (numbers_below n))) ended in
+    ∙ ap (ranked_to c.args.self.now) ended in
     let same : c.self.inside.sizes.q ≡ c.args.self.now.group.q = ap (λ (k : MeasureState). k.group.q) c.self.view_is in
     let count : c.len.result ≡ length c.loop-master.figures = c.len.ensures in
     bound_some c.args.self.now c.loop-master.figures c.highest.result ranked (omega arith)

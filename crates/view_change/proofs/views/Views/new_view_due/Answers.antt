@@ -1,3 +1,4 @@
+-- A new view is due exactly where one is owed, and then it is that of the quorum of reports.
 use Rattle.std.proofs.Common.{ap, sym, ◌∙◌}
 use Rattle.view_change.specs.ViewState.{ViewState}
 use Rattle.view_change.proofs.Answering.{no_new_view, one_new_view}

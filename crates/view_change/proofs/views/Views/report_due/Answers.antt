@@ -1,3 +1,4 @@
+-- A report is due exactly where one is owed, and then it is that of the view, with copies of marks and certificates.
 use Rattle.std.proofs.Common.{ap, sym, ◌∙◌}
 use Rattle.view_change.specs.ViewState.{ViewState}
 use Rattle.view_change.proofs.Answering.{no_report, one_report}

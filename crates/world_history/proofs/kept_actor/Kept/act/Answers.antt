@@ -8,7 +8,9 @@ use Rattle.history_rules.specs.Setup.{stands}
 use Rattle.world_entries.specs.Entries.{event_of}
 use Rattle.world_history.specs.State.{setup_in, with_entry}
 use Rattle.world_history.specs.KeptState.{KeptState, Keeps, frames_kept, posted}
+use Rattle.world_history.proofs.KeptActing.{CanCome}
 use Rattle.world_history.proofs.Together.{goes_on, seen_come, posted_or, noted}
+use Rattle.world_history.proofs.kept_actor.Kept.act.Goals.{Else-self}
 use Rattle.world_history.proofs.kept_actor.Kept.act.Goals as goal
 
 pub add-requires-clause-keeps : goal.add-requires-clause-keeps
@@ -20,49 +22,27 @@ add-requires-clause-keeps c =
 pub add-requires-clause-scenario : goal.add-requires-clause-scenario
 add-requires-clause-scenario c = c.requires.scenario ∙ sym (ap (λ (x : KeptState). x.bench.world) c.self.view_is)
 
-pub add-requires-clause-fits : goal.add-requires-clause-fits
-add-requires-clause-fits c =
-    (seen_come c.self.inside.bench c.self.inside.keeper c.self.inside.is_spent c.args.self.now c.args.stamp
-    (event_of c.args.event) c.self.view_is
-    (record {
+can_come : (c : Else-self) → CanCome c.self.inside.bench c.args.stamp (event_of c.args.event)
+can_come c =
+    seen_come c.self.inside.bench c.self.inside.keeper c.self.inside.is_spent c.args.self.now c.args.stamp
+    (event_of c.args.event) c.self.view_is (record {
       fits = c.requires.fits;
       later = c.requires.later;
       taken = c.requires.taken;
       short = c.requires.short;
-    })).fits
+    })
+
+pub add-requires-clause-fits : goal.add-requires-clause-fits
+add-requires-clause-fits c = (can_come (goal.at.add-requires-clause-fits c).Else-self).fits
 
 pub add-requires-clause-later : goal.add-requires-clause-later
-add-requires-clause-later c =
-    (seen_come c.self.inside.bench c.self.inside.keeper c.self.inside.is_spent c.args.self.now c.args.stamp
-    (event_of c.args.event) c.self.view_is
-    (record {
-      fits = c.requires.fits;
-      later = c.requires.later;
-      taken = c.requires.taken;
-      short = c.requires.short;
-    })).later
+add-requires-clause-later c = (can_come (goal.at.add-requires-clause-later c).Else-self).later
 
 pub add-requires-clause-taken : goal.add-requires-clause-taken
-add-requires-clause-taken c =
-    (seen_come c.self.inside.bench c.self.inside.keeper c.self.inside.is_spent c.args.self.now c.args.stamp
-    (event_of c.args.event) c.self.view_is
-    (record {
-      fits = c.requires.fits;
-      later = c.requires.later;
-      taken = c.requires.taken;
-      short = c.requires.short;
-    })).taken
+add-requires-clause-taken c = (can_come (goal.at.add-requires-clause-taken c).Else-self).taken
 
 pub add-requires-clause-short : goal.add-requires-clause-short
-add-requires-clause-short c =
-    (seen_come c.self.inside.bench c.self.inside.keeper c.self.inside.is_spent c.args.self.now c.args.stamp
-    (event_of c.args.event) c.self.view_is
-    (record {
-      fits = c.requires.fits;
-      later = c.requires.later;
-      taken = c.requires.taken;
-      short = c.requires.short;
-    })).short
+add-requires-clause-short c = (can_come (goal.at.add-requires-clause-short c).Else-self).short
 
 pub returns-clause-entry : goal.returns-clause-entry
 returns-clause-entry c =
