@@ -1,131 +1,29 @@
--- The second example, computed: its entries are legal, nothing counts as forged or alike, and two masters disagree.
-use Rattle.std.proofs.Common.{◌≡◌, true, [], ◌∷◌, ◌++◌, refl, arith}
-use Rattle.sha2.specs.Sha256.{sha256, digest_bytes, hash_after, compress, rounds, schedule, first_words}
-use Rattle.wire_parts.specs.Fields.{u16_bytes, u32_bytes, u64_bytes}
-use Rattle.message_types.specs.Digests.{digest_of_update, digest_of_rows}
-use Rattle.message_types.specs.Spelling.{has_spelling}
-use Rattle.quorum_sets.specs.Masters.{numbers_below}
-use Rattle.quorum_sets.specs.Quorum.{has_quorum}
-use Rattle.protocol_rules.specs.Words.{first_met, run_from, numbers_from, best_by, last_below, in_order, each_once}
-use Rattle.protocol_rules.specs.Group.{most_number, window, most_view, mark_step}
-use Rattle.protocol_rules.specs.Facts.{facts_of, rows_known}
-use Rattle.protocol_rules.specs.Plans.{chosen, plan_of}
-use Rattle.protocol_rules.specs.Preorder.{certified, vector}
-use Rattle.protocol_rules.specs.Matrix.{latest, rows_of_frames, eligible}
-use Rattle.protocol_rules.specs.Order.{is_voted, prepared, offered, ordered, ordered_run, stable, last_certificate}
-use Rattle.protocol_rules.specs.Execution.{eligible_requests, certified_run, first_missing, kept_after, executed_of}
-use Rattle.protocol_rules.specs.Execution.{waiting_of}
-use Rattle.protocol_rules.specs.Views.{view, is_open}
-use Rattle.protocol_rules.specs.Measures.{turnaround, acceptable, own_bound}
-use Rattle.protocol_rules.specs.Master.{known_at, executed, waits}
-use Rattle.history_rules.specs.Setup.{own, stands}
-use Rattle.history_rules.specs.Legal.{IsLegal, heard_in, known_of, executions}
-use Rattle.history_rules.specs.Counts.{forged, alike, intruded_masters}
-use Rattle.agreement.specs.Laws.{HasSizes}
-use Rattle.history_examples.specs.Words.{update, other_update}
+-- The history with too many masters intruded, computed: it meets the other premises, and masters 2 and 3 have executed
+-- different updates.
+use Rattle.std.proofs.Common.{refl}
 use Rattle.history_examples.specs.Disagreed as it
-use Rattle.history_examples.proofs.Apart.{apart}
-use Rattle.history_examples.proofs.Minds.{short_answers, short_says, EachSays, in_short, then_says}
-use Rattle.history_examples.proofs.Entries.{each_may_come, legal_history}
-use Rattle.audit_counts.proofs.Forged.{forged_counts}
-use Rattle.audit_counts.proofs.Alike.{alike_counts}
 use Rattle.history_examples.specs.Examples.{TwoIntrudedDisagree}
+use Rattle.history_examples.proofs.Apart.{apart}
+use Rattle.history_examples.proofs.Computing.{computing, IsComputed, is_legal, none_forged, none_alike}
+use Rattle.history_examples.proofs.Computing.{four_have_sizes}
 
-all_fit : each_may_come it.setup [] it.history ≡ true
-unfolding own stands has_spelling digest_of_update digest_of_rows most_number most_view mark_step window sha256
-    digest_bytes hash_after compress rounds schedule first_words u16_bytes u32_bytes u64_bytes
-all_fit = refl
-
-introduced_says : EachSays it.setup [] it.introduced
-unfolding short_says short_answers own heard_in known_at numbers_below has_quorum first_met run_from numbers_from
-    best_by last_below in_order each_once most_number window most_view mark_step facts_of rows_known chosen plan_of
-    certified vector latest rows_of_frames eligible is_voted prepared offered ordered ordered_run stable
-    last_certificate eligible_requests certified_run first_missing kept_after executed_of waiting_of view is_open
-    turnaround acceptable own_bound executed waits digest_of_update digest_of_rows sha256 digest_bytes hash_after
-    compress rounds schedule first_words u16_bytes u32_bytes u64_bytes
-introduced_says = in_short it.setup [] it.introduced
-    (refl, (refl, (refl, (refl, (refl, (refl, (refl, (refl, (refl, tt)))))))))
-
-ordered_says : EachSays it.setup it.introduced it.ordered
-unfolding short_says short_answers own heard_in known_at numbers_below has_quorum first_met run_from numbers_from
-    best_by last_below in_order each_once most_number window most_view mark_step facts_of rows_known chosen plan_of
-    certified vector latest rows_of_frames eligible is_voted prepared offered ordered ordered_run stable
-    last_certificate eligible_requests certified_run first_missing kept_after executed_of waiting_of view is_open
-    turnaround acceptable own_bound executed waits digest_of_update digest_of_rows sha256 digest_bytes hash_after
-    compress rounds schedule first_words u16_bytes u32_bytes u64_bytes
-ordered_says = in_short it.setup it.introduced it.ordered (refl, (refl, (refl, (refl, tt))))
-
-executed_says : EachSays it.setup (it.introduced ++ it.ordered) it.executed
-unfolding short_says short_answers own heard_in known_at numbers_below has_quorum first_met run_from numbers_from
-    best_by last_below in_order each_once most_number window most_view mark_step facts_of rows_known chosen plan_of
-    certified vector latest rows_of_frames eligible is_voted prepared offered ordered ordered_run stable
-    last_certificate eligible_requests certified_run first_missing kept_after executed_of waiting_of view is_open
-    turnaround acceptable own_bound executed waits digest_of_update digest_of_rows sha256 digest_bytes hash_after
-    compress rounds schedule first_words u16_bytes u32_bytes u64_bytes
-executed_says = in_short it.setup (it.introduced ++ it.ordered) it.executed (refl, (refl, (refl, (refl, (refl, tt)))))
-
-all_says : EachSays it.setup [] it.history
-all_says =
-    then_says it.setup [] (it.introduced ++ it.ordered) it.executed
-    (then_says it.setup [] it.introduced it.ordered introduced_says ordered_says) executed_says
-
-is_legal : IsLegal it.setup it.history
-is_legal = legal_history it.setup it.history all_fit all_says
-
-sizes : HasSizes it.group
-sizes = record {
-  group = record {
-    some_may_be_intruded = omega arith;
-    at_most_three_intruded = omega arith;
-    at_most_two_away = omega arith;
-  };
-  all = refl;
-  quorum = refl;
-}
-
-none_forged : forged it.setup it.history ≡ 0
-none_forged = refl
-
-none_alike : alike it.group it.history ≡ 0
-unfolding numbers_below rows_of_frames plan_of sha256 digest_bytes hash_after compress rounds schedule first_words
-    u16_bytes u32_bytes u64_bytes
-none_alike = refl
-
-two_intruded : intruded_masters it.setup ≡ 2
-unfolding numbers_below
-two_intruded = refl
-
-second_executed : executions it.setup it.history 2 ≡ update ∷ []
-unfolding known_of own heard_in known_at numbers_below has_quorum first_met run_from numbers_from best_by last_below
-    in_order each_once most_number window most_view mark_step facts_of rows_known chosen plan_of certified vector
-    latest rows_of_frames eligible is_voted prepared offered ordered ordered_run stable last_certificate
-    eligible_requests certified_run first_missing kept_after executed_of waiting_of view is_open turnaround acceptable
-    own_bound executed waits digest_of_update digest_of_rows sha256 digest_bytes hash_after compress rounds schedule
-    first_words u16_bytes u32_bytes u64_bytes
-second_executed = refl
-
-third_executed : executions it.setup it.history 3 ≡ other_update ∷ []
-unfolding known_of own heard_in known_at numbers_below has_quorum first_met run_from numbers_from best_by last_below
-    in_order each_once most_number window most_view mark_step facts_of rows_known chosen plan_of certified vector
-    latest rows_of_frames eligible is_voted prepared offered ordered ordered_run stable last_certificate
-    eligible_requests certified_run first_missing kept_after executed_of waiting_of view is_open turnaround acceptable
-    own_bound executed waits digest_of_update digest_of_rows sha256 digest_bytes hash_after compress rounds schedule
-    first_words u16_bytes u32_bytes u64_bytes
-third_executed = refl
+computed : IsComputed it.setup it.history 2 0
+unfolding computing
+computed = record { come = refl; say = refl; intruded = refl; forged = refl; alike = refl }
 
 pub two_intruded_disagree : TwoIntrudedDisagree
+unfolding computing
 two_intruded_disagree = record {
-  legal = is_legal;
-  sizes = sizes;
-  intruded = two_intruded;
-  unforged = (forged_counts it.setup it.history).0 none_forged;
-  alike = (alike_counts it.group it.history).0 none_alike;
+  legal = is_legal it.setup it.history 2 0 computed;
+  sizes = four_have_sizes 2;
+  intruded = refl;
+  unforged = none_forged it.setup it.history 2 computed;
+  alike = none_alike it.setup it.history 2 0 computed;
   disagree = record {
     first_correct = refl;
     second_correct = refl;
-    first_executed = second_executed;
-    second_executed =
-        third_executed;
+    first_executed = refl;
+    second_executed = refl;
     apart = apart;
   };
 }

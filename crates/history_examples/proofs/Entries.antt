@@ -9,7 +9,7 @@ use Rattle.history_rules.specs.Setup.{Setup, stands, own}
 use Rattle.history_rules.specs.Keeping.{is_halted}
 use Rattle.history_rules.specs.Legal.{says, TakesWell, IsLegalEntry, IsLegal}
 use Rattle.own_histories.proofs.Building.{none_is_legal, one_more_is_legal}
-use Rattle.history_examples.proofs.Minds.{EachSays}
+use Rattle.history_examples.proofs.Minds.{EachSays, each_says, says_by_minds}
 
 -- all that legality asks of an entry but what was said
 abbrev takes_well : Setup → ℕ → Event → Bool
@@ -71,5 +71,6 @@ legal_after w seen (e ∷ rest) legal all =
     (legal_after w (seen ++ e ∷ []) rest (one_more_is_legal w seen e legal all.0) all.1)
 
 pub legal_history : (w : Setup) (history : List Entry) → each_may_come w [] history ≡ true →
-    EachSays w [] history → IsLegal w history
-legal_history w history may said = legal_after w [] history (none_is_legal w) (each_legal w [] history may said)
+    each_says w history ≡ true → IsLegal w history
+legal_history w history may said = legal_after w [] history (none_is_legal w)
+    (each_legal w [] history may (says_by_minds w history said))

@@ -1,6 +1,7 @@
 pub mod Short
 pub mod Minds
 pub mod Entries
+pub mod Computing
 pub mod Apart
 pub mod Plain
 pub mod Relayed

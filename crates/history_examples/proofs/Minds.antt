@@ -1,12 +1,14 @@
 -- What an actor says, entry after entry: each master's mind, which is what it knows and was told of so far, is computed
 -- once an entry, from what it was before. So long examples can be computed.
-use Rattle.std.proofs.Common.{◌≡◌, ℕ, ◌+◌, Bool, true, false, cond, List, [], ◌∷◌, ◌++◌, map, refl, sym, ◌∙◌, ap}
+use Rattle.std.proofs.Common.{◌≡◌, ℕ, ◌+◌, Bool, true, false, ◌&&◌, cond, List, [], ◌∷◌, ◌++◌, map, refl, sym, ◌∙◌, ap}
 use Rattle.std.proofs.Common.{subst, inl, inr, ◌⊎◌, nat_eq, append_assoc}
-use Rattle.std.proofs.lemmas.Bool.{eq-eqb, ne_eqb, cases_eq}
+use Rattle.std.proofs.lemmas.Bool.{and_parts, eq-eqb, ne_eqb, cases_eq}
 use Rattle.std.proofs.lemmas.List.{append-nil}
 use Rattle.std.proofs.lemmas.Grind.{flat_map-append}
 use Rattle.std.specs.Prelude.{if◌then◌else◌, Option, take, nat_lt}
 use Rattle.std.specs.List.{flat_map}
+use Rattle.std.specs.Cmp.Lexicographic.{pointwise}
+use lib.Pointwise.{pointwise_decides}
 use Rattle.message_types.specs.declared.signed.Signed.{Signed}
 use Rattle.message_types.specs.declared.updates.Update.{Update}
 use Rattle.message_types.specs.declared.vouchers.Order.{Order}
@@ -27,6 +29,8 @@ use Rattle.protocol_rules.specs.Master.{waiting_for, summaries_due, preprepares_
 use Rattle.history_rules.specs.Events.{Event, Entry, frame_taken, is_tick, is_silent}
 use Rattle.history_rules.specs.Setup.{Setup, room, own, signed_from, leaves_used}
 use Rattle.history_rules.specs.Legal.{heard, intruded_says, says_in, says}
+use Rattle.history_rules.specs.Sameness.{is_same_body}
+use Rattle.audit_counts.proofs.Same.{body_test}
 use Rattle.agreement.proofs.Known.{hears, heard_then, heard_other, heard_silent}
 use Rattle.history_examples.proofs.Short.{short_acks, short_gives, short_gives_ordered, acks_same, gives_same}
 use Rattle.history_examples.proofs.Short.{gives_ordered_same, short_gap, gap_same}
@@ -217,37 +221,33 @@ says_short w before actor event = λ i.
     (frame_taken event) (is_tick event) i))
     else w.client_says actor (own before actor) event)
 
--- each of the entries says, after those seen and those before it, what the shorter way gives
-abbrev SaysFrom : Setup → (ℕ → Mind) → List Entry → List Entry → Type 0
-SaysFrom w minds seen [] = Unit {0}
-SaysFrom w minds seen (e ∷ rest) = (e.said ≡ short_says w (minds e.actor) (own seen e.actor) e.actor e.event)
-    × SaysFrom w (minds_then w seen minds e) (seen ++ e ∷ []) rest
+-- whether each of the entries says, after those seen and those before it, what the shorter way gives
+abbrev says_from : Setup → (ℕ → Mind) → List Entry → List Entry → Bool
+says_from w minds seen [] = true
+says_from w minds seen (e ∷ rest) =
+    pointwise is_same_body e.said (short_says w (minds e.actor) (own seen e.actor) e.actor e.event)
+    && says_from w (minds_then w seen minds e) (seen ++ e ∷ []) rest
 
-abbrev pub EachSaysShort : Setup → List Entry → List Entry → Type 0
-EachSaysShort w seen rest = SaysFrom w (minds_after w seen) seen rest
+abbrev pub each_says : Setup → List Entry → Bool
+each_says w history = says_from w (minds_after w []) [] history
 
 -- each of them says what the rules make its actor say
 abbrev pub EachSays : Setup → List Entry → List Entry → Type 0
 EachSays w seen [] = Unit {0}
 EachSays w seen (e ∷ rest) = (e.said ≡ says w seen e.actor e.event) × EachSays w (seen ++ e ∷ []) rest
 
-by_minds : (w : Setup) (minds : ℕ → Mind) (seen rest : List Entry) → AreMinds w seen minds → SaysFrom w minds seen rest
-    → EachSays w seen rest
+by_minds : (w : Setup) (minds : ℕ → Mind) (seen rest : List Entry) → AreMinds w seen minds
+    → says_from w minds seen rest ≡ true → EachSays w seen rest
 by_minds w minds seen [] are short = tt
-by_minds w minds seen (e ∷ rest) are short = (
-  short.0 ∙ ap (λ (m : Mind). short_says w m (own seen e.actor) e.actor e.event) (are e.actor)
-      ∙ sym (says_short w seen e.actor e.event),
-  by_minds w (minds_then w seen minds e) (seen ++ e ∷ []) rest (are_minds w seen minds e are) short.1,
-)
+by_minds w minds seen (e ∷ rest) are short =
+    let said : List Body = short_says w (minds e.actor) (own seen e.actor) e.actor e.event in
+    let both = and_parts (pointwise is_same_body e.said said)
+    (says_from w (minds_then w seen minds e) (seen ++ e ∷ []) rest) short in (
+      (pointwise_decides {E = is_same_body} body_test e.said said).0 both.0
+          ∙ ap (λ (m : Mind). short_says w m (own seen e.actor) e.actor e.event) (are e.actor)
+          ∙ sym (says_short w seen e.actor e.event),
+      by_minds w (minds_then w seen minds e) (seen ++ e ∷ []) rest (are_minds w seen minds e are) both.1,
+    )
 
-pub in_short : (w : Setup) (seen rest : List Entry) → EachSaysShort w seen rest → EachSays w seen rest
-in_short w seen rest short = by_minds w (minds_after w seen) seen rest (λ a. refl) short
-
-pub then_says : (w : Setup) (seen xs ys : List Entry) → EachSays w seen xs → EachSays w (seen ++ xs) ys
-    → EachSays w seen (xs ++ ys)
-then_says w seen [] ys first second = subst (λ (bs : List Entry). EachSays w bs ys) (append-nil seen) second
-then_says w seen (x ∷ xs) ys first second = (
-  first.0,
-  then_says w (seen ++ x ∷ []) xs ys first.1
-      (subst (λ (bs : List Entry). EachSays w bs ys) (sym (append_assoc seen (x ∷ []) xs)) second),
-)
+pub says_by_minds : (w : Setup) (history : List Entry) → each_says w history ≡ true → EachSays w [] history
+says_by_minds w history short = by_minds w (minds_after w []) [] history (λ a. refl) short

@@ -11,12 +11,12 @@ use Rattle.message_types.specs.declared.body.Body.TheVariants as body
 use Rattle.protocol_rules.specs.Group.{Group}
 use Rattle.history_rules.specs.Events.{Entry}
 use Rattle.history_rules.specs.Setup.{Setup}
-use Rattle.history_examples.specs.Signing.{sealed, setup_of, commands, cries, takes, ticks, quiet_ticks}
-use Rattle.history_examples.specs.Words.{update, request, ack, certificate, summary, rows, rows_digest, by_three}
-use Rattle.history_examples.specs.Words.{proposal, prepare, prepared_report, report}
+use Rattle.history_examples.specs.Signing.{four_masters, sealed, setup_of, cries, takes, ticks, quiet_ticks}
+use Rattle.history_examples.specs.Words.{rows, rows_digest, order_by, three, prepared_report, report}
+use Rattle.history_examples.specs.Relayed.{introduced, summarized, proposed}
 
 abbrev pub group : Group
-group = record { n = 4; f = 1; k = 0; q = 3; clients = 1 }
+group = four_masters 1
 
 abbrev pub setup : Setup
 setup = setup_of group (λ m. nat_eq m 0)
@@ -47,29 +47,12 @@ abbrev pub commit_again : Commit
 commit_again = record { v = 1; s = 1; digest = rows_digest }
 
 abbrev pub order_again : Body
-order_again = body.GiveOrdered record { s = 1; v = 1; rows = rows; commits = by_three body.Commit commit_again }
+order_again = order_by three rows commit_again
 
--- The screen's command; master 0's request, which masters 1 and 2 acknowledge; its certificate; and their summaries.
-abbrev pub introduced : List Entry
-introduced =
-    commands 0 4 update
-    ∷ cries 1 0 (body.PoRequest request)
-    ∷ takes 2 1 1 0 (body.PoRequest request) (body.PoAck ack ∷ [])
-    ∷ takes 3 2 1 0 (body.PoRequest request) (body.PoAck ack ∷ [])
-    ∷ cries 4 0 certificate
-    ∷ takes 5 1 4 0 certificate []
-    ∷ takes 6 2 4 0 certificate []
-    ∷ ticks 7 1 (body.PoSummary summary ∷ [])
-    ∷ ticks 8 2 (body.PoSummary summary ∷ [])
-    ∷ []
-
--- Master 0 proposes the update as number 1, and masters 1 and 2 prepare it. That is master 0's last word as a leader.
-abbrev pub proposed : List Entry
-proposed =
-    cries 9 0 proposal
-    ∷ takes 10 1 9 0 proposal (body.Prepare prepare ∷ [])
-    ∷ takes 11 2 9 0 proposal (body.Prepare prepare ∷ [])
-    ∷ []
+-- It begins as the run under an intruded leader, until masters 1 and 2 have prepared the update. The proposal is master
+-- 0's last word as a leader.
+abbrev pub begun : List Entry
+begun = introduced ++ summarized ++ proposed
 
 -- A master waits for 24 ticks: at each eighth it tells how long so far, and its sixteenth tick in all is one with a
 -- ping.
@@ -134,7 +117,7 @@ committed_again =
 
 -- view 0, and all
 abbrev pub in_first_view : List Entry
-in_first_view = introduced ++ proposed ++ waits_of_1 ++ waits_of_2 ++ suspected
+in_first_view = begun ++ waits_of_1 ++ waits_of_2 ++ suspected
 
 abbrev pub history : List Entry
 history = in_first_view ++ reported ++ prepared_again ++ committed_again

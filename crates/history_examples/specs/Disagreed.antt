@@ -8,12 +8,12 @@ use Rattle.message_types.specs.declared.body.Body.TheVariants as body
 use Rattle.protocol_rules.specs.Group.{Group}
 use Rattle.history_rules.specs.Events.{Entry}
 use Rattle.history_rules.specs.Setup.{Setup}
-use Rattle.history_examples.specs.Signing.{setup_of, commands, cries, takes, ticks}
+use Rattle.history_examples.specs.Signing.{four_masters, setup_of, commands, cries, takes, ticks}
 use Rattle.history_examples.specs.Words.{update, request, ack, certificate, other_update, other_request, other_ack}
 use Rattle.history_examples.specs.Words.{other_certificate, summary, proposal, prepare, report, commit, order}
 
 abbrev pub group : Group
-group = record { n = 4; f = 1; k = 0; q = 3; clients = 2 }
+group = four_masters 2
 
 abbrev pub setup : Setup
 setup = setup_of group (λ m. nat_lt m 2)

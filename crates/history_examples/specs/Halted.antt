@@ -7,30 +7,20 @@ use Rattle.message_types.specs.declared.body.Body.TheVariants as body
 use Rattle.protocol_rules.specs.Group.{Group}
 use Rattle.history_rules.specs.Events.{Entry}
 use Rattle.history_rules.specs.Setup.{Setup}
-use Rattle.history_examples.specs.Signing.{setup_of, commands, cries, takes, ticks, restarts}
-use Rattle.history_examples.specs.Words.{update, request, ack, certificate, summary, proposal, prepare, report}
-use Rattle.history_examples.specs.Words.{commit, order}
+use Rattle.history_examples.specs.Signing.{four_masters, setup_of, cries, takes, ticks, restarts}
+use Rattle.history_examples.specs.Words.{ack, certificate, summary, proposal, prepare, report, commit, order}
+use Rattle.history_examples.specs.Relayed as relayed
 
 abbrev pub group : Group
-group = record { n = 4; f = 1; k = 0; q = 3; clients = 1 }
+group = four_masters 1
 
 abbrev pub setup : Setup
 setup = let plain : Setup = setup_of group (λ m. nat_eq m 0) in
     record plain { failing = λ actor. if nat_eq actor 3 then 3 ∷ [] else 0 ∷ [] }
 
--- The screen's command; master 0's request, which masters 1 and 2 acknowledge; its certificate, which master 3 takes
--- too, and acknowledges.
+-- It begins as the run under an intruded leader. Master 3 takes the certificate too, and acknowledges it.
 abbrev pub introduced : List Entry
-introduced =
-    commands 0 4 update
-    ∷ cries 1 0 (body.PoRequest request)
-    ∷ takes 2 1 1 0 (body.PoRequest request) (body.PoAck ack ∷ [])
-    ∷ takes 3 2 1 0 (body.PoRequest request) (body.PoAck ack ∷ [])
-    ∷ cries 4 0 certificate
-    ∷ takes 5 1 4 0 certificate []
-    ∷ takes 6 2 4 0 certificate []
-    ∷ takes 7 3 4 0 certificate (body.PoAck ack ∷ [])
-    ∷ []
+introduced = relayed.introduced ++ takes 7 3 4 0 certificate (body.PoAck ack ∷ []) ∷ []
 
 -- Master 3's restart, its last entry.
 abbrev pub restarted : List Entry

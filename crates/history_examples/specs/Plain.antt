@@ -6,11 +6,11 @@ use Rattle.message_types.specs.declared.body.Body.TheVariants as body
 use Rattle.protocol_rules.specs.Group.{Group}
 use Rattle.history_rules.specs.Events.{Entry}
 use Rattle.history_rules.specs.Setup.{Setup}
-use Rattle.history_examples.specs.Signing.{setup_of, commands, takes, ticks}
+use Rattle.history_examples.specs.Signing.{four_masters, setup_of, commands, takes, ticks}
 use Rattle.history_examples.specs.Words.{update, request, ack, summary, proposal, prepare, commit}
 
 abbrev pub group : Group
-group = record { n = 4; f = 1; k = 0; q = 3; clients = 1 }
+group = four_masters 1
 
 abbrev pub setup : Setup
 setup = setup_of group (λ m. false)

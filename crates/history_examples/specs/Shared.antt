@@ -4,7 +4,6 @@
 -- with a leaf of its own. When master 1 executes, it has one leaf left, and vouches for the first 32 orders.
 use Rattle.std.specs.Prelude.{ℕ, ◌+◌, true, List, [], ◌∷◌, ◌++◌, map, nat_eq}
 use Rattle.std.specs.List.{flat_map}
-use Rattle.message_types.specs.declared.signed.Signed.{Signed}
 use Rattle.message_types.specs.declared.updates.Update.{Update}
 use Rattle.message_types.specs.declared.preordering.PoRequest.{PoRequest}
 use Rattle.message_types.specs.declared.preordering.PoSummary.{PoSummary}
@@ -19,7 +18,7 @@ use Rattle.protocol_rules.specs.Group.{Group}
 use Rattle.history_rules.specs.Events.{Entry}
 use Rattle.history_rules.specs.Setup.{Setup}
 use Rattle.history_examples.specs.Signing.{sealed, setup_of, commands, cries, takes, ticks}
-use Rattle.history_examples.specs.Words.{update, ack}
+use Rattle.history_examples.specs.Words.{update, ack, certificate_by, proposal_by, report_by, order_by}
 
 abbrev pub group : Group
 group = record { n = 6; f = 1; k = 1; q = 4; clients = 1 }
@@ -32,23 +31,22 @@ abbrev pub setup : Setup
 setup = let plain : Setup = setup_of group (λ m. nat_eq m 0) in
     record plain { orders = forty_orders; leaves = 5; shared_leaves = true }
 
--- the word of masters 0, 1, 2 and 3
-abbrev pub by_four : {B : Type 0} → (B → Body) → B → List (Signed B)
-by_four kind b = sealed kind 0 b ∷ sealed kind 1 b ∷ sealed kind 2 b ∷ sealed kind 3 b ∷ []
+-- the request of master 0 and its certificate by four masters; a summary; the rows of the four, and their digest; and
+-- the words about number 1
+abbrev pub four : List ℕ
+four = 0 ∷ 1 ∷ 2 ∷ 3 ∷ []
 
--- the request of master 0 and its certificate; a summary; the rows of the four masters, and their digest; and the words
--- about number 1
 abbrev pub request : PoRequest
 request = record { k = 1; update = sealed body.Update 6 update }
 
 abbrev pub certificate : Body
-certificate = body.Give record { request = sealed body.PoRequest 0 request; acks = by_four body.PoAck ack }
+certificate = certificate_by four request ack
 
 abbrev pub summary : PoSummary
 summary = record { numbers = 1 ∷ 0 ∷ 0 ∷ 0 ∷ 0 ∷ 0 ∷ [] }
 
 abbrev pub proposal : Body
-proposal = body.PrePrepare record { v = 0; s = 1; frames = by_four body.PoSummary summary }
+proposal = proposal_by four summary
 
 abbrev pub rows : List (List ℕ)
 rows = summary.numbers ∷ summary.numbers ∷ summary.numbers ∷ summary.numbers ∷ [] ∷ [] ∷ []
@@ -67,15 +65,10 @@ abbrev pub commit : Commit
 commit = record { v = 0; s = 1; digest = rows_digest }
 
 abbrev pub report : Body
-report = body.Report record {
-  v = 1;
-  base = 0;
-  marks = [];
-  certificates = record { s = 1; v = 0; rows = rows; prepares = by_four body.Prepare prepare } ∷ [];
-}
+report = body.Report (report_by four rows prepare)
 
 abbrev pub ordered : Body
-ordered = body.GiveOrdered record { s = 1; v = 0; rows = rows; commits = by_four body.Commit commit }
+ordered = order_by four rows commit
 
 -- vouchers for the first orders
 abbrev pub vouchers : ℕ → List Body

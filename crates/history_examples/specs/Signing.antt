@@ -61,6 +61,10 @@ fits_screen Skip = true
 fits_screen Restart = true
 fits_screen _ = false
 
+-- A group of four masters, of which one may be intruded, and so many screens. A quorum is three.
+abbrev pub four_masters : ℕ → Group
+four_masters clients = record { n = 4; f = 1; k = 0; q = 3; clients = clients }
+
 -- A group of masters and screens on a plant without orders, with leaves enough and no keeper that fails.
 abbrev pub setup_of : Group → (ℕ → Bool) → Setup
 setup_of g intruded = record {

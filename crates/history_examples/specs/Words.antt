@@ -1,7 +1,7 @@
 -- The words of the examples: how an update of screen 0 is introduced, certified, proposed, prepared and committed by
 -- masters 0, 1 and 2, and how an update of screen 1 is introduced and certified as that same request. (Digests are
 -- written out; that they are those of the update and the rows comes out where the examples' entries are computed.)
-use Rattle.std.specs.Prelude.{ℕ, List, [], ◌∷◌}
+use Rattle.std.specs.Prelude.{ℕ, List, [], ◌∷◌, map}
 use Rattle.message_types.specs.declared.signed.Signed.{Signed}
 use Rattle.message_types.specs.declared.updates.Op.TheVariants as op
 use Rattle.message_types.specs.declared.updates.Update.{Update}
@@ -54,31 +54,49 @@ prepare = record { v = 0; s = 1; digest = rows_digest }
 abbrev pub commit : Commit
 commit = record { v = 0; s = 1; digest = rows_digest }
 
--- the word of masters 0, 1 and 2
-abbrev pub by_three : {B : Type 0} → (B → Body) → B → List (Signed B)
-by_three kind b = sealed kind 0 b ∷ sealed kind 1 b ∷ sealed kind 2 b ∷ []
+-- the word of each of these masters
+abbrev pub by : {B : Type 0} → List ℕ → (B → Body) → B → List (Signed B)
+by masters kind b = map (λ m. sealed kind m b) masters
 
--- the words of master 0: the request, its certificate, the proposal, a report that holds the prepares, the order with
--- the commits
-abbrev pub certificate : Body
-certificate = body.Give record { request = sealed body.PoRequest 0 request; acks = by_three body.PoAck ack }
+-- what a master tells with the words of these masters: a certificate of master 0's request, a proposal of their
+-- summaries, a report into view 1 that holds their prepares in view 0, the order of number 1 with their commits
+abbrev pub certificate_by : List ℕ → PoRequest → PoAck → Body
+certificate_by masters r a =
+    body.Give record { request = sealed body.PoRequest 0 r; acks = by masters body.PoAck a }
 
-abbrev pub proposal : Body
-proposal = body.PrePrepare record { v = 0; s = 1; frames = by_three body.PoSummary summary }
+abbrev pub proposal_by : List ℕ → PoSummary → Body
+proposal_by masters row = body.PrePrepare record { v = 0; s = 1; frames = by masters body.PoSummary row }
 
-abbrev pub prepared_report : Report
-prepared_report = record {
+abbrev pub report_by : List ℕ → List (List ℕ) → Prepare → Report
+report_by masters matrix p = record {
   v = 1;
   base = 0;
   marks = [];
-  certificates = record { s = 1; v = 0; rows = rows; prepares = by_three body.Prepare prepare } ∷ [];
+  certificates = record { s = 1; v = 0; rows = matrix; prepares = by masters body.Prepare p } ∷ [];
 }
+
+abbrev pub order_by : List ℕ → List (List ℕ) → Commit → Body
+order_by masters matrix c =
+    body.GiveOrdered record { s = 1; v = c.v; rows = matrix; commits = by masters body.Commit c }
+
+-- these words of masters 0, 1 and 2
+abbrev pub three : List ℕ
+three = 0 ∷ 1 ∷ 2 ∷ []
+
+abbrev pub certificate : Body
+certificate = certificate_by three request ack
+
+abbrev pub proposal : Body
+proposal = proposal_by three summary
+
+abbrev pub prepared_report : Report
+prepared_report = report_by three rows prepare
 
 abbrev pub report : Body
 report = body.Report prepared_report
 
 abbrev pub order : Body
-order = body.GiveOrdered record { s = 1; v = 0; rows = rows; commits = by_three body.Commit commit }
+order = order_by three rows commit
 
 -- screen 1's first update, and its digest
 abbrev pub other_update : Update
@@ -99,7 +117,4 @@ abbrev pub other_ack : PoAck
 other_ack = record { j = 0; k = 1; digest = other_digest }
 
 abbrev pub other_certificate : Body
-other_certificate = body.Give record {
-  request = sealed body.PoRequest 0 other_request;
-  acks = sealed body.PoAck 0 other_ack ∷ sealed body.PoAck 1 other_ack ∷ sealed body.PoAck 3 other_ack ∷ [];
-}
+other_certificate = certificate_by (0 ∷ 1 ∷ 3 ∷ []) other_request other_ack
