@@ -213,6 +213,20 @@ best_there beats (there y rest h) = (_, refl)
 pub bytes_same : (a b : List ℕ) → bytes_eq a b ≡ true → a ≡ b
 bytes_same a b e = (bytes_eq-Decides a b).0 e
 
+-- what holds of a vote that passes the test of its signer, view, number and digest
+vote_is : (signer m at v number s : ℕ) (named digest : List ℕ) →
+    (nat_eq signer m && nat_eq at v && nat_eq number s && bytes_eq named digest) ≡ true →
+    (signer ≡ m) × (at ≡ v) × (number ≡ s) × (named ≡ digest)
+vote_is signer m at v number s named digest e =
+    let digests = and_parts (nat_eq signer m && nat_eq at v && nat_eq number s) (bytes_eq named digest) e in
+    let numbers = and_parts (nat_eq signer m && nat_eq at v) (nat_eq number s) digests.0 in
+    let views = and_parts (nat_eq signer m) (nat_eq at v) numbers.0 in (
+      eqb-true signer m views.0,
+      eqb-true at v views.1,
+      eqb-true number s numbers.1,
+      bytes_same named digest digests.1,
+    )
+
 -- what a fact is that counts as a vote
 pub prepare_by_from : (v s : ℕ) (digest : List ℕ) (m : ℕ) (x : OrderFact) (f : Signed Prepare) →
     prepare_by v s digest m x ≡ Some f
@@ -220,18 +234,9 @@ pub prepare_by_from : (v s : ℕ) (digest : List ℕ) (m : ℕ) (x : OrderFact) 
 prepare_by_from v s digest m (fact.Prepare h) f e =
     let held = if_some (nat_eq h.signer m && nat_eq h.body.v v && nat_eq h.body.s s && bytes_eq h.body.digest digest)
     e in
-    let digests = and_parts (nat_eq h.signer m && nat_eq h.body.v v && nat_eq h.body.s s)
-    (bytes_eq h.body.digest digest) held.0 in
-    let numbers = and_parts (nat_eq h.signer m && nat_eq h.body.v v) (nat_eq h.body.s s) digests.0 in
-    let views = and_parts (nat_eq h.signer m) (nat_eq h.body.v v) numbers.0 in
-    subst (λ (z : Signed Prepare). (fact.Prepare h ≡ fact.Prepare z) × (z.signer ≡ m) × (z.body.v ≡ v)
-    × (z.body.s ≡ s) × (z.body.digest ≡ digest)) held.1 (
-      refl,
-      eqb-true h.signer m views.0,
-      eqb-true h.body.v v views.1,
-      eqb-true h.body.s s numbers.1,
-      bytes_same h.body.digest digest digests.1,
-    )
+    let is = vote_is h.signer m h.body.v v h.body.s s h.body.digest digest held.0 in
+    subst (λ (z : Signed Prepare). (fact.Prepare h ≡ fact.Prepare z) × (z.signer ≡ m) × (z.body.v ≡ v) × (z.body.s ≡ s)
+    × (z.body.digest ≡ digest)) held.1 (refl, is.0, is.1, is.2, is.3)
 prepare_by_from v s digest m _ f e = absurd (none_some e)
 
 pub commit_by_from : (v s : ℕ) (digest : List ℕ) (m : ℕ) (x : OrderFact) (f : Signed Commit) →
@@ -240,18 +245,9 @@ pub commit_by_from : (v s : ℕ) (digest : List ℕ) (m : ℕ) (x : OrderFact) (
 commit_by_from v s digest m (fact.Commit h) f e =
     let held = if_some (nat_eq h.signer m && nat_eq h.body.v v && nat_eq h.body.s s && bytes_eq h.body.digest digest)
     e in
-    let digests = and_parts (nat_eq h.signer m && nat_eq h.body.v v && nat_eq h.body.s s)
-    (bytes_eq h.body.digest digest) held.0 in
-    let numbers = and_parts (nat_eq h.signer m && nat_eq h.body.v v) (nat_eq h.body.s s) digests.0 in
-    let views = and_parts (nat_eq h.signer m) (nat_eq h.body.v v) numbers.0 in
+    let is = vote_is h.signer m h.body.v v h.body.s s h.body.digest digest held.0 in
     subst (λ (z : Signed Commit). (fact.Commit h ≡ fact.Commit z) × (z.signer ≡ m) × (z.body.v ≡ v) × (z.body.s ≡ s)
-    × (z.body.digest ≡ digest)) held.1 (
-      refl,
-      eqb-true h.signer m views.0,
-      eqb-true h.body.v v views.1,
-      eqb-true h.body.s s numbers.1,
-      bytes_same h.body.digest digest digests.1,
-    )
+    × (z.body.digest ≡ digest)) held.1 (refl, is.0, is.1, is.2, is.3)
 commit_by_from v s digest m _ f e = absurd (none_some e)
 
 pub mark_by_from : (s m : ℕ) (x : OrderFact) (f : Signed Mark) → mark_by s m x ≡ Some f → x ≡ fact.Mark f

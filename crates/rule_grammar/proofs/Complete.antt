@@ -288,53 +288,32 @@ one-bracket f read names len d ts rest known low grouped spelled within few deep
     (ap (λ (x : Formula). negated d.scope.nots (bracket x)) a.tree) (let c : whole.levels ≡ levels f = a.chain in
     omega arith) (omega arith) refl)))
 
-levels-all : (f : Formula) → rank f ≤ 0 → levels f ≡ all_levels f
-levels-all (alarm n) h = refl
-levels-all (compare p c z) h = refl
-levels-all (negation f) h = refl
-levels-all (bracket f) h = refl
-levels-all (both f g) h = absurd (omega arith)
-levels-all (either f g) h = absurd (omega arith)
+-- A rule that is no `and` is a chain of one part: as deep as that part, and a new node.
+single-all : (f : Formula) → rank f ≤ 0 → (levels f ≡ all_levels f) × (1 ≡ new_all f)
+single-all (alarm n) h = (refl, refl)
+single-all (compare p c z) h = (refl, refl)
+single-all (negation f) h = (refl, refl)
+single-all (bracket f) h = (refl, refl)
+single-all (both f g) h = absurd (omega arith)
+single-all (either f g) h = absurd (omega arith)
 
-one-new_all : (f : Formula) → rank f ≤ 0 → 1 ≡ new_all f
-one-new_all (alarm n) h = refl
-one-new_all (compare p c z) h = refl
-one-new_all (negation f) h = refl
-one-new_all (bracket f) h = refl
-one-new_all (both f g) h = absurd (omega arith)
-one-new_all (either f g) h = absurd (omega arith)
+-- The same of `or`.
+single-any : (f : Formula) → rank f ≤ 1 → (levels f ≡ any_levels f) × (1 ≡ new_any f)
+single-any (alarm n) h = (refl, refl)
+single-any (compare p c z) h = (refl, refl)
+single-any (negation f) h = (refl, refl)
+single-any (bracket f) h = (refl, refl)
+single-any (both f g) h = (refl, refl)
+single-any (either f g) h = absurd (omega arith)
 
-levels-any : (f : Formula) → rank f ≤ 1 → levels f ≡ any_levels f
-levels-any (alarm n) h = refl
-levels-any (compare p c z) h = refl
-levels-any (negation f) h = refl
-levels-any (bracket f) h = refl
-levels-any (both f g) h = refl
-levels-any (either f g) h = absurd (omega arith)
-
-one-new_any : (f : Formula) → rank f ≤ 1 → 1 ≡ new_any f
-one-new_any (alarm n) h = refl
-one-new_any (compare p c z) h = refl
-one-new_any (negation f) h = refl
-one-new_any (bracket f) h = refl
-one-new_any (both f g) h = refl
-one-new_any (either f g) h = absurd (omega arith)
-
-levels-low_all : (f : Formula) → levels f ≤ 1 + all_levels f
-levels-low_all (alarm n) = omega arith
-levels-low_all (compare p c z) = omega arith
-levels-low_all (negation f) = omega arith
-levels-low_all (bracket f) = omega arith
-levels-low_all (both f g) = omega arith
-levels-low_all (either f g) = omega arith
-
-levels-low_any : (f : Formula) → levels f ≤ 1 + any_levels f
-levels-low_any (alarm n) = omega arith
-levels-low_any (compare p c z) = omega arith
-levels-low_any (negation f) = omega arith
-levels-low_any (bracket f) = omega arith
-levels-low_any (both f g) = omega arith
-levels-low_any (either f g) = omega arith
+-- A rule is at most one level deeper than the parts of its chain.
+levels-low : (f : Formula) → (levels f ≤ 1 + all_levels f) × (levels f ≤ 1 + any_levels f)
+levels-low (alarm n) = (omega arith, omega arith)
+levels-low (compare p c z) = (omega arith, omega arith)
+levels-low (negation f) = (omega arith, omega arith)
+levels-low (bracket f) = (omega arith, omega arith)
+levels-low (both f g) = (omega arith, omega arith)
+levels-low (either f g) = (omega arith, omega arith)
 
 grown-at_least : (o : Option Part) (n : ℕ) → n ≤ grown_levels o n
 grown-at_least None n = omega arith
@@ -362,8 +341,8 @@ all-from_one f single read names len d ts rest known low grouped spelled within 
       part = record { tree = f; levels = levels f };
       tree = refl;
       chain = refl;
-      parts = levels-all f single;
-      fresh = one-new_all f single;
+      parts = (single-all f single).0;
+      fresh = (single-all f single).1;
       reads = read names len d ts rest known single grouped spelled within few (omega arith)
           ∙ done_is names len rest d.outer (with_nots d.scope 0)
           (record { base = d.scope.base; any = d.scope.any; all = None; nots = 0 }) (negated d.scope.nots f) f
@@ -382,7 +361,7 @@ all-both f g read-f read-g names len d ts rest known low grouped spelled within 
     let a : AllRead names len d f spelled.left (spelled.word ∷ (spelled.right ++ rest)) =
     read-f names len d spelled.left (spelled.word ∷ (spelled.right ++ rest)) known grouped.0 grouped.1
     spelled.is_left (AreWithin-left 256 spelled.left _ w) empty none (omega arith)
-    (let l : levels f ≤ 1 + all_levels f = levels-low_all f in omega arith) in
+    (let l : levels f ≤ 1 + all_levels f = (levels-low f).0 in omega arith) in
     let e : Desk = in_scope d (record { base = d.scope.base; any = d.scope.any; all = a.alls; nots = 0 })
     (d.nodes + nodes f) in
     let s : Desk = in_scope d
@@ -439,8 +418,8 @@ any-from_all f single read names len d ts rest known grouped spelled within none
       part = a.part;
       tree = a.tree;
       chain = a.chain;
-      parts = a.chain ∙ levels-any f single;
-      fresh = one-new_any f single;
+      parts = a.chain ∙ (single-any f single).0;
+      fresh = (single-any f single).1;
       reads = a.reads
           ∙ done_is names len rest d.outer (record { base = d.scope.base; any = d.scope.any; all = a.alls; nots = 0 })
           (record { base = d.scope.base; any = None; all = a.alls; nots = 0 }) a.part.tree a.part.tree
@@ -459,7 +438,7 @@ any-either f g read-f read-g names len d ts rest known grouped spelled within no
     let a : AnyRead names len d f spelled.left (spelled.word ∷ (spelled.right ++ rest)) =
     read-f names len d spelled.left (spelled.word ∷ (spelled.right ++ rest)) known grouped.1 spelled.is_left
     (AreWithin-left 256 spelled.left _ w) none-any none-all none (omega arith)
-    (let l : levels f ≤ 1 + any_levels f = levels-low_any f in omega arith) in
+    (let l : levels f ≤ 1 + any_levels f = (levels-low f).1 in omega arith) in
     let inner : ℕ = chain_levels a.alls a.part.levels in
     let e : Desk = in_scope d (record { base = d.scope.base; any = a.anys; all = a.alls; nots = 0 })
     (d.nodes + nodes f) in

@@ -63,6 +63,19 @@ negated-fits names (suc n) f nots ts h x =
     subst (λ (us : List Piece). Fits names 0 (negated n (negation f)) us) same
     (negated-fits names n (negation f) h.rest (h.word ∷ ts) h.spelled made)
 
+-- the parts of a chain with the word behind them, and one part more
+joined : (names : Names) (k : Token) (r s : ℕ) (f g : Formula) (us ts : List Piece) →
+    Back k (Fits names r f) us → Fits names s g ts → Between k (Spells names f) (Spells names g) (us ++ ts)
+joined names k r s f g us ts h x = record {
+  left = h.rest;
+  word = h.word;
+  right = ts;
+  all = ap (λ (vs : List Piece). vs ++ ts) h.all ∙ append_assoc h.rest (h.word ∷ []) ts;
+  is_word = h.is_word;
+  is_left = h.spelled.spelled;
+  is_right = x.spelled;
+}
+
 -- a chain of `and` that one part ends
 pub all-fits : (names : Names) (o : Option Part) (f : Formula) (alls ts : List Piece) →
     Parts token.And names 1 o alls → Fits names 0 f ts → Fits names 1 (all_tree o f) (alls ++ ts)
@@ -71,15 +84,7 @@ all-fits names None f alls ts h x = subst (λ (us : List Piece). Fits names 1 f 
 all-fits names (Some a) f alls ts h x = record {
   low = omega arith;
   grouped = (h.spelled.low, h.spelled.grouped, x.low, x.grouped);
-  spelled = record {
-    left = h.rest;
-    word = h.word;
-    right = ts;
-    all = ap (λ (us : List Piece). us ++ ts) h.all ∙ append_assoc h.rest (h.word ∷ []) ts;
-    is_word = h.is_word;
-    is_left = h.spelled.spelled;
-    is_right = x.spelled;
-  };
+  spelled = joined names token.And 1 0 a.tree f alls ts h x;
 }
 
 pub any-fits : (names : Names) (o : Option Part) (f : Formula) (anys ts : List Piece) →
@@ -89,15 +94,7 @@ any-fits names None f anys ts h x = subst (λ (us : List Piece). Fits names 2 f 
 any-fits names (Some a) f anys ts h x = record {
   low = omega arith;
   grouped = (h.spelled.low, h.spelled.grouped, x.low, x.grouped);
-  spelled = record {
-    left = h.rest;
-    word = h.word;
-    right = ts;
-    all = ap (λ (us : List Piece). us ++ ts) h.all ∙ append_assoc h.rest (h.word ∷ []) ts;
-    is_word = h.is_word;
-    is_left = h.spelled.spelled;
-    is_right = x.spelled;
-  };
+  spelled = joined names token.Or 2 1 a.tree f anys ts h x;
 }
 
 -- one token more within the present brackets
@@ -138,9 +135,8 @@ pub record Split (names : Names) (gs : List Scope) (f : Scope) (ts : List Piece)
   pub opens : Opens names gs (with_nots f 0) before
   pub are_nots : AreNots f.nots nots
 
-pub opens-split : (names : Names) (gs : List Scope) (f : Scope) (ts : List Piece) →
-    Opens names gs f ts → Split names gs f ts
-opens-split names [] f ts h = record {
+before-split : (names : Names) (f : Scope) (ts : List Piece) → Before names f ts → Split names [] f ts
+before-split names f ts h = record {
   before = h.anys ++ (h.alls ++ []);
   nots = h.nots;
   all = h.all ∙ (ap (λ (us : List Piece). h.anys ++ (us ++ h.nots)) (sym (append-nil h.alls))
@@ -157,32 +153,25 @@ opens-split names [] f ts h = record {
   };
   are_nots = h.are_nots;
 }
+
+pub opens-split : (names : Names) (gs : List Scope) (f : Scope) (ts : List Piece) →
+    Opens names gs f ts → Split names gs f ts
+opens-split names [] f ts h = before-split names f ts h
 opens-split names (g ∷ gs) f ts h =
-    let b : Before names f h.right = h.is_right in
+    let b : Split names [] f h.right = before-split names f h.right h.is_right in
     record {
-      before = h.left ++ h.word ∷ (b.anys ++ (b.alls ++ []));
+      before = h.left ++ h.word ∷ b.before;
       nots = b.nots;
-      all = h.all ∙ (ap (λ (us : List Piece). h.left ++ h.word ∷ us)
-          (b.all ∙ (ap (λ (us : List Piece). b.anys ++ (us ++ b.nots)) (sym (append-nil b.alls))
-          ∙ sym (append_assoc b.anys (b.alls ++ []) b.nots)))
-          ∙ sym (append_assoc h.left (h.word ∷ (b.anys ++ (b.alls ++ []))) b.nots));
+      all = h.all ∙ (ap (λ (us : List Piece). h.left ++ h.word ∷ us) b.all
+          ∙ sym (append_assoc h.left (h.word ∷ b.before) b.nots));
       opens = record {
         left = h.left;
         word = h.word;
-        right = b.anys ++ (b.alls ++ []);
+        right = b.before;
         all = refl;
         is_word = h.is_word;
         is_left = h.is_left;
-        is_right = record {
-          anys = b.anys;
-          alls = b.alls;
-          nots = [];
-          all = refl;
-          are_anys = b.are_anys;
-          are_alls =
-              b.are_alls;
-          are_nots = refl;
-        };
+        is_right = b.opens;
       };
       are_nots = b.are_nots;
     }
