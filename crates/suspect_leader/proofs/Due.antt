@@ -20,6 +20,7 @@ use Rattle.suspect_leader.specs.MeasureState.{vote_due_kept, due_kept}
 use Rattle.suspect_leader.proofs.Order.{Rising}
 use Rattle.suspect_leader.proofs.Masters.{turnaround_is, acceptable_is, own_bound_is}
 use Rattle.suspect_leader.proofs.Owed.{answers_are}
+use Rattle.suspect_leader.proofs.Taken.{measured}
 
 reports_are : (g : Group) (me : ℕ) (kept : MeasureState) (told : List Told) (known : List (Signed Body))
     (said : List Body) (v : ℕ) (at_tick : Bool) → IsMeasureOf g me kept told known said →
@@ -132,18 +133,10 @@ pub all_said : (g : Group) (me : ℕ) (kept : MeasureState) (told : List Told) (
     ((s : Saying) → is_among pending s ≡ (not (list_any (says s) bodies) && is_among kept.pending s))
     → IsMeasureOf g me kept told known said →
     IsMeasureOf g me record kept { pending = pending; said = counted } told known (said ++ bodies)
-all_said g me kept told known said bodies pending counted more less is = record {
-  masters = is.masters;
-  intruded = is.intruded;
-  quorum = is.quorum;
-  own = is.own;
-  ticks = is.ticks;
-  waiting = is.waiting;
-  reports = is.reports;
-  bounds = is.bounds;
-  trips = is.trips;
-  pending = λ s. less s ∙ ap (λ b. not (list_any (says s) bodies) && b) (is.pending s)
-      ∙ still_owed g me known said bodies s;
-  counted = λ s. more s ∙ ap (λ b. list_any (says s) bodies || b) (is.counted s) ∙ or_swap (list_any (says s) bodies)
-      (list_any (says s) said) ∙ sym (list_any-append (says s) said bodies);
-}
+all_said g me kept told known said bodies pending counted more less is =
+    measured is.reports is.bounds is.trips
+    (λ s. less s ∙ ap (λ b. not (list_any (says s) bodies) && b) (is.pending s)
+    ∙ still_owed g me known said bodies s)
+    (λ s. more s ∙ ap (λ b. list_any (says s) bodies || b) (is.counted s)
+    ∙ or_swap (list_any (says s) bodies) (list_any (says s) said)
+    ∙ sym (list_any-append (says s) said bodies)) is

@@ -9,9 +9,9 @@ use Rattle.std.specs.declared.result.Result.{Result}
 use Rattle.std.specs.declared.result.Result.TheVariants.{Ok, Err}
 use Rattle.std.specs.Result.{OnErr}
 use Rattle.std.specs.Cmp.{IsTotalOrder}
-use Rattle.std.specs.Ordering.{is_eq, is_lt, nat_cmp, ordering_reverse, match_ordering, on, then_cmp}
+use Rattle.std.specs.Ordering.{is_eq, nat_cmp, ordering_reverse, match_ordering, on, then_cmp}
 use Rattle.std.specs.declared.cmp.Ordering.{Ordering}
-use Rattle.std.proofs.lemmas.Bool.{and_parts, eqb-true, eqb-false, or_cases, true≢false}
+use Rattle.std.proofs.lemmas.Bool.{and_parts, not-true, eqb-true, eqb-false, or_cases, true≢false}
 use Rattle.std.proofs.lemmas.Cmp.{nat_cmp_total, on_total, then_total}
 use Rattle.std.proofs.lemmas.List.{take_more}
 use Rattle.std.proofs.lemmas.List.Folds.{list_any-append}
@@ -55,45 +55,12 @@ trip_turn a b (Report c d) e = absurd (cc)
 trip_turn a b (Bound c) e = absurd (cc)
 trip_turn a b (Vote c) e = absurd (cc)
 
-not_less : Greater ≡ Less → ⊥
-not_less e = true≢false (sym (ap is_lt e))
-
 trip_on : (a b : ℕ) (y z : Saying) → order (RoundTrip a b) y ≡ Less → order y z ≡ Less → order (RoundTrip a b) z ≡ Less
 trip_on a b (RoundTrip c d) (RoundTrip u v) one two = pairs.trans (a, b) (c, d) (u, v) one two
-trip_on a b (RoundTrip c d) (Ping u) one two = absurd (not_less two)
-trip_on a b (RoundTrip c d) (Pong u v) one two = absurd (not_less two)
-trip_on a b (RoundTrip c d) (Report u v) one two = refl
-trip_on a b (RoundTrip c d) (Bound u) one two = refl
-trip_on a b (RoundTrip c d) (Vote u) one two = refl
-trip_on a b (Report c d) z one two = after z two
-  where
-    after : (z : Saying) → order (Report c d) z ≡ Less → order (RoundTrip a b) z ≡ Less
-    after (Ping u) less = absurd (not_less less)
-    after (Pong u v) less = absurd (not_less less)
-    after (RoundTrip u v) less = absurd (not_less less)
-    after (Report u v) less = refl
-    after (Bound u) less = refl
-    after (Vote u) less = refl
-trip_on a b (Bound c) z one two = after z two
-  where
-    after : (z : Saying) → order (Bound c) z ≡ Less → order (RoundTrip a b) z ≡ Less
-    after (Ping u) less = absurd (not_less less)
-    after (Pong u v) less = absurd (not_less less)
-    after (RoundTrip u v) less = absurd (not_less less)
-    after (Report u v) less = refl
-    after (Bound u) less = refl
-    after (Vote u) less = refl
-trip_on a b (Vote c) z one two = after z two
-  where
-    after : (z : Saying) → order (Vote c) z ≡ Less → order (RoundTrip a b) z ≡ Less
-    after (Ping u) less = absurd (not_less less)
-    after (Pong u v) less = absurd (not_less less)
-    after (RoundTrip u v) less = absurd (not_less less)
-    after (Report u v) less = refl
-    after (Bound u) less = refl
-    after (Vote u) less = refl
-trip_on a b (Ping c) z one two = absurd (not_less one)
-trip_on a b (Pong c d) z one two = absurd (not_less one)
+trip_on a b _ (Report u v) one two = refl
+trip_on a b _ (Bound u) one two = refl
+trip_on a b _ (Vote u) one two = refl
+trip_on a b _ _ one two = absurd (cc)
 
 each_put_in : (P : Saying → Type 0) (x : Saying) (list : List Saying) → P x → Each P list →
     Each P (insert_key order list x)
@@ -408,11 +375,7 @@ trip_not_due kept v at_tick to number unsaid =
 waits : (n : ℕ) (said : List Saying) (to number : ℕ) → is_early n said (RoundTrip to number) ≡ true →
     is_among said (Ping number) ≡ false
 waits n said to number e =
-    not_true (is_among said (Ping number)) ((and_parts (nat_lt to n) (not (is_among said (Ping number))) e).1)
-  where
-    not_true : (b : Bool) → not b ≡ true → b ≡ false
-    not_true true h = absurd (true≢false (sym h))
-    not_true false h = refl
+    not-true (is_among said (Ping number)) ((and_parts (nat_lt to n) (not (is_among said (Ping number))) e).1)
 
 pub early_not_due : (n : ℕ) (kept : MeasureState) (v : ℕ) (at_tick : Bool) (s : Saying) →
     is_early n kept.said s ≡ true → list_any (says s) (due_kept kept v at_tick) ≡ false

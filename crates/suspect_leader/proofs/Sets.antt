@@ -8,7 +8,7 @@ use Rattle.std.proofs.lemmas.List.Folds.{list_any-append}
 use Rattle.std.specs.Ordering.{is_eq, match_ordering}
 use Rattle.std.specs.declared.cmp.Ordering.{Ordering}
 use Rattle.std.specs.declared.cmp.Ordering.TheVariants.{Less, Equal, Greater}
-use Rattle.std.proofs.lemmas.Bool.{true≢false}
+use Rattle.std.proofs.lemmas.Bool.{not-true, true≢false}
 use Rattle.std.specs.BTreeSet.{BTreeSet, insert_key, Updates, UpdatesBy}
 use Rattle.std.specs.BTreeMap.{is_at}
 use Rattle.std.specs.Set.{remove_key}
@@ -155,11 +155,7 @@ pub taken_back : (old : BTreeSet Saying) (put after : List Saying) (x : Saying) 
 taken_back old put after x fresh one is new gone =
     gone ∙ ap (remove_key (is_at (order x))) one
     ∙ taken_out old.keys x (said_is old x (list_any (is_at (order x)) old.keys) refl
-    ∙ not_true (list_any (is_at (order x)) old.keys) (sym is ∙ new))
-  where
-    not_true : (b : Bool) → not b ≡ true → b ≡ false
-    not_true true e = absurd (true≢false (sym e))
-    not_true false e = refl
+    ∙ not-true (list_any (is_at (order x)) old.keys) (sym is ∙ new))
 
 pub settled_more : (s : Saying) (bodies : List Body) (i : ℕ) (word d : Body) (before now : List Saying)
     (first : List Saying) → i < length bodies → word ≡ slice_index_or bodies i d

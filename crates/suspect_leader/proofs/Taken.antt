@@ -4,7 +4,7 @@ use Rattle.std.proofs.Common.{Some, None, filter, max, nat_eq, nat_lt, length, g
 use Rattle.std.proofs.Common.{get_or-set_other, refl, sym, ◌∙◌, ap, subst, arith}
 use Rattle.std.specs.List.{list_any, filter_map, cons_option, slice_index_or}
 use Rattle.std.specs.Option.{unwrap_or}
-use Rattle.std.proofs.lemmas.Bool.{eqb-true, eqb-false, eq-eqb, ltb-true, true≢false}
+use Rattle.std.proofs.lemmas.Bool.{and_parts, not-true, eqb-true, eqb-false, eq-eqb, ltb-true, true≢false}
 use Rattle.std.proofs.lemmas.List.Folds.{list_any-append}
 use Rattle.message_types.specs.declared.signed.Signed.{Signed}
 use Rattle.message_types.specs.declared.measures.Ping.{Ping as PingWord}
@@ -18,6 +18,7 @@ use Rattle.protocol_rules.specs.Words.{greatest_of, first_of_list, best_by, or_e
 use Rattle.protocol_rules.specs.Group.{Group}
 use Rattle.protocol_rules.specs.Measures.{Told, report_in, bound_in, round_trip_in, ping_in, pong_in, pongs_said}
 use Rattle.protocol_rules.specs.Measures.{round_trips_said}
+use Rattle.suspect_leader.specs.declared.heard.Heard.{Heard}
 use Rattle.suspect_leader.specs.declared.heard.Heard.TheVariants as heard
 use Rattle.suspect_leader.specs.declared.saying.Saying.{Saying}
 use Rattle.suspect_leader.specs.declared.saying.Saying.TheVariants.{Ping, Pong, RoundTrip, Report, Bound, Vote}
@@ -34,77 +35,145 @@ pub record IsSilent (me master : ℕ) (f : Signed Body) : Type 0 where
   pub ping : nat_eq master me ≡ false → ping_in master f ≡ None
   pub pong : pong_in me master f ≡ None
 
-trip_same : (g : Group) (me : ℕ) (known : List (Signed Body)) (said : List Body) (f : Signed Body) →
-    ((to : ℕ) → to < g.n → pong_in me to f ≡ None)
-    → (to number : ℕ) → is_pending g me known said (RoundTrip to number) ≡ is_pending g me (known ++ f ∷ [])
-    said (RoundTrip to number)
-trip_same g me known said f pongs to number = at (nat_lt to g.n) refl
-  where
-    at : (lt : Bool) → nat_lt to g.n ≡ lt
-        → (lt && list_any (nat_eq number) (filter_map (pong_in me to) known)
-        && not (list_any (round_trips_said to number) said))
-        ≡ (lt && list_any (nat_eq number) (filter_map (pong_in me to) (known ++ f ∷ []))
-        && not (list_any (round_trips_said to number) said))
-    at false e = refl
-    at true e = ap (λ l. list_any (nat_eq number) l && not (list_any (round_trips_said to number) said))
-        (sym (same_after (pong_in me to) known f (pongs to (ltb-true to g.n e))))
+-- What the tables, the answers owed and the sayings counted have to be where these words are known and these bodies
+-- were said.
+abbrev Reports : Group → List (Signed Body) → List ((ℕ × ℕ) × ℕ) → Type 0
+Reports g known reports = (v master : ℕ) → master < g.n →
+    unwrap_or (told_at reports v master) 0 ≡ greatest_of (filter_map (report_in v master) known)
 
-pong_same : (g : Group) (me : ℕ) (known : List (Signed Body)) (said : List Body) (f : Signed Body) →
-    ((to : ℕ) → to < g.n → nat_eq to me ≡ false → ping_in to f ≡ None)
-    → (to number : ℕ) → is_pending g me known said (Pong to number) ≡ is_pending g me
-    (known ++ f ∷ []) said (Pong to number)
-pong_same g me known said f pings to number = at (nat_lt to g.n) refl (nat_eq to me) refl
-  where
-    at : (lt : Bool) → nat_lt to g.n ≡ lt → (own : Bool) → nat_eq to me ≡ own
-        → (lt && not own && list_any (nat_eq number) (filter_map (ping_in to) known)
-        && not (list_any (pongs_said to number) said))
-        ≡ (lt && not own && list_any (nat_eq number) (filter_map (ping_in to) (known ++ f ∷ []))
-        && not (list_any (pongs_said to number) said))
-    at false e own h = refl
-    at true e true h = refl
-    at true e false h = ap (λ l. list_any (nat_eq number) l && not (list_any (pongs_said to number) said))
-        (sym (same_after (ping_in to) known f (pings to (ltb-true to g.n e) h)))
+abbrev Bounds : Group → List (Signed Body) → List ((ℕ × ℕ) × ℕ) → Type 0
+Bounds g known bounds = (v master : ℕ) → master < g.n →
+    told_at bounds v master ≡ first_of_list (filter_map (bound_in v master) known)
 
-pending_same : (g : Group) (me : ℕ) (known : List (Signed Body)) (said : List Body) (f : Signed Body)
-    → ((to : ℕ) → to < g.n → nat_eq to me ≡ false → ping_in to f ≡ None) →
-    ((to : ℕ) → to < g.n → pong_in me to f ≡ None)
-    → (s : Saying) → is_pending g me known said s ≡ is_pending g me (known ++ f ∷ []) said s
-pending_same g me known said f pings pongs (Pong to number) = pong_same g me known said f pings to number
-pending_same g me known said f pings pongs (RoundTrip to number) = trip_same g me known said f pongs to number
-pending_same g me known said f pings pongs (Ping number) = refl
-pending_same g me known said f pings pongs (Report v ticks) = refl
-pending_same g me known said f pings pongs (Bound v) = refl
-pending_same g me known said f pings pongs (Vote v) = refl
+abbrev Trips : Group → ℕ → List (Signed Body) → List (Option Rtt) → Type 0
+Trips g me known trips = (master : ℕ) → master < g.n →
+    slice_index_or trips master None ≡ best_by later_trip (filter_map (round_trip_in me master) known)
 
-pub passed : (g : Group) (me : ℕ) (kept : MeasureState) (told : List Told) (known : List (Signed Body))
-    (said : List Body) (f : Signed Body)
-    → ((master : ℕ) → master < g.n → IsSilent me master f)
-    → IsMeasureOf g me kept told known said → IsMeasureOf g me kept told (known ++ f ∷ []) said
-passed g me kept told known said f silent is = record {
+abbrev Owed : Group → ℕ → List (Signed Body) → List Body → List Saying → Type 0
+Owed g me known said pending = (s : Saying) → is_among pending s ≡ is_pending g me known said s
+
+abbrev Counted : List Body → List Saying → Type 0
+Counted said counted = (s : Saying) → is_among counted s ≡ list_any (says s) said
+
+-- the same measures but for these
+pub measured : {g : Group} {me : ℕ} {kept : MeasureState} {told : List Told} {known words : List (Signed Body)}
+    {said bodies : List Body} {reports bounds : List ((ℕ × ℕ) × ℕ)} {trips : List (Option Rtt)}
+    {pending counted : List Saying}
+    → Reports g words reports → Bounds g words bounds → Trips g me words trips → Owed g me words bodies pending
+    → Counted bodies counted → IsMeasureOf g me kept told known said
+    → IsMeasureOf g me
+    record kept { reports = reports; bounds = bounds; trips = trips; pending = pending; said = counted } told words bodies
+measured of_reports of_bounds of_trips of_owed of_counted is = record {
   masters = is.masters;
   intruded = is.intruded;
   quorum = is.quorum;
   own = is.own;
   ticks = is.ticks;
   waiting = is.waiting;
-  reports = λ v master lt. is.reports v master lt
-      ∙ ap greatest_of (sym (same_after (report_in v master) known f ((silent master lt).report v)));
-  bounds = λ v master lt. is.bounds v master lt
-      ∙ ap first_of_list (sym (same_after (bound_in v master) known f ((silent master lt).bound v)));
-  trips = λ master lt. is.trips master lt
-      ∙ ap (best_by later_trip) (sym (same_after (round_trip_in me master) known f ((silent master lt).trip)));
-  pending = λ s. is.pending s ∙ pending_same g me known said f (λ to lt. (silent to lt).ping)
-      (λ to lt. (silent to lt).pong) s;
-  counted = is.counted;
+  reports = of_reports;
+  bounds = of_bounds;
+  trips = of_trips;
+  pending = of_owed;
+  counted = of_counted;
 }
 
+-- what a word leaves of which it tells nothing
+reports_stay : {g : Group} {me : ℕ} {kept : MeasureState} {told : List Told} {known : List (Signed Body)}
+    {said : List Body} (f : Signed Body) → ((v master : ℕ) → master < g.n → report_in v master f ≡ None)
+    → IsMeasureOf g me kept told known said → Reports g (known ++ f ∷ []) kept.reports
+reports_stay {known = known} f none is = λ v master lt.
+    is.reports v master lt ∙ ap greatest_of (sym (same_after (report_in v master) known f (none v master lt)))
+
+bounds_stay : {g : Group} {me : ℕ} {kept : MeasureState} {told : List Told} {known : List (Signed Body)}
+    {said : List Body} (f : Signed Body) → ((v master : ℕ) → master < g.n → bound_in v master f ≡ None)
+    → IsMeasureOf g me kept told known said → Bounds g (known ++ f ∷ []) kept.bounds
+bounds_stay {known = known} f none is = λ v master lt.
+    is.bounds v master lt ∙ ap first_of_list (sym (same_after (bound_in v master) known f (none v master lt)))
+
+trips_stay : {g : Group} {me : ℕ} {kept : MeasureState} {told : List Told} {known : List (Signed Body)}
+    {said : List Body} (f : Signed Body) → ((master : ℕ) → master < g.n → round_trip_in me master f ≡ None)
+    → IsMeasureOf g me kept told known said → Trips g me (known ++ f ∷ []) kept.trips
+trips_stay {me = me} {known = known} f none is = λ master lt.
+    is.trips master lt ∙ ap (best_by later_trip) (sym (same_after (round_trip_in me master) known f (none master lt)))
+
+-- a number that is asked for, and wasn't given: the same where the same are asked for, and with one more
+same_asked : (may given : Bool) (number : ℕ) (old new : List ℕ) → (may ≡ true → new ≡ old) →
+    (may && list_any (nat_eq number) old && not given) ≡ (may && list_any (nat_eq number) new && not given)
+same_asked true given number old new same = ap (λ l. list_any (nat_eq number) l && not given) (sym (same refl))
+same_asked false given number old new same = refl
+
+one_asked : (may given : Bool) (one number : ℕ) (old new : List ℕ) → may ≡ true → new ≡ old ++ one ∷ [] →
+    (nat_eq one number && not given || may && list_any (nat_eq number) old && not given)
+    ≡ (may && list_any (nat_eq number) new && not given)
+one_asked may given one number old new on more =
+    ap (λ b. nat_eq one number && not given || b && list_any (nat_eq number) old && not given) on
+    ∙ ap (λ b. b && not given || list_any (nat_eq number) old && not given) (nat_eq-flipped one number)
+    ∙ either (list_any (nat_eq number) old) (nat_eq number one) (not given)
+    ∙ sym (ap (λ b. b && list_any (nat_eq number) new && not given) on
+    ∙ ap (λ l. list_any (nat_eq number) l && not given) more
+    ∙ ap (λ b. b && not given) (list_any-append (nat_eq number) old (one ∷ [])))
+  where
+    either : (a o n : Bool) → (o && n || a && n) ≡ ((a || (o || false)) && n)
+    either true true true = refl
+    either true true false = refl
+    either true false n = refl
+    either false true true = refl
+    either false true false = refl
+    either false false n = refl
+
+trip_same : (g : Group) (me : ℕ) (known : List (Signed Body)) (said : List Body) (f : Signed Body) (to number : ℕ) →
+    (to < g.n → pong_in me to f ≡ None) →
+    is_pending g me known said (RoundTrip to number) ≡ is_pending g me (known ++ f ∷ []) said (RoundTrip to number)
+trip_same g me known said f to number pongs =
+    same_asked (nat_lt to g.n) (list_any (round_trips_said to number) said) number (filter_map (pong_in me to) known)
+    (filter_map (pong_in me to) (known ++ f ∷ []))
+    (λ e. same_after (pong_in me to) known f (pongs (ltb-true to g.n e)))
+
+pong_same : (g : Group) (me : ℕ) (known : List (Signed Body)) (said : List Body) (f : Signed Body) (to number : ℕ) →
+    (to < g.n → nat_eq to me ≡ false → ping_in to f ≡ None) →
+    is_pending g me known said (Pong to number) ≡ is_pending g me (known ++ f ∷ []) said (Pong to number)
+pong_same g me known said f to number pings =
+    same_asked (nat_lt to g.n && not (nat_eq to me)) (list_any (pongs_said to number) said) number
+    (filter_map (ping_in to) known) (filter_map (ping_in to) (known ++ f ∷ []))
+    (λ e. let both : (nat_lt to g.n ≡ true) × (not (nat_eq to me) ≡ true) =
+    and_parts (nat_lt to g.n) (not (nat_eq to me)) e in
+    same_after (ping_in to) known f (pings (ltb-true to g.n both.0) (not-true (nat_eq to me) both.1)))
+
+owed_stays : {g : Group} {me : ℕ} {kept : MeasureState} {told : List Told} {known : List (Signed Body)}
+    {said : List Body} (f : Signed Body) → ((to : ℕ) → to < g.n → nat_eq to me ≡ false → ping_in to f ≡ None) →
+    ((to : ℕ) → to < g.n → pong_in me to f ≡ None)
+    → IsMeasureOf g me kept told known said → Owed g me (known ++ f ∷ []) said kept.pending
+owed_stays {g} {me} {kept} {told} {known} {said} f pings pongs is = λ s. is.pending s ∙ same s
+  where
+    same : (s : Saying) → is_pending g me known said s ≡ is_pending g me (known ++ f ∷ []) said s
+    same (Pong to number) = pong_same g me known said f to number (pings to)
+    same (RoundTrip to number) = trip_same g me known said f to number (pongs to)
+    same (Ping number) = refl
+    same (Report v ticks) = refl
+    same (Bound v) = refl
+    same (Vote v) = refl
+
+pub passed : (g : Group) (me : ℕ) (kept : MeasureState) (told : List Told) (known : List (Signed Body))
+    (said : List Body) (f : Signed Body)
+    → ((master : ℕ) → master < g.n → IsSilent me master f)
+    → IsMeasureOf g me kept told known said → IsMeasureOf g me kept told (known ++ f ∷ []) said
+passed g me kept told known said f silent is =
+    measured (reports_stay f (λ v master lt. (silent master lt).report v) is)
+    (bounds_stay f (λ v master lt. (silent master lt).bound v) is)
+    (trips_stay f (λ master lt. (silent master lt).trip) is)
+    (owed_stays f (λ to lt. (silent to lt).ping) (λ to lt. (silent to lt).pong) is) is.counted is
+
 -- a word of another kind
+no_ping : (master : ℕ) (f : Signed Body) → heard_in f.body ≡ None → ping_in master f ≡ None
+no_ping master f = elim f.body as (λ w. heard_in w ≡ None → ping_in master record f { body = w } ≡ None)
+    [ body.Ping b ↦ λ e. absurd (cc) | _ ↦ λ e. refl ]
+
 pub kind_silent : (me master : ℕ) (f : Signed Body) → heard_in f.body ≡ None → IsSilent me master f
 kind_silent me master f none = record {
   report = λ v. at_report v f.body none;
   bound = λ v. at_bound v f.body none;
   trip = at_trip f.body none;
-  ping = λ _. at_ping f.body none;
+  ping = λ _. no_ping master f none;
   pong = at_pong f.body none;
 }
   where
@@ -119,10 +188,6 @@ kind_silent me master f none = record {
     at_trip : (word : Body) → heard_in word ≡ None → round_trip_in me master record f { body = word } ≡ None
     at_trip word = elim word as (λ w. heard_in w ≡ None → round_trip_in me master record f { body = w } ≡ None)
         [ body.Rtt b ↦ λ e. absurd (cc) | _ ↦ λ e. refl ]
-
-    at_ping : (word : Body) → heard_in word ≡ None → ping_in master record f { body = word } ≡ None
-    at_ping word = elim word as (λ w. heard_in w ≡ None → ping_in master record f { body = w } ≡ None)
-        [ body.Ping b ↦ λ e. absurd (cc) | _ ↦ λ e. refl ]
 
     at_pong : (word : Body) → heard_in word ≡ None → pong_in me master record f { body = word } ≡ None
     at_pong word = elim word as (λ w. heard_in w ≡ None → pong_in me master record f { body = w } ≡ None)
@@ -191,24 +256,15 @@ pub took_report : (g : Group) (me : ℕ) (kept : MeasureState) (told : List Told
     → IsMeasureOf g me kept told known said
     → IsMeasureOf g me record kept { reports = reports } told
     (known ++ record { signer = signer; body = body.TatReport b; sig = sig } ∷ []) said
-took_report g me kept told known said signer b sig reports more is = record {
-  masters = is.masters;
-  intruded = is.intruded;
-  quorum = is.quorum;
-  own = is.own;
-  ticks = is.ticks;
-  waiting = is.waiting;
-  reports = λ v master lt.
-      more v master ∙ ap (λ x. cond (nat_eq signer master && nat_eq b.v v) (max x b.ticks) x) (is.reports v master lt)
-      ∙ sym (ap greatest_of (told_after (report_in v master) known f
-      (cond (nat_eq signer master && nat_eq b.v v) (Some b.ticks) None) refl)
-      ∙ greatest_if (filter_map (report_in v master) known) (nat_eq signer master && nat_eq b.v v) b.ticks);
-  bounds = λ v master lt. is.bounds v master lt ∙ ap first_of_list (sym (same_after (bound_in v master) known f refl));
-  trips = λ master lt. is.trips master lt
-      ∙ ap (best_by later_trip) (sym (same_after (round_trip_in me master) known f refl));
-  pending = λ s. is.pending s ∙ pending_same g me known said f (λ to lt ne. refl) (λ to lt. refl) s;
-  counted = is.counted;
-}
+took_report g me kept told known said signer b sig reports more is =
+    measured
+    (λ v master lt.
+    more v master ∙ ap (λ x. cond (nat_eq signer master && nat_eq b.v v) (max x b.ticks) x) (is.reports v master lt)
+    ∙ sym (ap greatest_of (told_after (report_in v master) known f
+    (cond (nat_eq signer master && nat_eq b.v v) (Some b.ticks) None) refl)
+    ∙ greatest_if (filter_map (report_in v master) known) (nat_eq signer master && nat_eq b.v v) b.ticks))
+    (bounds_stay f (λ v master lt. refl) is) (trips_stay f (λ master lt. refl) is)
+    (owed_stays f (λ to lt ne. refl) (λ to lt. refl) is) is.counted is
   where
     f : Signed Body
     f = record { signer = signer; body = body.TatReport b; sig = sig }
@@ -221,29 +277,19 @@ pub took_bound : (g : Group) (me : ℕ) (kept : MeasureState) (told : List Told)
     → IsMeasureOf g me kept told known said
     → IsMeasureOf g me record kept { bounds = bounds } told
     (known ++ record { signer = signer; body = body.TatBound b; sig = sig } ∷ []) said
-took_bound g me kept told known said signer b sig bounds more is = record {
-  masters = is.masters;
-  intruded = is.intruded;
-  quorum = is.quorum;
-  own = is.own;
-  ticks = is.ticks;
-  waiting = is.waiting;
-  reports = λ v master lt. is.reports v master lt ∙ ap greatest_of (sym (same_after (report_in v master) known f refl));
-  bounds = λ v master lt.
-      more v master ∙ ap (λ o. or_else o (cond (nat_eq signer master && nat_eq b.v v) (Some b.ticks) None))
-      (is.bounds v master lt)
-      ∙ sym (ap first_of_list (told_after (bound_in v master) known f
-      (cond (nat_eq signer master && nat_eq b.v v) (Some b.ticks) None) refl)
-      ∙ first_more (filter_map (bound_in v master) known)
-      (cond (nat_eq signer master && nat_eq b.v v) (Some b.ticks) None));
-  trips = λ master lt. is.trips master lt
-      ∙ ap (best_by later_trip) (sym (same_after (round_trip_in me master) known f refl));
-  pending = λ s. is.pending s ∙ pending_same g me known said f (λ to lt ne. refl) (λ to lt. refl) s;
-  counted = is.counted;
-}
+took_bound g me kept told known said signer b sig bounds more is =
+    measured (reports_stay f (λ v master lt. refl) is)
+    (λ v master lt. more v master ∙ ap (λ o. or_else o (one v master)) (is.bounds v master lt)
+    ∙ sym (ap first_of_list (told_after (bound_in v master) known f (one v master) refl)
+    ∙ first_more (filter_map (bound_in v master) known) (one v master)))
+    (trips_stay f (λ master lt. refl) is) (owed_stays f (λ to lt ne. refl) (λ to lt. refl) is)
+    is.counted is
   where
     f : Signed Body
     f = record { signer = signer; body = body.TatBound b; sig = sig }
+
+    one : ℕ → ℕ → Option ℕ
+    one v master = cond (nat_eq signer master && nat_eq b.v v) (Some b.ticks) None
 
 -- a round trip to the master
 pub took_trip : (g : Group) (me : ℕ) (kept : MeasureState) (told : List Told) (known : List (Signed Body))
@@ -254,21 +300,12 @@ pub took_trip : (g : Group) (me : ℕ) (kept : MeasureState) (told : List Told) 
     → IsMeasureOf g me kept told known said
     → IsMeasureOf g me record kept { trips = trips } told
     (known ++ record { signer = signer; body = body.Rtt b; sig = sig } ∷ []) said
-took_trip g me kept told known said signer b sig trips mine more is = record {
-  masters = is.masters;
-  intruded = is.intruded;
-  quorum = is.quorum;
-  own = is.own;
-  ticks = is.ticks;
-  waiting = is.waiting;
-  reports = λ v master lt. is.reports v master lt ∙ ap greatest_of (sym (same_after (report_in v master) known f refl));
-  bounds = λ v master lt. is.bounds v master lt ∙ ap first_of_list (sym (same_after (bound_in v master) known f refl));
-  trips = λ master lt.
-      more master lt ∙ ap (λ o. cond (nat_eq signer master) (Some (later_of o b)) o) (is.trips master lt)
-      ∙ at master (nat_eq signer master) refl;
-  pending = λ s. is.pending s ∙ pending_same g me known said f (λ to lt ne. refl) (λ to lt. refl) s;
-  counted = is.counted;
-}
+took_trip g me kept told known said signer b sig trips mine more is =
+    measured (reports_stay f (λ v master lt. refl) is) (bounds_stay f (λ v master lt. refl) is)
+    (λ master lt. more master lt
+    ∙ ap (λ o. cond (nat_eq signer master) (Some (later_of o b)) o) (is.trips master lt)
+    ∙ at master (nat_eq signer master) refl)
+    (owed_stays f (λ to lt ne. refl) (λ to lt. refl) is) is.counted is
   where
     f : Signed Body
     f = record { signer = signer; body = body.Rtt b; sig = sig }
@@ -286,6 +323,11 @@ took_trip g me kept told known said signer b sig trips mine more is = record {
         (sym (same_after (round_trip_in me master) known f (ap (λ t. cond (t && nat_eq b.to me) (Some b) None) e)))
 
 -- a round trip or a pong to another master, and a ping of its own
+not_to_me : {Y : Type 0} (c : Bool) (to own me : ℕ) (y : Y) → nat_eq to own ≡ false → own ≡ me →
+    cond (c && nat_eq to me) (Some y) None ≡ None
+not_to_me true to own me y other same = ap (λ t. cond t (Some y) None) (ap (nat_eq to) (sym same) ∙ other)
+not_to_me false to own me y other same = refl
+
 pub trip_passed : (g : Group) (me : ℕ) (kept : MeasureState) (told : List Told) (known : List (Signed Body))
     (said : List Body) (signer : ℕ) (b : Rtt) (sig : List ℕ) → nat_eq b.to kept.me ≡ false
     → IsMeasureOf g me kept told known said →
@@ -295,15 +337,10 @@ trip_passed g me kept told known said signer b sig other is =
     (λ master lt. record {
       report = λ v. refl;
       bound = λ v. refl;
-      trip = no (nat_eq signer master);
-      ping =
-          λ _. refl;
+      trip = not_to_me (nat_eq signer master) b.to kept.me me b other is.own;
+      ping = λ _. refl;
       pong = refl;
     }) is
-  where
-    no : (c : Bool) → cond (c && nat_eq b.to me) (Some b) None ≡ None
-    no true = ap (λ t. cond t (Some b) None) (ap (nat_eq b.to) (sym is.own) ∙ other)
-    no false = refl
 
 pub pong_passed : (g : Group) (me : ℕ) (kept : MeasureState) (told : List Told) (known : List (Signed Body))
     (said : List Body) (signer : ℕ) (b : PongWord) (sig : List ℕ) → nat_eq b.to kept.me ≡ false
@@ -316,13 +353,8 @@ pong_passed g me kept told known said signer b sig other is =
       bound = λ v. refl;
       trip = refl;
       ping = λ _. refl;
-      pong =
-          no (nat_eq signer master);
+      pong = not_to_me (nat_eq signer master) b.to kept.me me b.number other is.own;
     }) is
-  where
-    no : (c : Bool) → cond (c && nat_eq b.to me) (Some b.number) None ≡ None
-    no true = ap (λ t. cond t (Some b.number) None) (ap (nat_eq b.to) (sym is.own) ∙ other)
-    no false = refl
 
 pub own_ping_passed : (g : Group) (me : ℕ) (kept : MeasureState) (told : List Told) (known : List (Signed Body))
     (said : List Body) (signer : ℕ) (b : PingWord) (sig : List ℕ) → signer ≡ kept.me
@@ -345,14 +377,23 @@ own_ping_passed g me kept told known said signer b sig own is =
     no master ne true e = absurd
         (true≢false (sym (eq-eqb master me (sym (eqb-true signer master e) ∙ own ∙ is.own)) ∙ ne))
 
-one_asked : (a o n : Bool) → ((a || (o || false)) && n) ≡ ((o && n) || (a && n))
-one_asked true true true = refl
-one_asked true true false = refl
-one_asked true false true = refl
-one_asked true false false = refl
-one_asked false true true = refl
-one_asked false true false = refl
-one_asked false false n = refl
+-- a word that makes one more answer owed, and fills no table
+took_asking : {g : Group} {me : ℕ} {kept : MeasureState} {told : List Told} {known : List (Signed Body)}
+    {said : List Body} {pending : List Saying} (f : Signed Body) (one : Saying)
+    → ((v master : ℕ) → report_in v master f ≡ None) → ((v master : ℕ) → bound_in v master f ≡ None)
+    → ((master : ℕ) → round_trip_in me master f ≡ None)
+    → ((s : Saying) → (same_saying one s && not (list_any (says s) said) || is_pending g me known said s)
+    ≡ is_pending g me (known ++ f ∷ []) said s)
+    → ((s : Saying) → is_among pending s ≡ (same_saying one s && not (is_among kept.said s)
+    || is_among kept.pending s))
+    → IsMeasureOf g me kept told known said
+    → IsMeasureOf g me record kept { pending = pending } told (known ++ f ∷ []) said
+took_asking {g} {me} {kept} {told} {known} {said} f one no_report no_bound no_trip now more is =
+    measured (reports_stay f (λ v master lt. no_report v master) is)
+    (bounds_stay f (λ v master lt. no_bound v master) is)
+    (trips_stay f (λ master lt. no_trip master) is)
+    (λ s. more s ∙ ap (λ b. same_saying one s && not b || is_among kept.pending s) (is.counted s)
+    ∙ ap (λ b. same_saying one s && not (list_any (says s) said) || b) (is.pending s) ∙ now s) is.counted is
 
 -- a ping of another master
 pub took_ping : (g : Group) (me : ℕ) (kept : MeasureState) (told : List Told) (known : List (Signed Body))
@@ -363,22 +404,8 @@ pub took_ping : (g : Group) (me : ℕ) (kept : MeasureState) (told : List Told) 
     → IsMeasureOf g me kept told known said
     → IsMeasureOf g me record kept { pending = pending } told
     (known ++ record { signer = signer; body = body.Ping b; sig = sig } ∷ []) said
-took_ping g me kept told known said signer b sig pending within other more is = record {
-  masters = is.masters;
-  intruded = is.intruded;
-  quorum = is.quorum;
-  own = is.own;
-  ticks = is.ticks;
-  waiting = is.waiting;
-  reports = λ v master lt. is.reports v master lt ∙ ap greatest_of (sym (same_after (report_in v master) known f refl));
-  bounds = λ v master lt. is.bounds v master lt ∙ ap first_of_list (sym (same_after (bound_in v master) known f refl));
-  trips = λ master lt. is.trips master lt
-      ∙ ap (best_by later_trip) (sym (same_after (round_trip_in me master) known f refl));
-  pending = λ s. more s ∙ ap (λ t. same_saying (Pong signer b.number) s && not t || is_among kept.pending s)
-      (is.counted s) ∙ ap (λ t. same_saying (Pong signer b.number) s && not (list_any (says s) said) || t)
-      (is.pending s) ∙ now s;
-  counted = is.counted;
-}
+took_ping g me kept told known said signer b sig pending within other more is =
+    took_asking f (Pong signer b.number) (λ v master. refl) (λ v master. refl) (λ master. refl) now more is
   where
     f : Signed Body
     f = record { signer = signer; body = body.Ping b; sig = sig }
@@ -386,7 +413,7 @@ took_ping g me kept told known said signer b sig pending within other more is = 
     now : (s : Saying) → (same_saying (Pong signer b.number) s && not (list_any (says s) said)
         || is_pending g me known said s) ≡ is_pending g me (known ++ f ∷ []) said s
     now (Ping number) = refl
-    now (RoundTrip to number) = trip_same g me known said f (λ t lt. refl) to number
+    now (RoundTrip to number) = trip_same g me known said f to number (λ lt. refl)
     now (Report v ticks) = refl
     now (Bound v) = refl
     now (Vote v) = refl
@@ -396,36 +423,13 @@ took_ping g me kept told known said signer b sig pending within other more is = 
             (c && nat_eq b.number number && not (list_any (pongs_said to number) said)
             || is_pending g me known said (Pong to number)) ≡ is_pending g me (known ++ f ∷ []) said (Pong to number)
         at true e =
-            let in_group : nat_lt to g.n ≡ true = ap (λ m. nat_lt m g.n) (sym (eqb-true signer to e)) ∙ within in
-            let foreign : nat_eq to me ≡ false = ap (λ m. nat_eq m me) (sym (eqb-true signer to e)) ∙ other in
-            let one : filter_map (ping_in to) (known ++ f ∷ []) ≡ filter_map (ping_in to) known ++ b.number ∷ [] =
-            told_after (ping_in to) known f (Some b.number) (ap (λ t. cond t (Some b.number) None) e) in
-            ap (λ t. nat_eq b.number number && not (list_any (pongs_said to number) said)
-            || (t && not (nat_eq to me) && list_any (nat_eq number) (filter_map (ping_in to) known)
-            && not (list_any (pongs_said to number) said))) in_group
-            ∙ ap (λ t. nat_eq b.number number && not (list_any (pongs_said to number) said)
-            || (not t && list_any (nat_eq number) (filter_map (ping_in to) known)
-            && not (list_any (pongs_said to number) said))) foreign
-            ∙ ap (λ t. t && not (list_any (pongs_said to number) said)
-            || (list_any (nat_eq number) (filter_map (ping_in to) known)
-            && not (list_any (pongs_said to number) said))) (nat_eq-flipped b.number number)
-            ∙ sym (one_asked (list_any (nat_eq number) (filter_map (ping_in to) known)) (nat_eq number b.number)
-            (not (list_any (pongs_said to number) said)))
-            ∙ sym (ap (λ t. t && not (nat_eq to me)
-            && list_any (nat_eq number) (filter_map (ping_in to) (known ++ f ∷ []))
-            && not (list_any (pongs_said to number) said)) in_group
-            ∙ ap (λ t. not t && list_any (nat_eq number) (filter_map (ping_in to) (known ++ f ∷ []))
-            && not (list_any (pongs_said to number) said)) foreign
-            ∙ ap (λ l. list_any (nat_eq number) l && not (list_any (pongs_said to number) said)) one
-            ∙ ap (λ t. t && not (list_any (pongs_said to number) said))
-            (list_any-append (nat_eq number) (filter_map (ping_in to) known) (b.number ∷ [])))
-        at false e = at_other e
-          where
-            at_other : nat_eq signer to ≡ false → is_pending g me known said (Pong to number) ≡ is_pending g me
-                (known ++ f ∷ []) said (Pong to number)
-            at_other ne = ap (λ l. nat_lt to g.n && not (nat_eq to me) && list_any (nat_eq number) l
-                && not (list_any (pongs_said to number) said))
-                (sym (same_after (ping_in to) known f (ap (λ t. cond t (Some b.number) None) ne)))
+            let here : signer ≡ to = eqb-true signer to e in
+            one_asked (nat_lt to g.n && not (nat_eq to me)) (list_any (pongs_said to number) said) b.number number
+            (filter_map (ping_in to) known) (filter_map (ping_in to) (known ++ f ∷ []))
+            (ap (λ m. nat_lt m g.n && not (nat_eq m me)) (sym here) ∙ ap (λ t. t && not (nat_eq signer me)) within
+            ∙ ap not other)
+            (told_after (ping_in to) known f (Some b.number) (ap (λ t. cond t (Some b.number) None) e))
+        at false e = pong_same g me known said f to number (λ lt ne. ap (λ t. cond t (Some b.number) None) e)
 
 -- a pong to the master
 pub took_pong : (g : Group) (me : ℕ) (kept : MeasureState) (told : List Told) (known : List (Signed Body))
@@ -436,22 +440,8 @@ pub took_pong : (g : Group) (me : ℕ) (kept : MeasureState) (told : List Told) 
     → IsMeasureOf g me kept told known said
     → IsMeasureOf g me record kept { pending = pending } told
     (known ++ record { signer = signer; body = body.Pong b; sig = sig } ∷ []) said
-took_pong g me kept told known said signer b sig pending within mine more is = record {
-  masters = is.masters;
-  intruded = is.intruded;
-  quorum = is.quorum;
-  own = is.own;
-  ticks = is.ticks;
-  waiting = is.waiting;
-  reports = λ v master lt. is.reports v master lt ∙ ap greatest_of (sym (same_after (report_in v master) known f refl));
-  bounds = λ v master lt. is.bounds v master lt ∙ ap first_of_list (sym (same_after (bound_in v master) known f refl));
-  trips = λ master lt. is.trips master lt
-      ∙ ap (best_by later_trip) (sym (same_after (round_trip_in me master) known f refl));
-  pending = λ s. more s ∙ ap (λ t. same_saying (RoundTrip signer b.number) s && not t || is_among kept.pending s)
-      (is.counted s) ∙ ap (λ t. same_saying (RoundTrip signer b.number) s && not (list_any (says s) said) || t)
-      (is.pending s) ∙ now s;
-  counted = is.counted;
-}
+took_pong g me kept told known said signer b sig pending within mine more is =
+    took_asking f (RoundTrip signer b.number) (λ v master. refl) (λ v master. refl) (λ master. refl) now more is
   where
     f : Signed Body
     f = record { signer = signer; body = body.Pong b; sig = sig }
@@ -459,7 +449,7 @@ took_pong g me kept told known said signer b sig pending within mine more is = r
     now : (s : Saying) → (same_saying (RoundTrip signer b.number) s && not (list_any (says s) said)
         || is_pending g me known said s) ≡ is_pending g me (known ++ f ∷ []) said s
     now (Ping number) = refl
-    now (Pong to number) = pong_same g me known said f (λ t lt ne. refl) to number
+    now (Pong to number) = pong_same g me known said f to number (λ lt ne. refl)
     now (Report v ticks) = refl
     now (Bound v) = refl
     now (Vote v) = refl
@@ -470,32 +460,14 @@ took_pong g me kept told known said signer b sig pending within mine more is = r
             || is_pending g me known said (RoundTrip to number)) ≡ is_pending g me (known ++ f ∷ [])
             said (RoundTrip to number)
         at true e =
-            let in_group : nat_lt to g.n ≡ true = ap (λ m. nat_lt m g.n) (sym (eqb-true signer to e)) ∙ within in
-            let one : filter_map (pong_in me to) (known ++ f ∷ []) ≡ filter_map (pong_in me to) known ++ b.number ∷ [] =
-            told_after (pong_in me to) known f (Some b.number)
+            one_asked (nat_lt to g.n) (list_any (round_trips_said to number) said) b.number number
+            (filter_map (pong_in me to) known) (filter_map (pong_in me to) (known ++ f ∷ []))
+            (ap (λ m. nat_lt m g.n) (sym (eqb-true signer to e)) ∙ within)
+            (told_after (pong_in me to) known f (Some b.number)
             (ap (λ t. cond (t && nat_eq b.to me) (Some b.number) None) e
-            ∙ ap (λ t. cond t (Some b.number) None) mine) in
-            ap (λ t. nat_eq b.number number && not (list_any (round_trips_said to number) said)
-            || (t && list_any (nat_eq number) (filter_map (pong_in me to) known)
-            && not (list_any (round_trips_said to number) said))) in_group
-            ∙ ap (λ t. t && not (list_any (round_trips_said to number) said)
-            || (list_any (nat_eq number) (filter_map (pong_in me to) known)
-            && not (list_any (round_trips_said to number) said))) (nat_eq-flipped b.number number)
-            ∙ sym (one_asked (list_any (nat_eq number) (filter_map (pong_in me to) known)) (nat_eq number b.number)
-            (not (list_any (round_trips_said to number) said)))
-            ∙ sym (ap (λ t. t && list_any (nat_eq number) (filter_map (pong_in me to) (known ++ f ∷ []))
-            && not (list_any (round_trips_said to number) said)) in_group
-            ∙ ap (λ l. list_any (nat_eq number) l && not (list_any (round_trips_said to number) said)) one
-            ∙ ap (λ t. t && not (list_any (round_trips_said to number) said))
-            (list_any-append (nat_eq number) (filter_map (pong_in me to) known) (b.number ∷ [])))
-        at false e = at_other e
-          where
-            at_other : nat_eq signer to ≡ false → is_pending g me known said (RoundTrip to number) ≡ is_pending g me
-                (known ++ f ∷ []) said (RoundTrip to number)
-            at_other ne = ap (λ l. nat_lt to g.n && list_any (nat_eq number) l
-                && not (list_any (round_trips_said to number) said))
-                (sym (same_after (pong_in me to) known f
-                (ap (λ t. cond (t && nat_eq b.to me) (Some b.number) None) ne)))
+            ∙ ap (λ t. cond t (Some b.number) None) mine))
+        at false e = trip_same g me known said f to number
+            (λ lt. ap (λ t. cond (t && nat_eq b.to me) (Some b.number) None) e)
 
 -- the measures as the fields give them
 pub viewed : {g : Group} {me : ℕ} {a b : MeasureState} {told : List Told} {known : List (Signed Body)}
@@ -515,64 +487,35 @@ trip_set trips signer j now b within is = at (nat_eq signer j) refl
         ∙ ap Some (is ∙ ap (λ k. later_of (get_or trips k None) b) (eqb-true signer j e))
     at false e = get_or-set_other trips signer j (Some now) None (λ h. eqb-false signer j e (sym h))
 
--- what a body is that tells one of the measures
-pub heard_ping : (word : Body) (b : PingWord) → heard_in word ≡ Some (heard.Ping b) → word ≡ body.Ping b
-heard_ping word b = elim word as (λ w. heard_in w ≡ Some (heard.Ping b) → w ≡ body.Ping b) [
-  | body.Ping x ↦ λ e. cc
-  | body.Pong x ↦ λ e. absurd (cc)
-  | body.Rtt x ↦ λ e. absurd (cc)
-  | body.TatReport x ↦ λ e. absurd (cc)
-  | body.TatBound x ↦ λ e. absurd (cc)
+-- the word that tells one of the measures
+abbrev pub word_of : Heard → Body
+word_of (heard.Ping b) = body.Ping b
+word_of (heard.Pong b) = body.Pong b
+word_of (heard.RoundTrip b) = body.Rtt b
+word_of (heard.Report b) = body.TatReport b
+word_of (heard.Bound b) = body.TatBound b
+
+pub heard_is : (word : Body) (h : Heard) → heard_in word ≡ Some h → word ≡ word_of h
+heard_is word h = elim word as (λ w. heard_in w ≡ Some h → w ≡ word_of h) [
+  | body.Ping b ↦ one (heard.Ping b)
+  | body.Pong b ↦ one (heard.Pong b)
+  | body.Rtt b ↦ one (heard.RoundTrip b)
+  | body.TatReport b ↦ one (heard.Report b)
+  | body.TatBound b ↦ one (heard.Bound b)
   | _ ↦ λ e. absurd (cc)
 ]
+  where
+    one : (x : Heard) → Some x ≡ Some h → word_of x ≡ word_of h
+    one x e = let same : x ≡ h = cc in ap word_of same
 
-pub heard_pong : (word : Body) (b : PongWord) → heard_in word ≡ Some (heard.Pong b) → word ≡ body.Pong b
-heard_pong word b = elim word as (λ w. heard_in w ≡ Some (heard.Pong b) → w ≡ body.Pong b) [
-  | body.Pong x ↦ λ e. cc
-  | body.Ping x ↦ λ e. absurd (cc)
-  | body.Rtt x ↦ λ e. absurd (cc)
-  | body.TatReport x ↦ λ e. absurd (cc)
-  | body.TatBound x ↦ λ e. absurd (cc)
-  | _ ↦ λ e. absurd (cc)
-]
-
-pub heard_trip : (word : Body) (b : Rtt) → heard_in word ≡ Some (heard.RoundTrip b) → word ≡ body.Rtt b
-heard_trip word b = elim word as (λ w. heard_in w ≡ Some (heard.RoundTrip b) → w ≡ body.Rtt b) [
-  | body.Rtt x ↦ λ e. cc
-  | body.Pong x ↦ λ e. absurd (cc)
-  | body.Ping x ↦ λ e. absurd (cc)
-  | body.TatReport x ↦ λ e. absurd (cc)
-  | body.TatBound x ↦ λ e. absurd (cc)
-  | _ ↦ λ e. absurd (cc)
-]
-
-pub heard_report : (word : Body) (b : TatReport) → heard_in word ≡ Some (heard.Report b) → word ≡ body.TatReport b
-heard_report word b = elim word as (λ w. heard_in w ≡ Some (heard.Report b) → w ≡ body.TatReport b) [
-  | body.TatReport x ↦ λ e. cc
-  | body.Pong x ↦ λ e. absurd (cc)
-  | body.Rtt x ↦ λ e. absurd (cc)
-  | body.Ping x ↦ λ e. absurd (cc)
-  | body.TatBound x ↦ λ e. absurd (cc)
-  | _ ↦ λ e. absurd (cc)
-]
-
-pub heard_bound : (word : Body) (b : TatBound) → heard_in word ≡ Some (heard.Bound b) → word ≡ body.TatBound b
-heard_bound word b = elim word as (λ w. heard_in w ≡ Some (heard.Bound b) → w ≡ body.TatBound b) [
-  | body.TatBound x ↦ λ e. cc
-  | body.Pong x ↦ λ e. absurd (cc)
-  | body.Rtt x ↦ λ e. absurd (cc)
-  | body.TatReport x ↦ λ e. absurd (cc)
-  | body.Ping x ↦ λ e. absurd (cc)
-  | _ ↦ λ e. absurd (cc)
-]
-
-pub at_body : {g : Group} {me : ℕ} {kept : MeasureState} {told : List Told} {said : List Body}
-    (known : List (Signed Body)) (signer : ℕ) (sig : List ℕ) (word other : Body) → word ≡ other
-    → IsMeasureOf g me kept told (known ++ record { signer = signer; body = other; sig = sig } ∷ []) said
+-- the measures know a word where they know the one that it is heard as
+pub at_heard : {g : Group} {me : ℕ} {kept : MeasureState} {told : List Told} {said : List Body}
+    (known : List (Signed Body)) (signer : ℕ) (sig : List ℕ) (word : Body) (h : Heard) → heard_in word ≡ Some h
+    → IsMeasureOf g me kept told (known ++ record { signer = signer; body = word_of h; sig = sig } ∷ []) said
     → IsMeasureOf g me kept told (known ++ record { signer = signer; body = word; sig = sig } ∷ []) said
-at_body {g} {me} {kept} {told} {said} known signer sig word other e is =
+at_heard {g} {me} {kept} {told} {said} known signer sig word h e is =
     subst (λ w. IsMeasureOf g me kept told (known ++ record { signer = signer; body = w; sig = sig } ∷ []) said)
-    (sym e) is
+    (sym (heard_is word h e)) is
 
 -- only measures count
 is_none : {Y : Type 0} (p : Signed Body → Option Y) → ((f : Signed Body) → is_measure f ≡ false → p f ≡ None) →
@@ -606,41 +549,25 @@ silent me master f e = kind_silent me master f (other_kind f.body f.signer f.sig
 pub only_measures : (g : Group) (me : ℕ) (kept : MeasureState) (told : List Told) (known : List (Signed Body))
     (said : List Body) → IsMeasureOf g me kept told (filter is_measure known) said →
     IsMeasureOf g me kept told known said
-only_measures g me kept told known said is = record {
-  masters = is.masters;
-  intruded = is.intruded;
-  quorum = is.quorum;
-  own = is.own;
-  ticks = is.ticks;
-  waiting = is.waiting;
-  reports = λ v master lt. is.reports v master lt
-      ∙ ap greatest_of (is_none (report_in v master) (λ f e. (silent me master f e).report v) known);
-  bounds = λ v master lt. is.bounds v master lt
-      ∙ ap first_of_list (is_none (bound_in v master) (λ f e. (silent me master f e).bound v) known);
-  trips = λ master lt. is.trips master lt
-      ∙ ap (best_by later_trip) (is_none (round_trip_in me master) (λ f e. (silent me master f e).trip) known);
-  pending = λ s. is.pending s ∙ pending_of s;
-  counted = is.counted;
-}
+only_measures g me kept told known said is =
+    measured
+    (λ v master lt. is.reports v master lt
+    ∙ ap greatest_of (is_none (report_in v master) (λ f e. (silent me master f e).report v) known))
+    (λ v master lt. is.bounds v master lt
+    ∙ ap first_of_list (is_none (bound_in v master) (λ f e. (silent me master f e).bound v) known))
+    (λ master lt. is.trips master lt
+    ∙ ap (best_by later_trip) (is_none (round_trip_in me master) (λ f e. (silent me master f e).trip) known))
+    (λ s. is.pending s ∙ pending_of s) is.counted is
   where
-    no_ping : (to : ℕ) (f : Signed Body) → is_measure f ≡ false → ping_in to f ≡ None
-    no_ping to f e = ping_by f.body f.signer f.sig e
-      where
-        ping_by : (word : Body) (signer : ℕ) (sig : List ℕ) →
-            is_measure record { signer = signer; body = word; sig = sig } ≡ false →
-            ping_in to record { signer = signer; body = word; sig = sig } ≡ None
-        ping_by word signer sig =
-            elim word as (λ w. is_measure record { signer = signer; body = w; sig = sig } ≡ false →
-            ping_in to record { signer = signer; body = w; sig = sig } ≡ None)
-            [ body.Ping b ↦ λ e. absurd (cc) | _ ↦ λ e. refl ]
-
     pending_of : (s : Saying) → is_pending g me (filter is_measure known) said s ≡ is_pending g me known said s
     pending_of (Pong to number) =
-        ap (λ l. nat_lt to g.n && not (nat_eq to me) && list_any (nat_eq number) l
-        && not (list_any (pongs_said to number) said)) (is_none (ping_in to) (no_ping to) known)
+        same_asked (nat_lt to g.n && not (nat_eq to me)) (list_any (pongs_said to number) said) number
+        (filter_map (ping_in to) (filter is_measure known)) (filter_map (ping_in to) known)
+        (λ _. sym (is_none (ping_in to) (λ f e. no_ping to f (other_kind f.body f.signer f.sig e)) known))
     pending_of (RoundTrip to number) =
-        ap (λ l. nat_lt to g.n && list_any (nat_eq number) l && not (list_any (round_trips_said to number) said))
-        (is_none (pong_in me to) (λ f e. (silent me to f e).pong) known)
+        same_asked (nat_lt to g.n) (list_any (round_trips_said to number) said) number
+        (filter_map (pong_in me to) (filter is_measure known)) (filter_map (pong_in me to) known)
+        (λ _. sym (is_none (pong_in me to) (λ f e. (silent me to f e).pong) known))
     pending_of (Ping number) = refl
     pending_of (Report v ticks) = refl
     pending_of (Bound v) = refl
@@ -650,19 +577,9 @@ only_measures g me kept told known said is = record {
 pub only_own_kinds : (g : Group) (me : ℕ) (kept : MeasureState) (told : List Told) (known : List (Signed Body))
     (said other : List Body) → ((s : Saying) → list_any (says s) other ≡ list_any (says s) said)
     → IsMeasureOf g me kept told known said → IsMeasureOf g me kept told known other
-only_own_kinds g me kept told known said other same is = record {
-  masters = is.masters;
-  intruded = is.intruded;
-  quorum = is.quorum;
-  own = is.own;
-  ticks = is.ticks;
-  waiting = is.waiting;
-  reports = is.reports;
-  bounds = is.bounds;
-  trips = is.trips;
-  pending = λ s. is.pending s ∙ sym (pending_of s);
-  counted = λ s. is.counted s ∙ sym (same s);
-}
+only_own_kinds g me kept told known said other same is =
+    measured is.reports is.bounds is.trips (λ s. is.pending s ∙ sym (pending_of s))
+    (λ s. is.counted s ∙ sym (same s)) is
   where
     pending_of : (s : Saying) → is_pending g me known other s ≡ is_pending g me known said s
     pending_of (Pong to number) =

@@ -35,6 +35,10 @@ and_swap true false = refl
 and_swap false true = refl
 and_swap false false = refl
 
+or_none : (o : Option ℕ) → or_else o None ≡ o
+or_none None = refl
+or_none (Some x) = refl
+
 -- the first that is told stays
 pub first_kept : (old new : BTreeMap (ℕ × ℕ) ℕ) (v master ticks w j : ℕ) → told_at old.entries v master ≡ None →
     Updates place_order old new (v, master) (Some ticks)
@@ -51,10 +55,6 @@ first_kept old new v master ticks w j none u =
         sym (ap (λ o. or_else o (Some ticks)) (ap (λ x. told_at old.entries x j) (sym (eqb-true v w both.1))
         ∙ ap (told_at old.entries v) (sym (eqb-true master j both.0)) ∙ none))
     at false e = sym (or_none (told_at old.entries w j))
-      where
-        or_none : (o : Option ℕ) → or_else o None ≡ o
-        or_none None = refl
-        or_none (Some x) = refl
 
 pub first_stays : (entries : List ((ℕ × ℕ) × ℕ)) (v master ticks w j : ℕ) → is_some (told_at entries v master) ≡ true
     → told_at entries w j ≡ or_else (told_at entries w j) (cond (nat_eq master j && nat_eq v w) (Some ticks) None)
@@ -63,10 +63,6 @@ first_stays entries v master ticks w j some = at (nat_eq master j && nat_eq v w)
     there : (o : Option ℕ) → is_some o ≡ true → o ≡ or_else o (Some ticks)
     there None e = absurd (cc)
     there (Some x) e = refl
-
-    or_none : (o : Option ℕ) → or_else o None ≡ o
-    or_none None = refl
-    or_none (Some x) = refl
 
     at : (b : Bool) → (nat_eq master j && nat_eq v w) ≡ b →
         told_at entries w j ≡ or_else (told_at entries w j) (cond b (Some ticks) None)

@@ -11,7 +11,7 @@ use crate::answers::{count, owe, release, settle};
 use crate::heard::{Heard, heard_of};
 use crate::ranked::Ranked;
 use crate::saying::Saying;
-use crate::tables::{Table, keep_first, keep_greatest, told};
+use crate::tables::{Table, all_told, keep_first, keep_greatest};
 use message_types::{Body, Ping, Pong, Rtt, Suspect, TatBound, TatReport};
 use plain_lists::{Want, extend_option};
 use protocol_rules::{MOST_TICKS, MOST_VIEW};
@@ -215,20 +215,14 @@ impl Measure {
     fn turnaround_told(&self, v: u64) -> u64
         ensures { result ≡ turnaround_kept self.now v }
     {
-        let mut reports = Ranked::new();
-        for master in 0..self.sizes.n {
-            reports.put(told(&self.reports, v, master).unwrap_or(0));
-        }
+        let reports = all_told(&self.reports, v, self.sizes.n, 0);
         reports.lowest(self.sizes.f as usize)
     }
 
     fn acceptable_told(&self, v: u64) -> u64
         ensures { result ≡ acceptable_kept self.now v }
     {
-        let mut bounds = Ranked::new();
-        for master in 0..self.sizes.n {
-            bounds.put(told(&self.bounds, v, master).unwrap_or(FIRST_BOUND));
-        }
+        let bounds = all_told(&self.bounds, v, self.sizes.n, FIRST_BOUND);
         bounds.highest(self.sizes.f as usize)
     }
 

@@ -1,8 +1,11 @@
-ghost use Rattle.std.specs.Prelude.{◌≡◌, ℕ, Some, None, OnOk, OnErr, max, nat_eq, ◌&&◌, unwrap_or, if◌then◌else◌};
-ghost use Rattle.protocol_rules.specs.Words.{or_else};
+ghost use Rattle.std.specs.Prelude.{◌≡◌, ◌≤◌, ℕ, Some, None, OnOk, OnErr, map, max, nat_eq, ◌&&◌, unwrap_or, if◌then◌else◌};
+ghost use Rattle.quorum_sets.specs.Masters.{numbers_below};
+ghost use Rattle.protocol_rules.specs.Words.{in_order, or_else};
 ghost use Rattle.suspect_leader.specs.MeasureState.{told_at};
 
+use crate::ranked::Ranked;
 use plain_lists::Want;
+use quorum_sets::MASTER_PLACES;
 use std::alloc::Global;
 use std::collections::BTreeMap;
 
@@ -14,6 +17,18 @@ pub(crate) fn told(table: &Table, v: u64, master: u32) -> Option<u64>
     ensures { result ≡ told_at table.now.entries v master }
 {
     table.get(&(v, master)).copied()
+}
+
+/// What each of the masters tells of view `v`, in rising order, with `untold` for those that tell nothing.
+pub(crate) fn all_told(table: &Table, v: u64, masters: u32, untold: u64) -> Ranked
+    requires { masters ≤ MASTER_PLACES }
+    ensures { result ≡ in_order (map (λ master. unwrap_or (told_at table.now.entries v master) untold) (numbers_below masters)) }
+{
+    let mut figures = Ranked::new();
+    for master in 0..masters {
+        figures.put(told(table, v, master).unwrap_or(untold));
+    }
+    figures
 }
 
 /// Keeps the greatest number told at a place.

@@ -1,53 +1,22 @@
--- Putting each master's first bound, or 16, into a rising list gives all of them in order, so the (f + 1)st
--- from above is what is acceptable.
-use Rattle.std.proofs.Common.{◌≡◌, ◌<◌, ◌≤◌, ℕ, List, length, map, reverse, sym, ap, ◌∙◌, arith}
+use Rattle.std.proofs.Common.{◌≡◌, ◌<◌, ℕ, List, length, reverse, ap, ◌∙◌, arith}
 use Rattle.std.specs.Prelude.{slice_index}
 use Rattle.std.specs.Option.{unwrap_or}
-use Rattle.quorum_sets.specs.Masters.{numbers_below}
-use Rattle.protocol_rules.specs.Words.{in_order, put_in_order}
 use Rattle.suspect_leader.specs.MeasureState.{MeasureState, told_at, acceptable_kept}
-use Rattle.suspect_leader.proofs.Ranks.{one_more, nothing_in_order}
 use Rattle.suspect_leader.proofs.Masters.{intruded_few, ranked_length}
-use Rattle.quorum_sets.proofs.Numbered.{masters_few, map_more, map_start}
+use Rattle.quorum_sets.proofs.Numbered.{masters_few}
 use Rattle.suspect_leader.proofs.measure.Measure.acceptable_told.Goals as goal
 
-pub loop-master-init : goal.loop-master-init
-loop-master-init c = c.new-bounds.ensures
-    ∙ sym (ap in_order (map_start (λ j. unwrap_or (told_at c.self.inside.bounds.entries c.args.v j) 16))
-    ∙ nothing_in_order)
-
-pub put-requires : goal.put-requires
-put-requires c =
-    let few : c.self.inside.sizes.n ≤ 14 = masters_few c.self.inside.sizes in
-    let count : length c.loop-master.bounds ≡ c.loop-master.master = ap length c.loop-master.invariant
-    ∙ ranked_length (λ j. unwrap_or (told_at c.self.inside.bounds.entries c.args.v j) 16) c.loop-master.master in
-    omega arith
-
-pub loop-master-preserved : goal.loop-master-preserved
-loop-master-preserved c =
-    c.put.ensures
-    ∙ ap (λ (x : ℕ). put_in_order x c.loop-master.bounds)
-    (c.unwrap_or.ensures ∙ ap (λ o. unwrap_or o 16) c.told.ensures)
-    ∙ ap (put_in_order (unwrap_or (told_at c.self.inside.bounds.entries c.args.v c.loop-master.master) 16))
-    c.loop-master.invariant
-    ∙ sym (ap in_order (map_more (λ j. unwrap_or (told_at c.self.inside.bounds.entries c.args.v j) 16)
-    c.loop-master.master)
-    ∙ one_more (map (λ j. unwrap_or (told_at c.self.inside.bounds.entries c.args.v j) 16)
-    (numbers_below c.loop-master.master))
-    (unwrap_or (told_at c.self.inside.bounds.entries c.args.v c.loop-master.master) 16))
+pub all_told-bounds-requires : goal.all_told-bounds-requires
+all_told-bounds-requires c = masters_few c.self.inside.sizes
 
 pub highest-requires : goal.highest-requires
 highest-requires c =
     let fewer : c.self.inside.sizes.f < c.self.inside.sizes.n = intruded_few c.self.inside.sizes in
-    let count : length c.loop-master.bounds ≡ c.loop-master.master = ap length c.loop-master.invariant
-    ∙ ranked_length (λ j. unwrap_or (told_at c.self.inside.bounds.entries c.args.v j) 16) c.loop-master.master in
+    let count : length c.all_told-bounds.result ≡ c.self.inside.sizes.n = ap length c.all_told-bounds.ensures
+    ∙ ranked_length (λ j. unwrap_or (told_at c.self.inside.bounds.entries c.args.v j) 16) c.self.inside.sizes.n in
     omega arith
 
 pub returns : goal.returns
 returns c =
-    let ended : c.loop-master.master ≡ c.self.inside.sizes.n = omega arith in
-    c.highest.ensures ∙ ap (λ (l : List ℕ). slice_index (reverse l) c.self.inside.sizes.f) c.loop-master.invariant
-    ∙ ap (λ (n : ℕ). slice_index
-    (reverse (in_order (map (λ j. unwrap_or (told_at c.self.inside.bounds.entries c.args.v j) 16)
-    (numbers_below n)))) c.self.inside.sizes.f) ended
+    c.highest.ensures ∙ ap (λ (l : List ℕ). slice_index (reverse l) c.self.inside.sizes.f) c.all_told-bounds.ensures
     ∙ ap (λ (k : MeasureState). acceptable_kept k c.args.v) c.self.view_is

@@ -10,11 +10,22 @@ use Rattle.suspect_leader.specs.MeasureState.{MeasureState, figure_at, put_each,
 use Rattle.suspect_leader.proofs.Ranks.{some_more, nothing_in_order}
 use Rattle.suspect_leader.proofs.Masters.{quorum_size, ranked_some, bound_some, bound_none}
 use Rattle.quorum_sets.proofs.Numbered.{filter_map_start, filter_map_more, masters_few}
+use Rattle.suspect_leader.proofs.measure.Measure.own_bound.Goals.{After-loop-master}
 use Rattle.suspect_leader.proofs.measure.Measure.own_bound.Goals as goal
 
 -- the figures of the masters below a number, in order
 abbrev ranked_to : MeasureState → ℕ → List ℕ
 ranked_to kept m = in_order (filter_map (figure_at kept) (numbers_below m))
+
+few_ranked : (kept : MeasureState) (figures : List ℕ) (m : ℕ) → figures ≡ ranked_to kept m → length figures ≤ m
+few_ranked kept figures m e = let same : length figures ≡ length (ranked_to kept m) = ap length e in
+    omega (arith, ranked_some (figure_at kept) m)
+
+-- after the loop all figures are there
+all_ranked : (c : After-loop-master) → c.loop-master.figures ≡ in_order (figures_kept c.args.self.now)
+all_ranked c = let ended : c.loop-master.master ≡ c.self.inside.sizes.n = omega arith in
+    c.loop-master.invariant
+    ∙ ap (ranked_to c.args.self.now) (ended ∙ ap (λ (k : MeasureState). k.group.n) c.self.view_is)
 
 pub loop-master-init : goal.loop-master-init
 loop-master-init c = c.new-figures.ensures
@@ -23,11 +34,8 @@ loop-master-init c = c.new-figures.ensures
 pub put_if-requires : goal.put_if-requires
 put_if-requires c =
     let few : c.self.inside.sizes.n ≤ 14 = masters_few c.self.inside.sizes in
-    let same : length c.loop-master.figures ≡ length
-    (ranked_to c.args.self.now c.loop-master.master) =
-    ap length c.loop-master.invariant in
-    let most : length (ranked_to c.args.self.now c.loop-master.master) ≤
-    c.loop-master.master = ranked_some (figure_at c.args.self.now) c.loop-master.master in
+    let most : length c.loop-master.figures ≤ c.loop-master.master =
+    few_ranked c.args.self.now c.loop-master.figures c.loop-master.master c.loop-master.invariant in
     omega arith
 
 pub loop-master-preserved : goal.loop-master-preserved
@@ -41,24 +49,18 @@ loop-master-preserved c =
 pub overflow_add-len : goal.overflow_add-len
 overflow_add-len c =
     let few : c.self.inside.sizes.n ≤ 14 = masters_few c.self.inside.sizes in
-    let same : c.len.result ≡ length
-    (ranked_to c.args.self.now c.loop-master.master) =
-    c.len.ensures ∙ ap length c.loop-master.invariant in
-    let most : length (ranked_to c.args.self.now c.loop-master.master) ≤
-    c.loop-master.master = ranked_some (figure_at c.args.self.now) c.loop-master.master in
+    let most : length c.loop-master.figures ≤ c.loop-master.master =
+    few_ranked c.args.self.now c.loop-master.figures c.loop-master.master c.loop-master.invariant in
+    let count : c.len.result ≡ length c.loop-master.figures = c.len.ensures in
     let small : c.len.result + 1 < 18446744073709551616 = omega arith in
     search rules
 
 pub returns-then-len-self : goal.returns-then-len-self
 returns-then-len-self c =
-    let ended : c.loop-master.master ≡ c.args.self.now.group.n =
-    (let at_end : c.loop-master.master ≡ c.self.inside.sizes.n = omega arith in
-    at_end ∙ ap (λ (k : MeasureState). k.group.n) c.self.view_is) in
-    let ranked : c.loop-master.figures ≡ in_order (figures_kept c.args.self.now) = c.loop-master.invariant
-    ∙ ap (ranked_to c.args.self.now) ended in
     let same : c.self.inside.sizes.q ≡ c.args.self.now.group.q = ap (λ (k : MeasureState). k.group.q) c.self.view_is in
     let count : c.len.result ≡ length c.loop-master.figures = c.len.ensures in
-    bound_none c.args.self.now c.loop-master.figures ranked (omega arith)
+    bound_none c.args.self.now c.loop-master.figures
+    (all_ranked (goal.at.returns-then-len-self c).After-loop-master) (omega arith)
 
 pub highest-requires : goal.highest-requires
 highest-requires c =
@@ -68,13 +70,9 @@ highest-requires c =
 
 pub returns : goal.returns
 returns c =
-    let ended : c.loop-master.master ≡ c.args.self.now.group.n =
-    (let at_end : c.loop-master.master ≡ c.self.inside.sizes.n = omega arith in
-    at_end ∙ ap (λ (k : MeasureState). k.group.n) c.self.view_is) in
-    let ranked : c.loop-master.figures ≡ in_order (figures_kept c.args.self.now) = c.loop-master.invariant
-    ∙ ap (ranked_to c.args.self.now) ended in
     let same : c.self.inside.sizes.q ≡ c.args.self.now.group.q = ap (λ (k : MeasureState). k.group.q) c.self.view_is in
     let count : c.len.result ≡ length c.loop-master.figures = c.len.ensures in
-    bound_some c.args.self.now c.loop-master.figures c.highest.result ranked (omega arith)
+    bound_some c.args.self.now c.loop-master.figures c.highest.result
+    (all_ranked (goal.at.returns c).After-loop-master) (omega arith)
     (c.highest.ensures ∙ ap (λ (f : ℕ). slice_index (reverse c.loop-master.figures) f)
     (ap (λ (k : MeasureState). k.group.f) c.self.view_is))
