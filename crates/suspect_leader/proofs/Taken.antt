@@ -62,7 +62,8 @@ pub measured : {g : Group} {me : ℕ} {kept : MeasureState} {told : List Told} {
     → Reports g words reports → Bounds g words bounds → Trips g me words trips → Owed g me words bodies pending
     → Counted bodies counted → IsMeasureOf g me kept told known said
     → IsMeasureOf g me
-    record kept { reports = reports; bounds = bounds; trips = trips; pending = pending; said = counted } told words bodies
+    record kept { reports = reports; bounds = bounds; trips = trips; pending = pending; said = counted }
+    told words bodies
 measured of_reports of_bounds of_trips of_owed of_counted is = record {
   masters = is.masters;
   intruded = is.intruded;
