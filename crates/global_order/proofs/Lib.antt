@@ -17,6 +17,7 @@ pub mod Highest
 pub mod Viewing
 pub mod Saying
 pub mod Touching
+pub mod Handed
 pub mod Waits
 pub mod Beginning
 pub mod Certifying

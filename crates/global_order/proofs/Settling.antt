@@ -312,100 +312,73 @@ order-waits q committed after orders place pushed has s d waits =
     (sym (ap (list_any (is_ordering s d)) (pushed d) ∙ waits-more q (is_ordering s d) (nat_eq q.s s)
     (bytes_eq q.digest d) (waiting_in (get bytes_eq committed d)) refl) ∙ waits)
 
--- rows of a new digest
+-- The choices learned rows that none known had the digest of: what waited for them takes the digest, and waits no more.
+pub record HasLearned (r : List (List ℕ)) (digest : List ℕ) (c after : Choices) : Type 0 where
+  pub absent : false ≡ is_some (get bytes_eq c.rows digest)
+  pub put : (d : List ℕ) → get bytes_eq after.rows d ≡ cond (bytes_eq digest d) (Some r) (get bytes_eq c.rows d)
+  pub slots : TakesDigest (λ k. slot_waits c.backed k digest) digest c.prepared after.prepared
+  pub orders : TakesOrder (λ s. order_waits c.committed s digest) digest c.ordered after.ordered
+  pub slots_left : HasLeft digest c.backed after.backed
+  pub orders_left : HasLeft digest c.committed after.committed
+
 pub agrees-new : (known : List (List (List ℕ))) (r : List (List ℕ)) (digest : List ℕ) (prepares : ℕ × ℕ → List ℕ →
-    Bool) (first : ℕ × ℕ → Option (List ℕ)) (commits : ℕ → List ℕ → Bool) (order : ℕ → Option (List ℕ)) (c : Choices)
-    (rows : Map (List ℕ) (List (List ℕ))) (slots : Map (ℕ × ℕ) Slot) (orders : Map ℕ (Option (List ℕ)))
-    (backed committed : Waiting) (pending : PendingNumbers) (highest : ℕ) →
-    digest ≡ digest_of_rows r → false ≡ is_some (get bytes_eq c.rows digest) →
-    ((d : List ℕ) → get bytes_eq rows d ≡ cond (bytes_eq digest d) (Some r) (get bytes_eq c.rows d)) →
-    TakesDigest (λ k. slot_waits c.backed k digest) digest c.prepared slots →
-    TakesOrder (λ s. order_waits c.committed s digest) digest c.ordered orders →
-    HasLeft digest c.backed backed → HasLeft digest c.committed committed →
+    Bool) (first : ℕ × ℕ → Option (List ℕ)) (commits : ℕ → List ℕ → Bool) (order : ℕ → Option (List ℕ))
+    (c after : Choices) → digest ≡ digest_of_rows r → HasLearned r digest c after →
     Agrees known prepares first commits order c →
     Agrees (known ++ r ∷ []) prepares (with_rows prepares first (digest_of_rows r)) commits
-    (with_rows commits order (digest_of_rows r))
-    record {
-      rows = rows;
-      prepared = slots;
-      backed = backed;
-      pending = pending;
-      ordered = orders;
-      committed =
-          committed;
-      highest = highest;
-    }
-agrees-new known r digest prepares first commits order c rows slots orders backed committed pending highest is_digest
-    absent put takes orders_take left orders_left agrees =
-    with (rw is_digest at absent) (rw is_digest at put) (rw is_digest at takes) (rw is_digest at orders_take)
-    (rw is_digest at left) (rw is_digest at orders_left)
+    (with_rows commits order (digest_of_rows r)) after
+agrees-new known r digest prepares first commits order c after is_digest taken agrees = record {
+  rows = rows-new known r c.rows after.rows unknown learned.put agrees.rows;
+  prepared = chosen-rows-new known r prepares first _ (slot_waits c.backed) (slot_waits after.backed) _ _ _ unknown
+      (λ k d apart. ap (λ o. list_any (is_backing k d) (waiting_in o))
+      (learned.slots_left d ∙ ap (λ b. cond b None (get bytes_eq c.backed d)) apart))
+      (λ k d. fewer (is_backing k d) (bytes_eq (digest_of_rows r) d) _ _ (learned.slots_left d)) learned.slots.first
+      (λ k e. learned.slots.places k ∙ e) agrees.prepared;
+  least = λ k. least k (prepares k (digest_of_rows r)) refl
+      (learned.slots.least k ∙ ap (λ b. cond b (lesser (least_in (get same_pair c.prepared k)) (digest_of_rows r))
+      (least_in (get same_pair c.prepared k))) (agrees.prepared.waiting k (digest_of_rows r) unknown));
+  ordered = chosen-rows-new known r commits order _ (order_waits c.committed) (order_waits after.committed)
+      _ _ _ unknown (λ s d apart. ap (λ o. list_any (is_ordering s d) (waiting_in o))
+      (learned.orders_left d ∙ ap (λ b. cond b None (get bytes_eq c.committed d)) apart))
+      (λ s d. fewer (is_ordering s d) (bytes_eq (digest_of_rows r) d) _ _ (learned.orders_left d)) learned.orders.order
+      (λ s e. learned.orders.places s ∙ e) agrees.ordered;
+}
   where
-    with : false ≡ is_some (get bytes_eq c.rows (digest_of_rows r)) →
-        ((d : List ℕ) → get bytes_eq rows d ≡ cond (bytes_eq (digest_of_rows r) d) (Some r) (get bytes_eq c.rows d)) →
-        TakesDigest (λ k. slot_waits c.backed k (digest_of_rows r)) (digest_of_rows r) c.prepared slots →
-        TakesOrder (λ s. order_waits c.committed s (digest_of_rows r)) (digest_of_rows r) c.ordered orders →
-        HasLeft (digest_of_rows r) c.backed backed → HasLeft (digest_of_rows r) c.committed committed →
-        Agrees (known ++ r ∷ []) prepares (with_rows prepares first (digest_of_rows r)) commits
-        (with_rows commits order (digest_of_rows r))
-        record {
-          rows = rows;
-          prepared = slots;
-          backed = backed;
-          pending = pending;
-          ordered = orders;
-          committed =
-              committed;
-          highest = highest;
-        }
-    with absent put takes orders_take left orders_left = record {
-      rows = rows-new known r c.rows rows unknown put agrees.rows;
-      prepared = chosen-rows-new known r prepares first _ (slot_waits c.backed) (slot_waits backed) _ _ _ unknown
-          (λ k d apart. ap (λ o. list_any (is_backing k d) (waiting_in o))
-          (left d ∙ ap (λ b. cond b None (get bytes_eq c.backed d)) apart))
-          (λ k d. fewer (is_backing k d) (bytes_eq (digest_of_rows r) d) _ _ (left d)) takes.first
-          (λ k e. takes.places k ∙ e) agrees.prepared;
-      least = λ k. least k (prepares k (digest_of_rows r)) refl
-          (takes.least k ∙ ap (λ b. cond b (lesser (least_in (get same_pair c.prepared k)) (digest_of_rows r))
-          (least_in (get same_pair c.prepared k))) (agrees.prepared.waiting k (digest_of_rows r) unknown));
-      ordered = chosen-rows-new known r commits order _ (order_waits c.committed) (order_waits committed)
-          _ _ _ unknown (λ s d apart. ap (λ o. list_any (is_ordering s d) (waiting_in o))
-          (orders_left d ∙ ap (λ b. cond b None (get bytes_eq c.committed d)) apart))
-          (λ s d. fewer (is_ordering s d) (bytes_eq (digest_of_rows r) d) _ _ (orders_left d)) orders_take.order
-          (λ s e. orders_take.places s ∙ e) agrees.ordered;
-    }
-      where
-        unknown : is_known known (digest_of_rows r) ≡ false
-        unknown = sym (known-is known c.rows (digest_of_rows r) agrees.rows) ∙ sym absent
+    learned : HasLearned r (digest_of_rows r) c after
+    learned = subst (λ (d : List ℕ). HasLearned r d c after) is_digest taken
 
-        joined : (p n l : Bool) → (l ≡ true → p ≡ true) → (p && (n || l)) ≡ ((p && n) || l)
-        joined true true l e = refl
-        joined true false l e = refl
-        joined false n false e = refl
-        joined false n true e = absurd (true≢false (sym (e refl)))
+    unknown : is_known known (digest_of_rows r) ≡ false
+    unknown = sym (known-is known c.rows (digest_of_rows r) agrees.rows) ∙ sym learned.absent
 
-        apart : (p n l : Bool) → (l ≡ true → p ≡ false) → (p && (n || l)) ≡ (p && n)
-        apart true true l e = refl
-        apart true false false e = refl
-        apart true false true e = absurd (true≢false (e refl))
-        apart false n l e = refl
+    joined : (p n l : Bool) → (l ≡ true → p ≡ true) → (p && (n || l)) ≡ ((p && n) || l)
+    joined true true l e = refl
+    joined true false l e = refl
+    joined false n false e = refl
+    joined false n true e = absurd (true≢false (sym (e refl)))
 
-        least : (k : ℕ × ℕ) (b : Bool) → prepares k (digest_of_rows r) ≡ b →
-            least_in (get same_pair slots k) ≡ cond b
-            (lesser (least_in (get same_pair c.prepared k)) (digest_of_rows r))
-            (least_in (get same_pair c.prepared k)) →
-            IsLeast (λ d. prepares k d && is_known (known ++ r ∷ []) d) (least_in (get same_pair slots k))
-        least k true back is = rw is
-            (least-more (λ d. prepares k d && is_known known d) (λ d. prepares k d && is_known (known ++ r ∷ []) d)
-            (digest_of_rows r) (least_in (get same_pair c.prepared k))
-            (λ e. ap (λ b. prepares k e && b) (list_any-push (has_digest e) known r)
-            ∙ joined (prepares k e) (is_known known e) (has_digest e r)
-            (λ like. ap (prepares k) (sym (bytes-same (digest_of_rows r) e like)) ∙ back)) (agrees.least k))
-        least k false back is = rw is
-            (least-alike (λ d. prepares k d && is_known known d) (λ d. prepares k d && is_known (known ++ r ∷ []) d)
-            (least_in (get same_pair c.prepared k))
-            (λ e. ap (λ b. prepares k e && b) (list_any-push (has_digest e) known r)
-            ∙ apart (prepares k e) (is_known known e) (has_digest e r)
-            (λ like. ap (prepares k) (sym (bytes-same (digest_of_rows r) e like)) ∙ back)) (agrees.least k))
+    apart : (p n l : Bool) → (l ≡ true → p ≡ false) → (p && (n || l)) ≡ (p && n)
+    apart true true l e = refl
+    apart true false false e = refl
+    apart true false true e = absurd (true≢false (e refl))
+    apart false n l e = refl
+
+    least : (k : ℕ × ℕ) (b : Bool) → prepares k (digest_of_rows r) ≡ b →
+        least_in (get same_pair after.prepared k) ≡ cond b
+        (lesser (least_in (get same_pair c.prepared k)) (digest_of_rows r))
+        (least_in (get same_pair c.prepared k)) →
+        IsLeast (λ d. prepares k d && is_known (known ++ r ∷ []) d) (least_in (get same_pair after.prepared k))
+    least k true back is = rw is
+        (least-more (λ d. prepares k d && is_known known d) (λ d. prepares k d && is_known (known ++ r ∷ []) d)
+        (digest_of_rows r) (least_in (get same_pair c.prepared k))
+        (λ e. ap (λ b. prepares k e && b) (list_any-push (has_digest e) known r)
+        ∙ joined (prepares k e) (is_known known e) (has_digest e r)
+        (λ like. ap (prepares k) (sym (bytes-same (digest_of_rows r) e like)) ∙ back)) (agrees.least k))
+    least k false back is = rw is
+        (least-alike (λ d. prepares k d && is_known known d) (λ d. prepares k d && is_known (known ++ r ∷ []) d)
+        (least_in (get same_pair c.prepared k))
+        (λ e. ap (λ b. prepares k e && b) (list_any-push (has_digest e) known r)
+        ∙ apart (prepares k e) (is_known known e) (has_digest e r)
+        (λ like. ap (prepares k) (sym (bytes-same (digest_of_rows r) e like)) ∙ back)) (agrees.least k))
 
 -- a quorum of prepares whose rows are known
 pub agrees-backed : (known : List (List (List ℕ))) (key : ℕ × ℕ) (d : List ℕ) (prepares : ℕ × ℕ → List ℕ → Bool)
@@ -414,16 +387,7 @@ pub agrees-backed : (known : List (List (List ℕ))) (key : ℕ × ℕ) (d : Lis
     true ≡ is_some (get bytes_eq c.rows d) → TakesDigest (same_pair key) d c.prepared slots →
     Agrees known prepares first commits order c →
     Agrees known (with_quorum same_pair key d prepares) (with_choice same_pair key d known first) commits order
-    record {
-      rows = c.rows;
-      prepared = slots;
-      backed = c.backed;
-      pending = pending;
-      ordered = c.ordered;
-      committed =
-          c.committed;
-      highest = c.highest;
-    }
+    record c { prepared = slots; pending = pending }
 agrees-backed known key d prepares first commits order c slots pending there takes agrees = record {
   rows = agrees.rows;
   prepared = chosen-backed same_pair known key d prepares _ first _ _ _ _ _ _ knows (λ k e. refl)
@@ -504,15 +468,7 @@ pub agrees-committed : (known : List (List (List ℕ))) (s : ℕ) (d : List ℕ)
     true ≡ is_some (get bytes_eq c.rows d) → TakesOrder (nat_eq s) d c.ordered orders →
     Agrees known prepares first commits order c →
     Agrees known prepares first (with_quorum nat_eq s d commits) (with_choice nat_eq s d known order)
-    record {
-      rows = c.rows;
-      prepared = c.prepared;
-      backed = c.backed;
-      pending = c.pending;
-      ordered = orders;
-      committed = c.committed;
-      highest = highest;
-    }
+    record c { ordered = orders; highest = highest }
 agrees-committed known s d prepares first commits order c orders highest there takes agrees = record {
   rows = agrees.rows;
   prepared = agrees.prepared;
@@ -540,8 +496,8 @@ agrees-pending known q prepares first commits order c after absent place pushed 
       rows = rw rows_are agrees.rows;
       prepared = rw (slots_are, backed_are) agrees.prepared;
       least = λ k. rw slots_are (agrees.least k);
-      ordered = rw orders_are (chosen-waits nat_eq known q.s q.digest commits _ order _ _ _ (order_waits after.committed)
-          _ _ _ unknown (λ k e. refl)
+      ordered = rw orders_are (chosen-waits nat_eq known q.s q.digest commits _ order _ _ _
+          (order_waits after.committed) _ _ _ unknown (λ k e. refl)
           (λ k. ap (λ b. or_else (order k) (cond (nat_eq q.s k && b) (Some q.digest) None)) unknown
           ∙ ap (λ b. or_else (order k) (cond b (Some q.digest) None)) (and-false (nat_eq q.s k))
           ∙ or_else-none (order k))

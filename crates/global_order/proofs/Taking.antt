@@ -154,118 +154,134 @@ choices-none g facts x c novote rows agrees =
     (λ s. sym (or_else-none (ordered_in g facts s))) agrees))
 
 -- whether a quorum is new, from what there was and is
+abbrev Newly : Bool → Bool → Bool → Type 0
+Newly had has is_new = cond is_new ((has ≡ true) × (had ≡ false)) (has ≡ had)
+
 newly : (had has : Bool) → (had ≡ true → has ≡ true) → (is_new : Bool) → is_new ≡ (has && not had) →
-    cond is_new ((has ≡ true) × (had ≡ false)) (has ≡ had)
-newly true true keeps is_new e = subst (λ b. cond b ((true ≡ true) × (true ≡ false)) (true ≡ true)) (sym e) refl
-newly false false keeps is_new e = subst (λ b. cond b ((false ≡ true) × (false ≡ false)) (false ≡ false)) (sym e) refl
-newly false true keeps is_new e =
-    subst (λ b. cond b ((true ≡ true) × (false ≡ false)) (true ≡ false)) (sym e) (refl, refl)
+    Newly had has is_new
+newly true true keeps is_new e = subst (Newly true true) (sym e) refl
+newly false false keeps is_new e = subst (Newly false false) (sym e) refl
+newly false true keeps is_new e = subst (Newly false true) (sym e) (refl, refl)
 newly true false keeps is_new e = absurd (true≢false (sym (keeps refl)))
 
+newly-voted : {F : Type 0} (g : Group) (q : ℕ) (vote : ℕ → OrderFact → Option F) (facts : List OrderFact)
+    (x : OrderFact) (before after : ℕ) (is_new : Bool) → g.q ≡ q → nat_le g.q before ≡ is_voted g vote facts →
+    nat_le g.q after ≡ is_voted g vote (facts ++ x ∷ []) → is_new ≡ (nat_le q after && not (nat_le q before)) →
+    Newly (is_voted g vote facts) (is_voted g vote (facts ++ x ∷ [])) is_new
+newly-voted g q vote facts x before after is_new same was_is now_is test =
+    newly (is_voted g vote facts) (is_voted g vote (facts ++ x ∷ [])) (voted-stays g vote facts x) is_new
+    (test ∙ ap (λ m. nat_le m after && not (nat_le m before)) (sym same)
+    ∙ (λ i. now_is i && not (was_is i)))
+
+-- Only this digest may newly be backed, and only at this key: what `backs` says before and `now` after it.
+record IsApart (K : Type 0) (same : K → K → Bool) (key : K) (digest : List ℕ) (backs now : K → List ℕ → Bool) :
+    Type 0 where
+  one : (k : K) → same key k ≡ true → key ≡ k
+  apart : (k : K) (d : List ℕ) → (same key k && bytes_eq digest d) ≡ false → now k d ≡ backs k d
+
+at-key : {K : Type 0} {same : K → K → Bool} {key : K} {digest : List ℕ} {backs now : K → List ℕ → Bool}
+    (P : K → List ℕ → Type 0) → IsApart K same key digest backs now → (k : K) (d : List ℕ) →
+    (same key k && bytes_eq digest d) ≡ true → P key digest → P k d
+at-key {K} {same} {key} {digest} P is k d e p =
+    let both : (same key k ≡ true) × (bytes_eq digest d ≡ true) = and-parts (same key k) (bytes_eq digest d) e in
+    subst (P k) (bytes-same digest d both.1) (subst (λ (y : K). P y digest) (is.one k both.0) p)
+
+-- if it isn't, all is as it was
+backed-same : {K : Type 0} {same : K → K → Bool} {key : K} {digest : List ℕ} {backs now : K → List ℕ → Bool} →
+    IsApart K same key digest backs now → now key digest ≡ backs key digest → (k : K) (d : List ℕ) →
+    now k d ≡ backs k d
+backed-same {K} {same} {key} {digest} {backs} {now} is here k d = by (same key k && bytes_eq digest d) refl
+  where
+    by : (b : Bool) → (same key k && bytes_eq digest d) ≡ b → now k d ≡ backs k d
+    by true e = at-key (λ (y : K) (z : List ℕ). now y z ≡ backs y z) is k d e here
+    by false e = is.apart k d e
+
+-- if it is, it is backed too, and chosen there where its rows are known and nothing was
+backed-more : {K : Type 0} {same : K → K → Bool} {key : K} {digest : List ℕ} {backs now : K → List ℕ → Bool} →
+    IsApart K same key digest backs now → now key digest ≡ true → (k : K) (d : List ℕ) →
+    with_quorum same key digest backs k d ≡ now k d
+backed-more {K} {same} {key} {digest} {backs} {now} is there k d = by (same key k && bytes_eq digest d) refl
+  where
+    either : (b : Bool) → (b || true) ≡ true
+    either true = refl
+    either false = refl
+
+    by : (here : Bool) → (same key k && bytes_eq digest d) ≡ here → (backs k d || here) ≡ now k d
+    by true e = either (backs k d) ∙ sym (at-key (λ (y : K) (z : List ℕ). now y z ≡ true) is k d e there)
+    by false e = or-false (backs k d) ∙ sym (is.apart k d e)
+
+chosen-more : {K : Type 0} {same : K → K → Bool} {key : K} {digest : List ℕ} {backs now : K → List ℕ → Bool}
+    (known : List (List (List ℕ))) (first chosen : K → Option (List ℕ)) →
+    IsApart K same key digest backs now → now key digest ≡ true →
+    ((k : K) → ((d : List ℕ) → now k d ≡ backs k d) → chosen k ≡ first k) →
+    ((k : K) (d : List ℕ) → now k d ≡ true → ((e : List ℕ) → bytes_eq d e ≡ false → now k e ≡ backs k e) →
+    chosen k ≡ or_else (first k) (cond (is_known known d) (Some d) None)) →
+    (k : K) → with_choice same key digest known first k ≡ chosen k
+chosen-more {K} {same} {key} {digest} {backs} {now} known first chosen is there as_was taken k =
+    by (same key k) refl
+  where
+    by : (here : Bool) → same key k ≡ here →
+        or_else (first k) (cond (here && is_known known digest) (Some digest) None) ≡ chosen k
+    by false e =
+        or_else-none (first k) ∙ sym (as_was k (λ d. is.apart k d (ap (λ b. b && bytes_eq digest d) e)))
+    by true e = sym (taken k digest (subst (λ (y : K). now y digest ≡ true) (is.one k e) there)
+        (λ d other. is.apart k d (ap (λ b. b && bytes_eq digest d) e ∙ other)))
+
 -- a prepare
+abbrev TakesPrepared : Signed Prepare → Choices → Choices → Type 0
+TakesPrepared x c now = (known : List (List (List ℕ))) (prepares : ℕ × ℕ → List ℕ → Bool)
+    (first : ℕ × ℕ → Option (List ℕ)) (commits : ℕ → List ℕ → Bool) (order : ℕ → Option (List ℕ)) →
+    Agrees known prepares first commits order c →
+    Agrees known (with_quorum same_pair (x.body.v, x.body.s) x.body.digest prepares)
+    (with_choice same_pair (x.body.v, x.body.s) x.body.digest known first) commits order now
+
 pub choices-prepare : (g : Group) (n q : ℕ) (facts : List OrderFact) (x : Signed Prepare)
     (old new : Map Vote (List ℕ)) (before after : ℕ) (is_new : Bool) (c now : Choices) → HasSizes g n q →
     HasPrepares facts old → HasPrepares (facts ++ fact.Prepare x ∷ []) new →
     before ≡ length (given (vote_at old x.body.v x.body.s x.body.digest) n) →
     after ≡ length (given (vote_at new x.body.v x.body.s x.body.digest) n) →
     is_new ≡ (nat_le q after && not (nat_le q before)) →
-    OnTrue is_new ((known : List (List (List ℕ))) (prepares : ℕ × ℕ → List ℕ → Bool) (first : ℕ × ℕ → Option (List ℕ))
-    (commits : ℕ → List ℕ → Bool) (order : ℕ → Option (List ℕ)) → Agrees known prepares first commits order c →
-    Agrees known (with_quorum same_pair (x.body.v, x.body.s) x.body.digest prepares)
-    (with_choice same_pair (x.body.v, x.body.s) x.body.digest known first) commits order now) →
-    OnFalse is_new (now ≡ c) → HasChoices g facts c → HasChoices g (facts ++ fact.Prepare x ∷ []) now
+    OnTrue is_new (TakesPrepared x c now) → OnFalse is_new (now ≡ c) →
+    HasChoices g facts c → HasChoices g (facts ++ fact.Prepare x ∷ []) now
 choices-prepare g n q facts x old new before after is_new c now sizes has_old has_new before_is after_is
     test on_new on_old agrees =
-    by is_new (newly had has (voted-stays g (prepare_by x.body.v x.body.s x.body.digest) facts (fact.Prepare x))
-    is_new (test ∙ (λ i. now_is i && not (was_is i)))) on_new on_old
+    by is_new (newly-voted g q (prepare_by x.body.v x.body.s x.body.digest) facts (fact.Prepare x) before after is_new
+    sizes.quorum
+    (ap (nat_le g.q) before_is
+    ∙ prepares-quorum g n facts old x.body.v x.body.s x.body.digest sizes.masters has_old)
+    (ap (nat_le g.q) after_is
+    ∙ prepares-quorum g n with_one new x.body.v x.body.s x.body.digest sizes.masters has_new) test) on_new on_old
   where
-    had : Bool
-    had = is_voted g (prepare_by x.body.v x.body.s x.body.digest) facts
+    with_one : List OrderFact
+    with_one = facts ++ fact.Prepare x ∷ []
 
-    has : Bool
-    has = is_voted g (prepare_by x.body.v x.body.s x.body.digest) (facts ++ fact.Prepare x ∷ [])
-
-    was_is : nat_le q before ≡ is_voted g (prepare_by x.body.v x.body.s x.body.digest) facts
-    was_is = (λ i. nat_le (sym sizes.quorum i) (before_is i)) ∙ prepares-quorum g n facts old x.body.v x.body.s
-        x.body.digest sizes.masters has_old
-
-    now_is : nat_le q after ≡ is_voted g (prepare_by x.body.v x.body.s x.body.digest) (facts ++ fact.Prepare x ∷ [])
-    now_is = (λ i. nat_le (sym sizes.quorum i) (after_is i)) ∙ prepares-quorum g n (facts ++ fact.Prepare x ∷ [])
-        new x.body.v x.body.s x.body.digest sizes.masters has_new
-
-    commits : (s : ℕ) (d : List ℕ) → is_committed g (facts ++ fact.Prepare x ∷ []) s d ≡ is_committed g facts s d
+    commits : (s : ℕ) (d : List ℕ) → is_committed g with_one s d ≡ is_committed g facts s d
     commits s d = committed-other g facts (fact.Prepare x) s d (λ v m. refl) refl
 
-    apart : (k : ℕ × ℕ) (d : List ℕ) → (same_pair (x.body.v, x.body.s) k && bytes_eq x.body.digest d) ≡ false →
-        prepares_in g (facts ++ fact.Prepare x ∷ []) k d ≡ prepares_in g facts k d
-    apart k d e = prepares-apart g facts x k.0 k.1 d e
-
-    known : rows_known facts ≡ rows_known (facts ++ fact.Prepare x ∷ [])
+    known : rows_known facts ≡ rows_known with_one
     known = sym (rows_known-push facts (fact.Prepare x) ∙ append-nil (rows_known facts))
 
-    at : (P : ℕ × ℕ → List ℕ → Type 0) (k : ℕ × ℕ) (d : List ℕ) →
-        (same_pair (x.body.v, x.body.s) k && bytes_eq x.body.digest d) ≡ true →
-        P (x.body.v, x.body.s) x.body.digest → P k d
-    at P k d e p =
-        let both : (same_pair (x.body.v, x.body.s) k ≡ true) × (bytes_eq x.body.digest d ≡ true) =
-        and-parts (same_pair (x.body.v, x.body.s) k) (bytes_eq x.body.digest d) e in
-        subst (P k) (bytes-same x.body.digest d both.1)
-        (subst (λ (y : ℕ × ℕ). P y x.body.digest) (same_pair-same (x.body.v, x.body.s) k both.0) p)
+    aside : IsApart (ℕ × ℕ) same_pair (x.body.v, x.body.s) x.body.digest (prepares_in g facts) (prepares_in g with_one)
+    aside = record {
+      one = same_pair-same (x.body.v, x.body.s);
+      apart = λ k d e. prepares-apart g facts x k.0 k.1 d e;
+    }
 
-    by : (b : Bool) → cond b ((is_voted g (prepare_by x.body.v x.body.s x.body.digest) (facts ++ fact.Prepare x ∷ [])
-        ≡ true) × (is_voted g (prepare_by x.body.v x.body.s x.body.digest) facts ≡ false))
-        (is_voted g (prepare_by x.body.v x.body.s x.body.digest) (facts ++ fact.Prepare x ∷ []) ≡ is_voted g
-        (prepare_by x.body.v x.body.s x.body.digest) facts) →
-        OnTrue b ((known : List (List (List ℕ))) (prepares : ℕ × ℕ → List ℕ → Bool) (first : ℕ × ℕ → Option (List ℕ))
-        (commits : ℕ → List ℕ → Bool) (order : ℕ → Option (List ℕ)) → Agrees known prepares first commits order c →
-        Agrees known (with_quorum same_pair (x.body.v, x.body.s) x.body.digest prepares)
-        (with_choice same_pair (x.body.v, x.body.s) x.body.digest known first) commits order now) →
-        OnFalse b (now ≡ c) → HasChoices g (facts ++ fact.Prepare x ∷ []) now
+    by : (b : Bool) → Newly (prepares_in g facts (x.body.v, x.body.s) x.body.digest)
+        (prepares_in g with_one (x.body.v, x.body.s) x.body.digest) b →
+        OnTrue b (TakesPrepared x c now) → OnFalse b (now ≡ c) → HasChoices g with_one now
     by false same on_true on_false =
-        subst (HasChoices g (facts ++ fact.Prepare x ∷ [])) (sym on_false)
-        (agrees-alike _ _ _ _ _ _ _ _ _ _ c known
-        (λ k d. sym (prepares k d (same_pair (x.body.v, x.body.s) k && bytes_eq x.body.digest d) refl))
-        (λ k. sym (prepared-as g facts (fact.Prepare x) k refl
-        (λ d. prepares k d (same_pair (x.body.v, x.body.s) k && bytes_eq x.body.digest d) refl)))
+        subst (HasChoices g with_one) (sym on_false)
+        (agrees-alike _ _ _ _ _ _ _ _ _ _ c known (λ k d. sym (backed-same aside same k d))
+        (λ k. sym (prepared-as g facts (fact.Prepare x) k refl (backed-same aside same k)))
         (λ s d. sym (commits s d)) (λ s. sym (ordered-as g facts (fact.Prepare x) s refl (commits s))) agrees)
-      where
-        prepares : (k : ℕ × ℕ) (d : List ℕ) (here : Bool) →
-            (same_pair (x.body.v, x.body.s) k && bytes_eq x.body.digest d) ≡ here →
-            prepares_in g (facts ++ fact.Prepare x ∷ []) k d ≡ prepares_in g facts k d
-        prepares k d true e = at (λ (y : ℕ × ℕ) (z : List ℕ). prepares_in g (facts ++ fact.Prepare x ∷ [])
-            y z ≡ prepares_in g facts y z) k d e same
-        prepares k d false e = apart k d e
     by true fresh on_true on_false =
-        agrees-alike _ _ _ _ _ _ _ _ _ _ now known
-        (λ k d. prepares k d (same_pair (x.body.v, x.body.s) k && bytes_eq x.body.digest d) refl)
-        (λ k. first k (same_pair (x.body.v, x.body.s) k) refl) (λ s d. sym (commits s d))
-        (λ s. sym (ordered-as g facts (fact.Prepare x) s refl (commits s)))
+        agrees-alike _ _ _ _ _ _ _ _ _ _ now known (backed-more aside fresh.0)
+        (chosen-more (rows_known facts) (prepared_in g facts) (prepared_in g with_one) aside fresh.0
+        (λ k. prepared-as g facts (fact.Prepare x) k refl) (λ k d. prepared-newly g facts (fact.Prepare x) k d refl))
+        (λ s d. sym (commits s d)) (λ s. sym (ordered-as g facts (fact.Prepare x) s refl (commits s)))
         (on_true (rows_known facts) (prepares_in g facts) (prepared_in g facts) (is_committed g facts)
         (ordered_in g facts) agrees)
-      where
-        either : (b : Bool) → (b || true) ≡ true
-        either true = refl
-        either false = refl
-
-        prepares : (k : ℕ × ℕ) (d : List ℕ) (here : Bool) →
-            (same_pair (x.body.v, x.body.s) k && bytes_eq x.body.digest d) ≡ here →
-            (prepares_in g facts k d || here) ≡ prepares_in g (facts ++ fact.Prepare x ∷ []) k d
-        prepares k d true e = either (prepares_in g facts k d)
-            ∙ sym (at (λ (y : ℕ × ℕ) (z : List ℕ). prepares_in g (facts ++ fact.Prepare x ∷ []) y z ≡ true)
-            k d e fresh.0)
-        prepares k d false e = or-false (prepares_in g facts k d) ∙ sym (apart k d e)
-
-        first : (k : ℕ × ℕ) (here : Bool) → same_pair (x.body.v, x.body.s) k ≡ here →
-            or_else (prepared_in g facts k)
-            (cond (here && is_known (rows_known facts) x.body.digest) (Some x.body.digest) None) ≡ prepared_in g
-            (facts ++ fact.Prepare x ∷ []) k
-        first k false e = or_else-none (prepared_in g facts k)
-            ∙ sym (prepared-as g facts (fact.Prepare x) k refl
-            (λ d. apart k d (ap (λ b. b && bytes_eq x.body.digest d) e)))
-        first k true e = sym (prepared-newly g facts (fact.Prepare x) k x.body.digest refl
-            (subst (λ (y : ℕ × ℕ). prepares_in g (facts ++ fact.Prepare x ∷ []) y x.body.digest ≡ true)
-            (same_pair-same (x.body.v, x.body.s) k e) fresh.0)
-            (λ d other. apart k d (ap (λ b. b && bytes_eq x.body.digest d) e ∙ other)))
 
 -- a quorum has a vote, and so the number and digest are committed
 some-given : {X : Type 0} (f : ℕ → Option X) (ns : List ℕ) → 1 ≤ length (filter_map f ns) →
@@ -332,93 +348,76 @@ voted-committed g facts v s d some voted =
     view-there (λ w. is_voted g (commit_by w s d) facts) facts v s d one.0 voted one.1
 
 -- a commit
+abbrev TakesCommitted : Signed Commit → Choices → Choices → Type 0
+TakesCommitted x c now = (known : List (List (List ℕ))) (prepares : ℕ × ℕ → List ℕ → Bool)
+    (first : ℕ × ℕ → Option (List ℕ)) (commits : ℕ → List ℕ → Bool) (order : ℕ → Option (List ℕ)) →
+    Agrees known prepares first commits order c →
+    Agrees known prepares first (with_quorum nat_eq x.body.s x.body.digest commits)
+    (with_choice nat_eq x.body.s x.body.digest known order) now
+
 pub choices-commit : (g : Group) (n q : ℕ) (facts : List OrderFact) (x : Signed Commit) (old new : Map Vote (List ℕ))
     (before after : ℕ) (is_new : Bool) (c now : Choices) → HasSizes g n q → 1 ≤ q → HasCommits facts old →
     HasCommits (facts ++ fact.Commit x ∷ []) new →
     before ≡ length (given (vote_at old x.body.v x.body.s x.body.digest) n) →
     after ≡ length (given (vote_at new x.body.v x.body.s x.body.digest) n) →
     is_new ≡ (nat_le q after && not (nat_le q before)) →
-    OnTrue is_new ((known : List (List (List ℕ))) (prepares : ℕ × ℕ → List ℕ → Bool) (first : ℕ × ℕ → Option (List ℕ))
-    (commits : ℕ → List ℕ → Bool) (order : ℕ → Option (List ℕ)) → Agrees known prepares first commits order c →
-    Agrees known prepares first (with_quorum nat_eq x.body.s x.body.digest commits)
-    (with_choice nat_eq x.body.s x.body.digest known order) now) →
-    OnFalse is_new (now ≡ c) → HasChoices g facts c → HasChoices g (facts ++ fact.Commit x ∷ []) now
+    OnTrue is_new (TakesCommitted x c now) → OnFalse is_new (now ≡ c) →
+    HasChoices g facts c → HasChoices g (facts ++ fact.Commit x ∷ []) now
 choices-commit g n q facts x old new before after is_new c now sizes some has_old has_new before_is after_is
     test on_new on_old agrees =
-    by is_new (newly had has (voted-stays g (commit_by x.body.v x.body.s x.body.digest) facts (fact.Commit x)) is_new
-    (test ∙ (λ i. now_is i && not (was_is i)))) on_new on_old
+    by is_new (newly-voted g q (commit_by x.body.v x.body.s x.body.digest) facts (fact.Commit x) before after is_new
+    sizes.quorum
+    (ap (nat_le g.q) before_is
+    ∙ commits-quorum g n facts old x.body.v x.body.s x.body.digest sizes.masters has_old)
+    (ap (nat_le g.q) after_is
+    ∙ commits-quorum g n with_one new x.body.v x.body.s x.body.digest sizes.masters has_new) test) on_new on_old
   where
-    had : Bool
-    had = is_voted g (commit_by x.body.v x.body.s x.body.digest) facts
-
-    has : Bool
-    has = is_voted g (commit_by x.body.v x.body.s x.body.digest) (facts ++ fact.Commit x ∷ [])
-
-    was_is : nat_le q before ≡ is_voted g (commit_by x.body.v x.body.s x.body.digest) facts
-    was_is = (λ i. nat_le (sym sizes.quorum i) (before_is i))
-        ∙ commits-quorum g n facts old x.body.v x.body.s x.body.digest sizes.masters has_old
-
-    now_is : nat_le q after ≡ is_voted g (commit_by x.body.v x.body.s x.body.digest) (facts ++ fact.Commit x ∷ [])
-    now_is = (λ i. nat_le (sym sizes.quorum i) (after_is i)) ∙ commits-quorum g n (facts ++ fact.Commit x ∷ [])
-        new x.body.v x.body.s x.body.digest sizes.masters has_new
+    with_one : List OrderFact
+    with_one = facts ++ fact.Commit x ∷ []
 
     enough : 1 ≤ g.q
     enough = let same : g.q ≡ q = sizes.quorum in omega arith
 
-    prepares : (k : ℕ × ℕ) (d : List ℕ) → prepares_in g (facts ++ fact.Commit x ∷ []) k d ≡ prepares_in g facts k d
+    prepares : (k : ℕ × ℕ) (d : List ℕ) → prepares_in g with_one k d ≡ prepares_in g facts k d
     prepares k d = voted-other g (prepare_by k.0 k.1 d) facts (fact.Commit x) (λ m. refl)
 
-    known : rows_known facts ≡ rows_known (facts ++ fact.Commit x ∷ [])
+    known : rows_known facts ≡ rows_known with_one
     known = sym (rows_known-push facts (fact.Commit x) ∙ append-nil (rows_known facts))
 
-    views-here : (s : ℕ) (d : List ℕ) → (nat_eq x.body.s s && bytes_eq x.body.digest d) ≡ true →
-        commit_views (facts ++ fact.Commit x ∷ []) s d ≡ commit_views facts s d ++ x.body.v ∷ []
-    views-here s d e = views-push facts (fact.Commit x) s d
-        ∙ ap (λ b. commit_views facts s d ++ cons_option (cond b (Some x.body.v) None) []) e
+    views-here : commit_views with_one x.body.s x.body.digest ≡ commit_views facts x.body.s x.body.digest
+        ++ x.body.v ∷ []
+    views-here = views-push facts (fact.Commit x) x.body.s x.body.digest
+        ∙ ap (λ b. commit_views facts x.body.s x.body.digest ++ cons_option (cond b (Some x.body.v) None) [])
+        (nat_eq-own x.body.s x.body.digest)
 
-    apart : (s : ℕ) (d : List ℕ) → (nat_eq x.body.s s && bytes_eq x.body.digest d) ≡ false →
-        is_committed g (facts ++ fact.Commit x ∷ []) s d ≡ is_committed g facts s d
-    apart s d e = committed-other g facts (fact.Commit x) s d
-        (λ v m. ap (λ b. cond b (Some x) None) (none (nat_eq x.signer m) (nat_eq x.body.v v) (nat_eq x.body.s s)
-        (bytes_eq x.body.digest d) e)) (ap (λ b. cond b (Some x.body.v) None) e)
+    aside : IsApart ℕ nat_eq x.body.s x.body.digest (is_committed g facts) (is_committed g with_one)
+    aside = record {
+      one = nat_eq-same x.body.s;
+      apart = λ s d e. committed-other g facts (fact.Commit x) s d
+          (λ v m. ap (λ b. cond b (Some x) None) (none (nat_eq x.signer m) (nat_eq x.body.v v) (nat_eq x.body.s s)
+          (bytes_eq x.body.digest d) e)) (ap (λ b. cond b (Some x.body.v) None) e);
+    }
       where
         none : (a b h l : Bool) → (h && l) ≡ false → (((a && b) && h) && l) ≡ false
         none false b h l e = refl
         none true false h l e = refl
         none true true h l e = e
 
-    at : (P : ℕ → List ℕ → Type 0) (s : ℕ) (d : List ℕ) → (nat_eq x.body.s s && bytes_eq x.body.digest d) ≡ true →
-        P x.body.s x.body.digest → P s d
-    at P s d e p =
-        let both : (nat_eq x.body.s s ≡ true) × (bytes_eq x.body.digest d ≡ true) =
-        and-parts (nat_eq x.body.s s) (bytes_eq x.body.digest d) e in
-        subst (P s) (bytes-same x.body.digest d both.1)
-        (subst (λ (y : ℕ). P y x.body.digest) (nat_eq-same x.body.s s both.0) p)
-
-    own : (nat_eq x.body.s x.body.s && bytes_eq x.body.digest x.body.digest) ≡ true
-    own = nat_eq-own x.body.s x.body.digest
-
-    by : (b : Bool) → cond b ((is_voted g (commit_by x.body.v x.body.s x.body.digest) (facts ++ fact.Commit x ∷ []) ≡
-        true) × (is_voted g (commit_by x.body.v x.body.s x.body.digest) facts ≡ false))
-        (is_voted g (commit_by x.body.v x.body.s x.body.digest) (facts ++ fact.Commit x ∷ []) ≡ is_voted g
-        (commit_by x.body.v x.body.s x.body.digest) facts) →
-        OnTrue b ((known : List (List (List ℕ))) (prepares : ℕ × ℕ → List ℕ → Bool) (first : ℕ × ℕ → Option (List ℕ))
-        (commits : ℕ → List ℕ → Bool) (order : ℕ → Option (List ℕ)) → Agrees known prepares first commits order c →
-        Agrees known prepares first (with_quorum nat_eq x.body.s x.body.digest commits)
-        (with_choice nat_eq x.body.s x.body.digest known order) now) →
-        OnFalse b (now ≡ c) → HasChoices g (facts ++ fact.Commit x ∷ []) now
+    by : (b : Bool) → Newly (is_voted g (commit_by x.body.v x.body.s x.body.digest) facts)
+        (is_voted g (commit_by x.body.v x.body.s x.body.digest) with_one) b →
+        OnTrue b (TakesCommitted x c now) → OnFalse b (now ≡ c) → HasChoices g with_one now
     by false same on_true on_false =
-        subst (HasChoices g (facts ++ fact.Commit x ∷ [])) (sym on_false)
+        subst (HasChoices g with_one) (sym on_false)
         (agrees-alike _ _ _ _ _ _ _ _ _ _ c known (λ k d. sym (prepares k d))
-        (λ k. sym (prepared-as g facts (fact.Commit x) k refl (prepares k))) (λ s d. sym (commits s d))
-        (λ s. sym (ordered-as g facts (fact.Commit x) s refl (commits s))) agrees)
+        (λ k. sym (prepared-as g facts (fact.Commit x) k refl (prepares k)))
+        (λ s d. sym (backed-same aside here s d))
+        (λ s. sym (ordered-as g facts (fact.Commit x) s refl (backed-same aside here s))) agrees)
       where
         voted : (v : ℕ) (here : Bool) → nat_eq x.body.v v ≡ here →
-            is_voted g (commit_by v x.body.s x.body.digest) (facts ++ fact.Commit x ∷ []) ≡ is_voted g
+            is_voted g (commit_by v x.body.s x.body.digest) with_one ≡ is_voted g
             (commit_by v x.body.s x.body.digest) facts
-        voted v true e = subst (λ (w : ℕ). is_voted g (commit_by w x.body.s x.body.digest)
-            (facts ++ fact.Commit x ∷ []) ≡ is_voted g (commit_by w x.body.s x.body.digest) facts)
-            (nat_eq-same x.body.v v e) same
+        voted v true e = subst (λ (w : ℕ). is_voted g (commit_by w x.body.s x.body.digest) with_one
+            ≡ is_voted g (commit_by w x.body.s x.body.digest) facts) (nat_eq-same x.body.v v e) same
         voted v false e = commits-apart g facts x v x.body.s x.body.digest
             (ap (λ b. (b && nat_eq x.body.s x.body.s) && bytes_eq x.body.digest x.body.digest) e)
 
@@ -428,57 +427,24 @@ choices-commit g n q facts x old new before after is_new c now sizes some has_ol
         last true e = let there : is_committed g facts x.body.s x.body.digest ≡ true =
             voted-committed g facts x.body.v x.body.s x.body.digest enough e in rw there refl
 
-        here : is_committed g (facts ++ fact.Commit x ∷ []) x.body.s x.body.digest ≡ is_committed
-            g facts x.body.s x.body.digest
+        here : is_committed g with_one x.body.s x.body.digest ≡ is_committed g facts x.body.s x.body.digest
         here =
-            ap (list_any (λ v. is_voted g (commit_by v x.body.s x.body.digest) (facts ++ fact.Commit x ∷ [])))
-            (views-here x.body.s x.body.digest own)
+            ap (list_any (λ v. is_voted g (commit_by v x.body.s x.body.digest) with_one)) views-here
             ∙ (λ i. list_any (λ v. voted v (nat_eq x.body.v v) refl i)
             (commit_views facts x.body.s x.body.digest ++ x.body.v ∷ []))
             ∙ list_any-push (λ v. is_voted g (commit_by v x.body.s x.body.digest) facts)
             (commit_views facts x.body.s x.body.digest) x.body.v
             ∙ last (is_voted g (commit_by x.body.v x.body.s x.body.digest) facts) refl
-
-        commits : (s : ℕ) (d : List ℕ) → is_committed g (facts ++ fact.Commit x ∷ []) s d ≡ is_committed g facts s d
-        commits s d = on (nat_eq x.body.s s && bytes_eq x.body.digest d) refl
-          where
-            on : (b : Bool) → (nat_eq x.body.s s && bytes_eq x.body.digest d) ≡ b →
-                is_committed g (facts ++ fact.Commit x ∷ []) s d ≡ is_committed g facts s d
-            on true e = at (λ (y : ℕ) (z : List ℕ). is_committed g (facts ++ fact.Commit x ∷ [])
-                y z ≡ is_committed g facts y z) s d e here
-            on false e = apart s d e
     by true fresh on_true on_false =
         agrees-alike _ _ _ _ _ _ _ _ _ _ now known (λ k d. sym (prepares k d))
-        (λ k. sym (prepared-as g facts (fact.Commit x) k refl (prepares k)))
-        (λ s d. commits s d (nat_eq x.body.s s && bytes_eq x.body.digest d) refl)
-        (λ s. first s (nat_eq x.body.s s) refl)
+        (λ k. sym (prepared-as g facts (fact.Commit x) k refl (prepares k))) (backed-more aside there)
+        (chosen-more (rows_known facts) (ordered_in g facts) (ordered_in g with_one) aside there
+        (λ s. ordered-as g facts (fact.Commit x) s refl) (λ s d. ordered-newly g facts (fact.Commit x) s d refl))
         (on_true (rows_known facts) (prepares_in g facts) (prepared_in g facts) (is_committed g facts)
         (ordered_in g facts) agrees)
       where
-        either : (b : Bool) → (b || true) ≡ true
-        either true = refl
-        either false = refl
-
-        there : is_committed g (facts ++ fact.Commit x ∷ []) x.body.s x.body.digest ≡ true
-        there = voted-committed g (facts ++ fact.Commit x ∷ []) x.body.v x.body.s x.body.digest enough fresh.0
-
-        commits : (s : ℕ) (d : List ℕ) (here : Bool) → (nat_eq x.body.s s && bytes_eq x.body.digest d) ≡ here →
-            (is_committed g facts s d || here) ≡ is_committed g (facts ++ fact.Commit x ∷ []) s d
-        commits s d true e = either (is_committed g facts s d)
-            ∙ sym (at (λ (y : ℕ) (z : List ℕ). is_committed g (facts ++ fact.Commit x ∷ []) y z ≡ true) s d e there)
-        commits s d false e = or-false (is_committed g facts s d) ∙ sym (apart s d e)
-
-        first : (s : ℕ) (here : Bool) → nat_eq x.body.s s ≡ here →
-            or_else (ordered_in g facts s)
-            (cond (here && is_known (rows_known facts) x.body.digest) (Some x.body.digest) None) ≡ ordered_in g
-            (facts ++ fact.Commit x ∷ []) s
-        first s false e = or_else-none (ordered_in g facts s)
-            ∙ sym (ordered-as g facts (fact.Commit x) s refl
-            (λ d. apart s d (ap (λ b. b && bytes_eq x.body.digest d) e)))
-        first s true e = sym (ordered-newly g facts (fact.Commit x) s x.body.digest refl
-            (subst (λ (y : ℕ). is_committed g (facts ++ fact.Commit x ∷ []) y x.body.digest ≡ true)
-            (nat_eq-same x.body.s s e) there)
-            (λ d other. apart s d (ap (λ b. b && bytes_eq x.body.digest d) e ∙ other)))
+        there : is_committed g with_one x.body.s x.body.digest ≡ true
+        there = voted-committed g with_one x.body.v x.body.s x.body.digest enough fresh.0
 
 -- a fact that offers nothing
 pub offers-other : (facts : List OrderFact) (x : OrderFact) (offers : Offers) → ((v : ℕ) → plan_in v x ≡ None) →

@@ -11,9 +11,12 @@ returns-then-contains_key-clause-known c = λ known prepares first commits order
 pub returns-clause-known : goal.returns-clause-known
 returns-clause-known c = λ known prepares first commits order agrees.
     let put = rw c.unwrap.ensures at c.insert.ensures.updates in
-    agrees-new known c.args.rows c.rows_digest-digest.result prepares first commits order c.args.choices.now
-    c.insert.new.self c.settle_slots.new.slots c.settle_orders-choices.new.orders c.settle_slots.new.backed
-    c.settle_orders-choices.new.committed c.settle_slots.new.pending c.settle_orders-choices.result
-    c.rows_digest-digest.ensures c.if-contains_key.ensures put.0 c.settle_slots.ensures.slots
-    c.settle_orders-choices.ensures.orders c.settle_slots.ensures.backed
-    c.settle_orders-choices.ensures.committed agrees
+    agrees-new known c.args.rows c.rows_digest-digest.result prepares first commits order c.args.choices.now _
+    c.rows_digest-digest.ensures record {
+      absent = c.if-contains_key.ensures;
+      put = put.0;
+      slots = c.settle_slots.ensures.slots;
+      orders = c.settle_orders-choices.ensures.orders;
+      slots_left = c.settle_slots.ensures.backed;
+      orders_left = c.settle_orders-choices.ensures.committed;
+    } agrees

@@ -13,16 +13,7 @@ pub returns-clause-agrees : goal.returns-clause-agrees
 returns-clause-agrees c = λ known prepares first commits order agrees.
     agrees-pending known record { v = c.args.v; s = c.args.s; digest = c.args.digest } prepares first
     commits order c.args.choices.now
-    record {
-      rows = c.args.choices.now.rows;
-      prepared = c.args.choices.now.prepared;
-      backed =
-          c.args.choices.now.backed;
-      pending = c.args.choices.now.pending;
-      ordered = c.args.choices.now.ordered;
-      committed = c.put_waiting.new.waiting;
-      highest = c.args.choices.now.highest;
-    }
+    record c.args.choices.now { committed = c.put_waiting.new.waiting }
     c.if-contains_key.ensures c.requires.place c.put_waiting.ensures refl refl refl refl agrees
 
 pub returns-then-contains_key-clause-places : goal.returns-then-contains_key-clause-places

@@ -4,7 +4,8 @@ use Rattle.std.proofs.Common.{◌≡◌, ◌+◌, ◌-◌, ◌≤◌, ◌++◌, 
 use Rattle.std.specs.List.{list_any, flat_map}
 use Rattle.indexmap.specs.IndexMap.{get}
 use Rattle.message_types.specs.declared.body.Body.{Body}
-use Rattle.protocol_rules.specs.Group.{most_number}
+use Rattle.protocol_rules.specs.declared.facts.OrderFact.{OrderFact}
+use Rattle.protocol_rules.specs.Group.{Group, most_number}
 use Rattle.protocol_rules.specs.Words.{numbers_from}
 use Rattle.protocol_rules.specs.Order.{prepares_said, commits_said, prepare_due, prepares_due, commit_due}
 use Rattle.protocol_rules.specs.Order.{commits_due, marks_due, stable}
@@ -19,7 +20,7 @@ use Rattle.global_order.proofs.Saying.{ends-open, ends-closed}
 use Rattle.global_order.proofs.Alike.{choices-alike, inside, keeps-itself, keeps-orders, stays-told, on-err}
 use Rattle.global_order.proofs.Touching.{commit-among, pending-said, prepare-among}
 use Rattle.global_order.proofs.order.Order.due.Goals as goal
-use Rattle.global_order.proofs.order.Order.due.Goals.{then-is_open, else-is_open}
+use Rattle.global_order.proofs.order.Order.due.Goals.{After-pending_in-prepares, then-is_open, else-is_open}
 
 pub overflow_add-end : goal.overflow_add-end
 unfolding most_number
@@ -57,6 +58,17 @@ invariant_of-self-2 c =
       gapless = sound.gapless;
     }
 
+-- up to which number prepares are due
+prepares_end : (c : After-pending_in-prepares) (g : Group) (facts : List OrderFact) →
+    c.self.inside.stable ≡ stable g facts →
+    c.if-is_open.prepares_end - 1 ≡ cond c.args.is_open (stable g facts + 16) 0
+prepares_end c g facts stable_is = elim c.if-is_open.branch [
+  | then-is_open w ↦ ends-open c.if-is_open.prepares_end c.self.inside.stable (stable g facts)
+      c.args.is_open w.if-is_open.true w.prepares_end-is stable_is
+  | else-is_open w ↦ ends-closed c.if-is_open.prepares_end (stable g facts)
+      c.args.is_open w.if-is_open.false w.prepares_end-is
+]
+
 pub returns-clause-due : goal.returns-clause-due
 returns-clause-due c g facts said is =
     let a = c.self.inside in
@@ -70,12 +82,8 @@ returns-clause-due c g facts said is =
     let commits_pending = c.pending_in-commits.ensures.pending (said_in a.told.commits)
     (holds_prepared a.choices.prepared) held.commits_pending in
     let count : a.stable + 16 + 1 - 1 ≡ stable g facts + 16 = omega arith in
-    let ends : c.if-is_open.prepares_end - 1 ≡ cond c.args.is_open (stable g facts + 16) 0 = elim c.if-is_open.branch [
-      | then-is_open w ↦ ends-open c.if-is_open.prepares_end a.stable (stable g facts)
-          c.args.is_open w.if-is_open.true w.prepares_end-is stable_is
-      | else-is_open w ↦ ends-closed c.if-is_open.prepares_end (stable g facts)
-          c.args.is_open w.if-is_open.false w.prepares_end-is
-    ] in
+    let ends : c.if-is_open.prepares_end - 1 ≡ cond c.args.is_open (stable g facts + 16) 0 =
+    prepares_end (goal.at.returns-clause-due c).After-pending_in-prepares g facts stable_is in
     joined c.new-bodies.result.items c.push_pending_prepares.new.bodies.items c.push_pending_commits.new.bodies.items
     c.push_marks.new.bodies.items _ _ _ c.new-bodies.ensures.items
     (c.in_ok-push_pending_prepares.ensures facts said held.offers held.prepares_said prepares_pending
@@ -105,12 +113,8 @@ returns-clause-said c g facts said is =
     let commits_pending = c.pending_in-commits.ensures.pending (said_in a.told.commits)
     (holds_prepared a.choices.prepared) held.commits_pending in
     let count : a.stable + 16 + 1 - 1 ≡ stable g facts + 16 = omega arith in
-    let ends : c.if-is_open.prepares_end - 1 ≡ cond c.args.is_open (stable g facts + 16) 0 = elim c.if-is_open.branch [
-      | then-is_open w ↦ ends-open c.if-is_open.prepares_end a.stable (stable g facts)
-          c.args.is_open w.if-is_open.true w.prepares_end-is stable_is
-      | else-is_open w ↦ ends-closed c.if-is_open.prepares_end (stable g facts)
-          c.args.is_open w.if-is_open.false w.prepares_end-is
-    ] in
+    let ends : c.if-is_open.prepares_end - 1 ≡ cond c.args.is_open (stable g facts + 16) 0 =
+    prepares_end (goal.at.returns-clause-said c).After-pending_in-prepares g facts stable_is in
     let all : c.push_marks.new.bodies.items ≡ bodies_due g facts said c.args.view c.args.is_open =
     returns-clause-due c g facts said is in
     let bodies : List Body = c.push_marks.new.bodies.items in

@@ -7,10 +7,9 @@ use Rattle.protocol_rules.specs.declared.facts.OrderFact.TheVariants as fact
 use Rattle.protocol_rules.proofs.LimitValues.{most_number-is}
 use Rattle.global_order.specs.OrderState.{IsOrderOf}
 use Rattle.global_order.specs.Held.{state_of}
-use Rattle.global_order.specs.Unsaid.{said_in}
 use Rattle.global_order.proofs.Alike.{Listed, alike-itself, inside, listed, sound-alike, stays-alike, on-err}
-use Rattle.global_order.proofs.Taking.{choices-none, offers-other, stable-mark, raised-limit}
-use Rattle.global_order.proofs.Touching.{pending-other}
+use Rattle.global_order.proofs.Handed.{vote-told}
+use Rattle.global_order.proofs.Taking.{choices-none, stable-mark, raised-limit}
 use Rattle.global_order.proofs.Viewing.{views-other}
 use Rattle.global_order.proofs.Voting.{prepares-other, commits-other, marks-push}
 use Rattle.global_order.proofs.order.Order.take_mark.Goals as goal
@@ -55,29 +54,16 @@ returns-clause-taken c = λ low g facts said is.
     let x : OrderFact = fact.Mark c.args.frame.now in
     let new_marks = marks-push facts c.args.frame.now a.marks c.note_mark.new.marks
     c.in_ok-note_mark.ensures.noted held.marks in
-    record {
-      sizes = held.sizes;
-      prepares = prepares-other facts x a.prepares (λ v s d m. refl) held.prepares;
-      commits = commits-other facts x a.commits (λ v s d m. refl) held.commits;
-      marks = new_marks;
-      choices = choices-none g facts x a.choices record {
-        prepare = λ v s d m. refl;
-        commit = λ v s d m. refl;
-        view =
-            λ s d. refl;
-      } refl held.choices;
-      views = views-other g facts x a.views (λ v s d m. refl) (λ s d. refl) held.views;
-      offers = offers-other facts x a.offers (λ v. refl) (λ v s. refl) held.offers;
-      prepares_said = held.prepares_said;
-      commits_said = held.commits_said;
-      marked = held.marked;
-      stable = stable-mark g a.sizes.n a.sizes.q facts c.args.frame.now c.note_mark.new.marks
-          c.count_marks-count.result a.stable c.raised-self-inside.result held.sizes new_marks
-          c.count_marks-count.ensures held.stable c.raised-self-inside.ensures;
-      prepares_pending = pending-other (said_in a.told.prepares) facts x a.offers.pending (λ v. refl)
-          (λ v s. refl) held.prepares_pending;
-      commits_pending = held.commits_pending;
-    }
+    vote-told g (state_of a) a.prepares a.commits c.note_mark.new.marks a.choices a.views c.raised-self-inside.result
+    facts said x (λ v. refl) (λ v s. refl)
+    (prepares-other facts x a.prepares (λ v s d m. refl) held.prepares)
+    (commits-other facts x a.commits (λ v s d m. refl) held.commits) new_marks
+    (choices-none g facts x a.choices
+    record { prepare = λ v s d m. refl; commit = λ v s d m. refl; view = λ s d. refl } refl held.choices)
+    (views-other g facts x a.views (λ v s d m. refl) (λ s d. refl) held.views)
+    (stable-mark g a.sizes.n a.sizes.q facts c.args.frame.now c.note_mark.new.marks
+    c.count_marks-count.result a.stable c.raised-self-inside.result held.sizes new_marks
+    c.count_marks-count.ensures held.stable c.raised-self-inside.ensures) held.commits_pending held
 
 pub returns-clause-passed : goal.returns-clause-passed
 returns-clause-passed c = λ high. let limit : most_number ≡ 4096 = most_number-is in

@@ -1,29 +1,34 @@
 -- The rows become known, and what waited for them is settled. No vote and no offer changes. Where memory ran
 -- out only room was made.
-use Rattle.std.proofs.Common.{refl, sym, ◌∙◌, arith, nat_eq}
-use Rattle.indexmap.specs.IndexMap.{get}
+use Rattle.std.proofs.Common.{refl}
 use Rattle.protocol_rules.specs.declared.facts.OrderFact.{OrderFact}
 use Rattle.protocol_rules.specs.declared.facts.OrderFact.TheVariants as fact
-use Rattle.global_order.specs.Index.{order_in}
 use Rattle.global_order.specs.OrderState.{IsOrderOf}
 use Rattle.global_order.specs.Held.{state_of}
 use Rattle.global_order.specs.Unsaid.{said_in}
-use Rattle.global_order.proofs.Alike.{alike-rows, choices-alike, inside, sound-alike, stays-alike, on-err}
-use Rattle.global_order.proofs.Runs.{reaches-still}
-use Rattle.global_order.proofs.Taking.{choices-row, offers-other, stable-no_mark}
+use Rattle.global_order.specs.declared.choices.Choices.{Choices}
+use Rattle.global_order.proofs.Alike.{AreAlike, alike-rows, choices-alike, inside, sound-alike, stays-alike, on-err}
+use Rattle.global_order.proofs.Handed.{rows-told, sound-grown}
+use Rattle.global_order.proofs.Taking.{IsNoVote, choices-row, offers-other}
 use Rattle.global_order.proofs.Touching.{pending-other}
-use Rattle.global_order.proofs.Viewing.{views-other}
-use Rattle.global_order.proofs.Voting.{prepares-other, commits-other, marks-other}
+use Rattle.global_order.proofs.order.Order.take_rows.Goals.{After-reserve}
 use Rattle.global_order.proofs.order.Order.take_rows.Goals as goal
 
+-- the choices with room for the rows
+abbrev roomier : After-reserve → Choices
+roomier c = record c.self.inside.choices { rows = c.reserve.new.self }
+
+room_made : (c : After-reserve) → AreAlike c.self.inside.choices (roomier c)
+room_made c = alike-rows c.self.inside.choices c.reserve.new.self c.reserve.ensures.entries
+
 pub invariant_of-self : goal.invariant_of-self
-invariant_of-self c = sound-alike c.self.inside _ refl refl
-    (alike-rows c.self.inside.choices c.reserve.new.self c.reserve.ensures.entries) c.self.invariant
+invariant_of-self c = sound-alike c.self.inside _ refl refl (room_made (goal.at.invariant_of-self c).After-reserve)
+    c.self.invariant
 
 pub returns-in_err-reserve-clause-refused : goal.returns-in_err-reserve-clause-refused
 returns-in_err-reserve-clause-refused c =
     on-err c.from_residual-in_err-reserve.result (stays-alike c.self.inside c.args.self.now _ c.self.view_is refl
-    (alike-rows c.self.inside.choices c.reserve.new.self c.reserve.ensures.entries))
+    (room_made (goal.at.returns-in_err-reserve-clause-refused c).After-reserve))
 
 pub learn-requires-clause-places : goal.learn-requires-clause-places
 learn-requires-clause-places c =
@@ -31,18 +36,9 @@ learn-requires-clause-places c =
 
 pub invariant_of-self-2 : goal.invariant_of-self-2
 invariant_of-self-2 c =
-    let a = c.self.inside in
-    let sound = c.self.invariant in
-    record {
-      places = c.learn.ensures.places;
-      fit = sound.fit;
-      marked = omega (arith, sound.marked, c.run_end-self-inside.ensures.grows);
-      stable = sound.stable;
-      highest = c.learn.ensures.highest sound.highest;
-      gapless = c.run_end-self-inside.ensures.reaches
-          (reaches-still (λ s. order_in (get nat_eq a.choices.ordered s))
-          (λ s. order_in (get nat_eq c.learn.new.choices.ordered s)) a.gapless c.learn.ensures.grow sound.gapless);
-    }
+    sound-grown c.self.inside _ refl refl c.learn.ensures.places c.self.invariant.fit
+    (c.learn.ensures.highest c.self.invariant.highest) c.learn.ensures.grow c.run_end-self-inside.ensures.grows
+    c.run_end-self-inside.ensures.reaches c.self.invariant
 
 pub returns-clause-taken : goal.returns-clause-taken
 returns-clause-taken c g facts said is =
@@ -50,28 +46,12 @@ returns-clause-taken c g facts said is =
     let held : IsOrderOf g (state_of c.self.inside) facts said =
     inside c.self.inside c.args.self.now c.self.view_is g facts said is in
     let x : OrderFact = fact.Rows c.args.rows.now in
-    record {
-      sizes = held.sizes;
-      prepares = prepares-other facts x a.prepares (λ v s d m. refl) held.prepares;
-      commits = commits-other facts x a.commits (λ v s d m. refl) held.commits;
-      marks = marks-other facts x a.marks (λ s m. refl) held.marks;
-      choices = choices-row g facts x c.args.rows.now c.learn.new.choices record {
-        prepare = λ v s d m. refl;
-        commit =
-            λ v s d m. refl;
-        view = λ s d. refl;
-      } refl
-          (rw c.in_ok-known.ensures at
-          (c.learn.ensures.known _ _ _ _ _
-          (choices-alike _ _ _ _ _ a.choices _ (alike-rows a.choices c.reserve.new.self c.reserve.ensures.entries)
-          held.choices)));
-      views = views-other g facts x a.views (λ v s d m. refl) (λ s d. refl) held.views;
-      offers = offers-other facts x a.offers (λ v. refl) (λ v s. refl) held.offers;
-      prepares_said = held.prepares_said;
-      commits_said = held.commits_said;
-      marked = held.marked;
-      stable = held.stable ∙ sym (stable-no_mark g facts x (λ s m. refl));
-      prepares_pending = pending-other (said_in a.told.prepares) facts x a.offers.pending (λ v. refl)
-          (λ v s. refl) held.prepares_pending;
-      commits_pending = c.learn.ensures.pending (said_in a.told.commits) held.commits_pending;
-    }
+    let no_vote : IsNoVote x =
+    record { prepare = λ v s d m. refl; commit = λ v s d m. refl; view = λ s d. refl } in
+    rows-told g (state_of a) c.learn.new.choices a.offers facts said x no_vote (λ s m. refl)
+    (choices-row g facts x c.args.rows.now c.learn.new.choices no_vote refl
+    (rw c.in_ok-known.ensures at (c.learn.ensures.known _ _ _ _ _
+    (choices-alike _ _ _ _ _ a.choices _ (room_made (goal.at.returns-clause-taken c).After-reserve) held.choices))))
+    (offers-other facts x a.offers (λ v. refl) (λ v s. refl) held.offers)
+    (pending-other (said_in a.told.prepares) facts x a.offers.pending (λ v. refl) (λ v s. refl) held.prepares_pending)
+    (c.learn.ensures.pending (said_in a.told.commits) held.commits_pending) held
