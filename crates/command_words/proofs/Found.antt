@@ -3,7 +3,6 @@
 use Rattle.std.proofs.Common.{◌≡◌, ◌≢◌, ℕ, Bool, true, false, refl, ap, sym, ◌∙◌, List, Option}
 use Rattle.std.proofs.Common.{Some, None, Result, Ok, Err, arith, option_map}
 use Rattle.std.specs.Prelude.{option_and_then, unwrap_or}
-use Rattle.std.specs.Borrow.{Bor}
 use Rattle.std.specs.Box.{box_value}
 use Rattle.std.specs.Str.{bytes_eq}
 use Rattle.std.proofs.lemmas.Slice.Eq.{bytes_eq-Decides}
@@ -13,10 +12,10 @@ use Rattle.clap.specs.Matches.{ReadsOne}
 use Rattle.clap.specs.ValueTests.{is_unsigned_in}
 use Rattle.clap.specs.declared.builder.value_parser.ValueParser.TheVariants as vp
 use Rattle.clap.proofs.ValueTestLemmas.{Accepts-accepts, accepts-Accepts}
-use Rattle.clap.specs.Words.{first_of, found_of, rows_of, subcommand_rows_of}
+use Rattle.clap.specs.Words.{found_of, rows_of, subcommand_rows_of}
 use Rattle.clap.specs.declared.parser.matches.ArgMatches.{ArgMatches}
 use Rattle.clap.specs.declared.parser.matches.ArgMatches.TheViews.{out-ArgMatches, out-SubCommand}
-use Rattle.command_words.specs.Wanted.{Wanted, asked_in, command_in, number_in, number_of}
+use Rattle.command_words.specs.Wanted.{Wanted, asked_in, command_in, number_in}
 
 pub number_read : (E : Type 0) (G : Text → Result ℕ E → Type 0) (t : Text) (r : Option ℕ)
     → ((u : Text) (x : Result ℕ E) → G u x → ParsesUnsigned 32 10 u x) → ReadsOne G t r → r ≡ number_in t
@@ -39,17 +38,6 @@ pub number_found : (E : Type 0) (G : Text → Result ℕ E → Type 0) (o : Opti
     → ((t : Text) → o ≡ Some t → ReadsOne G t r) → r ≡ option_and_then number_in o
 number_found E G None r only none some = none refl
 number_found E G (Some t) r only none some = number_read E G t r only (some t refl)
-
--- ---- A value by its name, as a call read it: there, or missing.
-
-pub text_read : (found : ArgMatches) (name : Text) (o r : Option (Bor Text))
-    → option_map (λ (s : Bor Text). s.now) o ≡ first_of name (rows_of (found_of found)) → o ≡ r
-    → first_of name (rows_of (found_of found)) ≡ option_map (λ (s : Bor Text). s.now) r
-text_read found name o r is was = sym is ∙ ap (option_map (λ (s : Bor Text). s.now)) was
-
-pub value_read : (found : ArgMatches) (name : Text) (o r : Option ℕ) → o ≡ number_of name (rows_of (found_of found))
-    → o ≡ r → number_of name (rows_of (found_of found)) ≡ r
-value_read found name o r is was = sym is ∙ was
 
 -- ---- The subcommand that `clap` found.
 
