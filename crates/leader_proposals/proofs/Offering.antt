@@ -294,12 +294,12 @@ settled-record g facts p new settled reached e is =
 -- The same in the words of the code: the present view, whether the master leads it and whether it is opened are told.
 
 allowed-is : (g : Group) (me : ℕ) (known : List (Signed Body)) (facts : List OrderFact) (at_tick leads opened : Bool)
-    (v : ℕ) (plan : Plan) → v ≡ view g known → opened ≡ is_open g known → leads ≡ nat_eq me (leader_of g v) →
-    Some plan ≡ cond (at_tick && leads && opened) (plan_known facts v) None →
+    (v : ℕ) (o : Option Plan) → v ≡ view g known → opened ≡ is_open g known → leads ≡ nat_eq me (leader_of g v) →
+    o ≡ cond (at_tick && leads && opened) (plan_known facts v) None →
     cond (at_tick && nat_eq me (leader_of g (view g known)) && is_open g known)
-    (plan_known facts (view g known)) None ≡ Some plan
-allowed-is g me known facts at_tick leads opened v plan view_is open_is leads_is some =
-    sym (some ∙ ap (λ b. cond (at_tick && b && opened) (plan_known facts v) None)
+    (plan_known facts (view g known)) None ≡ o
+allowed-is g me known facts at_tick leads opened v o view_is open_is leads_is told =
+    sym (told ∙ ap (λ b. cond (at_tick && b && opened) (plan_known facts v) None)
     (leads_is ∙ ap (λ n. nat_eq me (leader_of g n)) view_is)
     ∙ ap (λ b. cond (at_tick && nat_eq me (leader_of g (view g known)) && b) (plan_known facts v) None) open_is
     ∙ ap (λ n. cond (at_tick && nat_eq me (leader_of g (view g known)) && is_open g known) (plan_known facts n) None)
@@ -317,11 +317,7 @@ pub unplanned-due : (g : Group) (me : ℕ) (known : List (Signed Body)) (facts :
     [] ≡ preprepares_due g me known facts said at_tick
 unplanned-due g me known facts said at_tick leads opened v view_is open_is leads_is none =
     by at_tick (nat_eq me (leader_of g (view g known))) (is_open g known) (plan_known facts (view g known))
-    (sym (none ∙ ap (λ b. cond (at_tick && b && opened) (plan_known facts v) None)
-    (leads_is ∙ ap (λ n. nat_eq me (leader_of g n)) view_is)
-    ∙ ap (λ b. cond (at_tick && nat_eq me (leader_of g (view g known)) && b) (plan_known facts v) None) open_is
-    ∙ ap (λ n. cond (at_tick && nat_eq me (leader_of g (view g known)) && is_open g known) (plan_known facts n) None)
-    view_is))
+    (allowed-is g me known facts at_tick leads opened v None view_is open_is leads_is none)
   where
     by : (t l o : Bool) (p : Option Plan) → cond (t && l && o) p None ≡ None → [] ≡ offer_by g known facts said t l o p
     by t l o None e = refl
@@ -340,7 +336,7 @@ pub nothing-due : (g : Group) (me : ℕ) (known : List (Signed Body)) (facts : L
 nothing-due g me known facts said at_tick leads opened v plan p stable_number view_is open_is leads_is
     some here is stable_is none =
     due-beyond g me known facts said at_tick plan p.greatest stable_number
-    (allowed-is g me known facts at_tick leads opened v plan view_is open_is leads_is some)
+    (allowed-is g me known facts at_tick leads opened v (Some plan) view_is open_is leads_is some)
     (is.greatest ∙ ap (λ n. greatest_of (filter_map (offered_number n) said)) (here ∙ view_is)) stable_is (sym none)
 
 pub answer-due : (g : Group) (me : ℕ) (known : List (Signed Body)) (facts : List OrderFact) (said : List Body)
@@ -358,7 +354,7 @@ answer-due g me known facts said at_tick leads opened v plan p stable_number num
     ap (λ n. option_to_list (option_map (λ frames. body.PrePrepare record { v = n; s = number; frames = frames })
     answer)) view_is
     ∙ due-answer g me known facts said at_tick plan p.greatest stable_number number numbers answer
-    (allowed-is g me known facts at_tick leads opened v plan view_is open_is leads_is some)
+    (allowed-is g me known facts at_tick leads opened v (Some plan) view_is open_is leads_is some)
     (is.greatest ∙ ap (λ n. greatest_of (filter_map (offered_number n) said)) (here ∙ view_is))
     stable_is (sym number_known)
     (ap (plan_known facts) (sym view_is) ∙ plan-allowed (at_tick && leads && opened) (plan_known facts v) plan some) few
