@@ -1,5 +1,5 @@
 -- The second version of a signature is read back from its bytes.
-use Rattle.std.proofs.Common.{◌≡◌, ◌≤◌, ◌<◌, ◌+◌, ◌*◌, ◌/◌, ◌^◌, ℕ, List, ◌++◌, length, take, drop, refl, sym, ap}
+use Rattle.std.proofs.Common.{◌≡◌, ◌≤◌, ◌<◌, ◌+◌, ◌*◌, ◌/◌, ◌^◌, ℕ, List, ◌++◌, length, take, drop, sym, ap}
 use Rattle.std.proofs.Common.{◌∙◌, arith, length-append, append_assoc}
 use Rattle.std.proofs.lemmas.List.{take_at, drop_at}
 use Rattle.byteorder.specs.Endian.{big_number}
@@ -57,6 +57,24 @@ behind place count hashes path signed sig e =
       path_at = at_ten;
     }
 
+pub group_field-length : (place count : ℕ) (path signed : List ℕ)
+    → length (group_field place count path signed) ≡ 10 + length path + length signed
+unfolding group_head group_field
+group_field-length place count path signed =
+    let head = u32_bytes 256 ++ u16_bytes place ++ u16_bytes count ++ u16_bytes (length path / 32) in
+    omega (
+      arith,
+      length-append (head ++ path) signed,
+      length-append head path,
+      length-append (u32_bytes 256 ++ u16_bytes place ++ u16_bytes count) (u16_bytes (length path / 32)),
+      length-append (u32_bytes 256 ++ u16_bytes place) (u16_bytes count),
+      length-append (u32_bytes 256) (u16_bytes place),
+      length-u32_bytes 256,
+      length-u16_bytes place,
+      length-u16_bytes count,
+      length-u16_bytes (length path / 32),
+    )
+
 -- the fields of a second version, read back
 pub record AreRead (place count hashes : ℕ) (path signed sig : List ℕ) : Type 0 where
   pub room : 10 + 32 * hashes ≤ length sig
@@ -76,20 +94,9 @@ group_field-read place count hashes path signed place_fits count_fits hashes_fit
     let number : length path / 32 ≡ hashes = omega arith in
     let at = behind place count hashes path signed sig
     (ap (λ (h : ℕ). u32_bytes 256 ++ u16_bytes place ++ u16_bytes count ++ u16_bytes h ++ path ++ signed) number) in
-    let head = u32_bytes 256 ++ u16_bytes place ++ u16_bytes count ++ u16_bytes (length path / 32) in
+    let len : length sig ≡ 10 + length path + length signed = group_field-length place count path signed in
     record {
-      room = omega (
-        arith,
-        length-append (head ++ path) signed,
-        length-append head path,
-        length-append (u32_bytes 256 ++ u16_bytes place ++ u16_bytes count) (u16_bytes (length path / 32)),
-        length-append (u32_bytes 256 ++ u16_bytes place) (u16_bytes count),
-        length-append (u32_bytes 256) (u16_bytes place),
-        length-u32_bytes 256,
-        length-u16_bytes place,
-        length-u16_bytes count,
-        length-u16_bytes (length path / 32),
-      );
+      room = omega arith;
       mark = ap (big_number 4) at.mark ∙ u32_front 256 (drop 4 sig) (omega arith);
       place_is = ap (big_number 2) at.place_at ∙ u16_front place (drop 6 sig) place_fits;
       count_is = ap (big_number 2) at.count_at ∙ u16_front count (drop 8 sig) count_fits;

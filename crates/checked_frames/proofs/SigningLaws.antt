@@ -1,12 +1,10 @@
 -- What is made of a verified signature signs each text of its group.
-use Rattle.std.proofs.Common.{◌≡◌, ◌≤◌, ◌<◌, ◌+◌, ◌*◌, ◌/◌, ◌^◌, ℕ, zero, suc, Bool, true, false, ◌&&◌, ◌||◌, List}
-use Rattle.std.proofs.Common.{[], ◌∷◌, ◌++◌, length, take, drop, map, get_or, Option, Some, None, refl, sym, ap, ◌∙◌}
-use Rattle.std.proofs.Common.{subst, arith, nat_eq, nat_lt, nat_le, eq-eqb, lt-ltb, le-leb, length-append, inl, inr}
+use Rattle.std.proofs.Common.{◌≡◌, ◌≤◌, ◌<◌, ◌+◌, ◌*◌, ℕ, zero, suc, Bool, true, false, List}
+use Rattle.std.proofs.Common.{[], ◌∷◌, ◌++◌, length, take, drop, map, get_or, Some, None, refl, sym, ap, ◌∙◌}
+use Rattle.std.proofs.Common.{subst, arith, eq-eqb, lt-ltb, le-leb, inl, inr}
 use Rattle.std.specs.Prelude.{slice_get}
 use Rattle.std.specs.List.{list_all}
 use Rattle.std.specs.Option.{option_map_or}
-use Rattle.wire_parts.specs.Fields.{u16_bytes, u32_bytes}
-use Rattle.wire_parts.specs.FieldLaws.{length-u16_bytes, length-u32_bytes}
 use Rattle.std.proofs.lemmas.Bool.{and_from, or_left, or_right, cases_lt}
 use Rattle.std.proofs.lemmas.List.{length-map, get_or-map, get_or_append_left}
 use Rattle.std.proofs.Math.Seq.{get_or-append_seam}
@@ -20,9 +18,9 @@ use Rattle.checked_frames.specs.Groups.{leaf_hash, root_of, path_of, led_to, mos
 use Rattle.checked_frames.specs.Signing.{group_head, group_field, hashes_in, group_verifies, signs_in_group, signs}
 use Rattle.checked_frames.specs.Signing.{signed_message, field_at, group_signatures, EachSigns, field_fits}
 use Rattle.checked_frames.specs.Levels.{levels_up}
-use Rattle.checked_frames.specs.Heads.{head_through}
+use Rattle.checked_frames.specs.Heads.{head_through, IsUnsigned}
 use Rattle.checked_frames.proofs.PathLaws.{AreHashes, AreHashes-leaves, leads_to_root, path_size, path_through_levels}
-use Rattle.checked_frames.proofs.FieldReads.{AreRead, group_field-read}
+use Rattle.checked_frames.proofs.FieldReads.{group_field-length, group_field-read}
 use Rattle.checked_frames.proofs.VerifyingLaws.{verifies-Decides}
 use Rattle.quorum_sets.proofs.Numbered.{length-numbers_below}
 use Rattle.plain_lists.proofs.Lists.{map_map}
@@ -160,36 +158,31 @@ same_fields f g [] same = refl
 same_fields f g (n ∷ numbers) same = ap (λ x. x ∷ map f numbers) (same n)
     ∙ ap (λ xs. g n ∷ xs) (same_fields f g numbers same)
 
--- what is kept and signed for several bodies is what the definitions say of their texts
-pub several_signed : {A : Type 0} (text : A → List ℕ) (bodies : List A) (leaves : List (List ℕ))
+-- several bodies are signed as the definitions say of their texts
+pub several_are : {A : Type 0} (text : A → List ℕ) (bodies : List A) (leaves : List (List ℕ))
     (levels : List (List (List ℕ))) (root message : List ℕ)
-    (heads : List (List ℕ)) (count : ℕ) (key : Key) (m : ℕ) → 2 ≤ length bodies → count ≡ length bodies
+    (heads : List (List ℕ)) (count : ℕ) → 2 ≤ length bodies → count ≡ length bodies
     → leaves ≡ map (λ b. leaf_hash (text b)) bodies → levels ≡ levels_up 5 leaves → root ≡ root_of leaves
     → heads ≡ map (head_through levels count) (numbers_below count) → message ≡ batch_message count root
-    → (signed_behind key m message heads ≡ group_signatures key m (map text bodies))
-    × (message ≡ signed_message (map text bodies))
-unfolding group_signatures
-several_signed text bodies leaves levels root message heads count key m some e_count e_leaves
-    e_levels e_root e_heads e_message =
+    → IsUnsigned (map text bodies) message heads
+several_are text bodies leaves levels root message heads count some e_count e_leaves e_levels e_root e_heads e_message =
     let texts = map text bodies in
     let len = length-map bodies text in
     let over : leaves ≡ map leaf_hash texts = e_leaves ∙ sym (map_map leaf_hash text bodies) in
     let number : count ≡ length texts = omega arith in
     let top : root ≡ root_of (map leaf_hash texts) = e_root ∙ ap root_of over in
-    let whole : message ≡ signed_message texts =
-    e_message ∙ ap (λ (n : ℕ). batch_message n root) number ∙ ap (batch_message (length texts)) top
-    ∙ several_message texts (omega arith) in
-    let signed = signature_at key m (signed_message texts) in
     let head : ℕ → List ℕ = head_through (levels_up 5 (map leaf_hash texts)) (length texts) in
     let at_levels : heads ≡ map head (numbers_below (length texts)) =
     e_heads ∙ ap (λ ls. map (head_through ls count) (numbers_below count)) (e_levels ∙ ap (levels_up 5) over)
     ∙ ap (λ (n : ℕ). map (head_through (levels_up 5 (map leaf_hash texts)) n) (numbers_below n)) number in
-    let fields = same_fields (λ k. head k ++ signed) (field_at texts signed) (numbers_below (length texts))
-    (λ k. several_fields texts signed k (omega arith)) in (
-      ap (λ x. signed_behind key m x heads) whole ∙ ap (λ hs. signed_behind key m (signed_message texts) hs) at_levels
-          ∙ map_map (λ h. h ++ signed) head (numbers_below (length texts)) ∙ fields,
-      whole,
-    )
+    record {
+      message_is = e_message ∙ ap (λ (n : ℕ). batch_message n root) number ∙ ap (batch_message (length texts)) top
+          ∙ several_message texts (omega arith);
+      fields = λ signed. ap (λ hs. map (λ (h : List ℕ). h ++ signed) hs) at_levels
+          ∙ map_map (λ (h : List ℕ). h ++ signed) head (numbers_below (length texts))
+          ∙ same_fields (λ k. head k ++ signed) (field_at texts signed) (numbers_below (length texts))
+          (λ k. several_fields texts signed k (omega arith));
+    }
 
 -- a tree over leaves has a root
 pub first_is_there : {X : Type 0} (xs : List X) → 1 ≤ length xs → None ≡ slice_get xs 0 → ⊥
@@ -197,17 +190,24 @@ first_is_there [] some e = omega arith
 first_is_there (x ∷ xs) some e = cc
 
 -- one body is signed alone, with nothing before the signature
-pub one_signed : {A : Type 0} (text : A → List ℕ) (bodies : List A) (body : A) (message : List ℕ)
-    (heads : List (List ℕ)) (key : Key) (m : ℕ)
+pub one_is : {A : Type 0} (text : A → List ℕ) (bodies : List A) (body : A) (message : List ℕ) (heads : List (List ℕ))
     → length bodies ≡ 1 → body ≡ get_or bodies 0 body → heads ≡ [] ∷ [] → message ≡ text body
-    → (signed_behind key m message heads ≡ group_signatures key m (map text bodies))
-    × (message ≡ signed_message (map text bodies))
-unfolding group_signatures numbers_below
-one_signed text [] body message heads key m one is e_heads e = absurd (omega arith)
-one_signed text (b ∷ []) body message heads key m one is e_heads e =
-    let whole : message ≡ text b = e ∙ ap text is in
-    (ap (λ hs. signed_behind key m message hs) e_heads ∙ ap (λ x. signature_at key m x ∷ []) whole, whole)
-one_signed text (b ∷ next ∷ rest) body message heads key m one is e_heads e = absurd (omega arith)
+    → IsUnsigned (map text bodies) message heads
+unfolding numbers_below
+one_is text [] body message heads one is e_heads e = absurd (omega arith)
+one_is text (b ∷ []) body message heads one is e_heads e = record {
+  message_is = e ∙ ap text is;
+  fields = λ signed. ap (λ hs. map (λ (h : List ℕ). h ++ signed) hs) e_heads;
+}
+one_is text (b ∷ next ∷ rest) body message heads one is e_heads e = absurd (omega arith)
+
+-- a key's signature of the message, put behind the heads, makes the fields of the group
+pub group_signed : (texts : List (List ℕ)) (message : List ℕ) (heads : List (List ℕ)) (key : Key) (m : ℕ) →
+    IsUnsigned texts message heads → signed_behind key m message heads ≡ group_signatures key m texts
+unfolding group_signatures
+group_signed texts message heads key m is =
+    is.fields (signature_at key m message)
+    ∙ ap (λ x. map (field_at texts (signature_at key m x)) (numbers_below (length texts))) is.message_is
 
 -- the fields that a key gives sign their texts
 pub group_signs : (public : List ℕ) (texts : List (List ℕ)) (key : Key) (m : ℕ) (fields : List (List ℕ)) →
@@ -233,21 +233,7 @@ short_as message whole key m short e = subst (λ (x : List ℕ). length (signatu
 -- a field is a little longer than the signature in it
 group_field-len : (place count hashes : ℕ) (path signed : List ℕ) → hashes ≤ 5 → length path ≡ 32 * hashes
     → length (group_field place count path signed) ≤ length signed + 170
-unfolding group_head group_field
-group_field-len place count hashes path signed few size =
-    let head = u32_bytes 256 ++ u16_bytes place ++ u16_bytes count ++ u16_bytes (length path / 32) in
-    omega (
-      arith,
-      length-append (head ++ path) signed,
-      length-append head path,
-      length-append (u32_bytes 256 ++ u16_bytes place ++ u16_bytes count) (u16_bytes (length path / 32)),
-      length-append (u32_bytes 256 ++ u16_bytes place) (u16_bytes count),
-      length-append (u32_bytes 256) (u16_bytes place),
-      length-u32_bytes 256,
-      length-u16_bytes place,
-      length-u16_bytes count,
-      length-u16_bytes (length path / 32),
-    )
+group_field-len place count hashes path signed few size = omega (arith, group_field-length place count path signed)
 
 field_at-len : (texts : List (List ℕ)) (signed : List ℕ) (place : ℕ) →
     length (field_at texts signed place) ≤ length signed + 170

@@ -4,14 +4,13 @@ ghost use Rattle.byteorder.specs.Endian.{big_number};
 ghost use Rattle.quorum_sets.specs.Masters.{numbers_below};
 ghost use Rattle.message_types.specs.Texts.{body_text};
 ghost use Rattle.message_types.specs.Spelling.{body_fits};
-ghost use Rattle.hash_signatures.specs.Signatures.{all_leaves, key_public, signature_at, longest_signature};
+ghost use Rattle.hash_signatures.specs.Signatures.{all_leaves, key_public};
 ghost use Rattle.hash_signatures.specs.State.{key_use};
-ghost use Rattle.hash_signatures.specs.Verification.{Verifies};
 ghost use Rattle.checked_frames.specs.Verifying.{verifies};
 ghost use Rattle.checked_frames.specs.Groups.{leaf_hash, root_of, path_of};
 ghost use Rattle.checked_frames.specs.Levels.{levels_up};
-ghost use Rattle.checked_frames.specs.Signing.{hashes_in, group_verifies, signs_in_group, signs, signed_message, group_signatures, EachSigns, field_fits};
-ghost use Rattle.checked_frames.specs.Heads.{head_through};
+ghost use Rattle.checked_frames.specs.Signing.{hashes_in, group_verifies, signs_in_group, signs, group_signatures, EachSigns, field_fits};
+ghost use Rattle.checked_frames.specs.Heads.{head_through, IsUnsigned};
 
 use crate::groups::{leaf_hash, led_to, put_levels, put_path};
 use byteorder::{BigEndian, ByteOrder};
@@ -176,29 +175,26 @@ fn tree_over(alloc: Global, leaves: Items<[u8; 32]>) -> Result<GroupTree, Want>
     })
 }
 
-// The fields of several bodies, from the key's next signature.
-fn sign_several(
-    alloc: Global,
-    key: &mut KeyState,
-    bodies: &[Body],
-) -> Result<Vec<Bytes>, SignAnswer>
+// What a key signs once for a group of bodies, and what stands before that signature in the field of each.
+#[derive(Drop)]
+struct Unsigned {
+    heads: Vec<Bytes>,
+    message: Vec<u8>,
+}
+
+// Several bodies share the message of their tree, and the paths through it stand before the signature.
+fn several_unsigned(alloc: Global, bodies: &[Body]) -> Result<Unsigned, Want>
     requires some { 2 ≤ length bodies.now }
     requires few { length bodies.now ≤ MOST_SHARING }
     requires spelled { IsTrue (list_all body_fits bodies.now) }
-    ensures fields { IfOk result (λ fields. fields.items ≡ group_signatures key.old.key key.old.used (map body_text bodies.now)) }
-    ensures verified { OnOk result (Verifies (key_public key.old.key) (signed_message (map body_text bodies.now))
-        (signature_at key.old.key key.old.used (signed_message (map body_text bodies.now)))) }
-    ensures short { OnOk result (length (signature_at key.old.key key.old.used (signed_message (map body_text bodies.now))) ≤ longest_signature) }
-    ensures one_more { OnOk result (key.new ≡ key_use key.old.key (key.old.used + 1)) }
-    ensures spent { IsErrOf result SignAnswer.Spent → key.old.used ≡ all_leaves key.old.key }
-    ensures err { OnErr result (key.new ≡ key.old) }
+    ensures { IfOk result (λ group. IsUnsigned (map body_text bodies.now) group.message.items group.heads.items) }
 {
     let leaves = leaves_of(alloc, bodies)?;
     let tree = tree_over(alloc, leaves)?;
     let count = bodies.len() as u16;
     let heads = heads_of(alloc, tree.levels.as_slice(), count)?;
-    let fields = key.sign_behind(&heads, &batch_text(count, &tree.root))?;
-    Ok(fields)
+    let message = Vec::from_slice(alloc, &batch_text(count, &tree.root))?;
+    Ok(Unsigned { heads, message })
 }
 
 // Nothing before the signature, as in the field of a lone body.
@@ -210,41 +206,27 @@ fn no_head(alloc: Global) -> Result<Vec<Bytes>, Want>
     Ok(heads)
 }
 
-// The field of one body, which is the key's next signature of its text.
-fn sign_one(alloc: Global, key: &mut KeyState, bodies: &[Body]) -> Result<Vec<Bytes>, SignAnswer>
+// Of one body its text is signed.
+fn one_unsigned(alloc: Global, bodies: &[Body]) -> Result<Unsigned, Want>
     requires one { length bodies.now ≡ 1 }
     requires spelled { IsTrue (list_all body_fits bodies.now) }
-    ensures fields { IfOk result (λ fields. fields.items ≡ group_signatures key.old.key key.old.used (map body_text bodies.now)) }
-    ensures verified { OnOk result (Verifies (key_public key.old.key) (signed_message (map body_text bodies.now))
-        (signature_at key.old.key key.old.used (signed_message (map body_text bodies.now)))) }
-    ensures short { OnOk result (length (signature_at key.old.key key.old.used (signed_message (map body_text bodies.now))) ≤ longest_signature) }
-    ensures one_more { OnOk result (key.new ≡ key_use key.old.key (key.old.used + 1)) }
-    ensures spent { IsErrOf result SignAnswer.Spent → key.old.used ≡ all_leaves key.old.key }
-    ensures err { OnErr result (key.new ≡ key.old) }
+    ensures { IfOk result (λ group. IsUnsigned (map body_text bodies.now) group.message.items group.heads.items) }
 {
-    let text = text_of(alloc, &bodies[0])?;
+    let message = text_of(alloc, &bodies[0])?;
     let heads = no_head(alloc)?;
-    let fields = key.sign_behind(&heads, &text)?;
-    Ok(fields)
+    Ok(Unsigned { heads, message })
 }
 
-// The fields of bodies, from the key's next signature.
-fn sign_some(alloc: Global, key: &mut KeyState, bodies: &[Body]) -> Result<Vec<Bytes>, SignAnswer>
+fn unsigned_of(alloc: Global, bodies: &[Body]) -> Result<Unsigned, Want>
     requires some { 1 ≤ length bodies.now }
     requires few { length bodies.now ≤ MOST_SHARING }
     requires spelled { IsTrue (list_all body_fits bodies.now) }
-    ensures fields { IfOk result (λ fields. fields.items ≡ group_signatures key.old.key key.old.used (map body_text bodies.now)) }
-    ensures verified { OnOk result (Verifies (key_public key.old.key) (signed_message (map body_text bodies.now))
-        (signature_at key.old.key key.old.used (signed_message (map body_text bodies.now)))) }
-    ensures short { OnOk result (length (signature_at key.old.key key.old.used (signed_message (map body_text bodies.now))) ≤ longest_signature) }
-    ensures one_more { OnOk result (key.new ≡ key_use key.old.key (key.old.used + 1)) }
-    ensures spent { IsErrOf result SignAnswer.Spent → key.old.used ≡ all_leaves key.old.key }
-    ensures err { OnErr result (key.new ≡ key.old) }
+    ensures { IfOk result (λ group. IsUnsigned (map body_text bodies.now) group.message.items group.heads.items) }
 {
     if bodies.len() == 1 {
-        return sign_one(alloc, key, bodies);
+        return one_unsigned(alloc, bodies);
     }
-    sign_several(alloc, key, bodies)
+    several_unsigned(alloc, bodies)
 }
 
 /// The signatures of 1 to `MOST_SHARING` bodies, in their order, with the next leaf of the key: one leaf for all of them. After an
@@ -268,6 +250,7 @@ pub fn sign_group(
     if key.left() == 0 {
         return Err(SignAnswer::Spent);
     }
-    let fields = sign_some(alloc, key, bodies)?;
+    let group = unsigned_of(alloc, bodies)?;
+    let fields = key.sign_behind(&group.heads, &group.message)?;
     Ok(fields)
 }
