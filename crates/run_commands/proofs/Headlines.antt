@@ -29,8 +29,8 @@ use Rattle.command_ends.specs.declared.refusal.Refusal.{Refusal}
 use Rattle.command_ends.specs.declared.refusal.Refusal.TheVariants as refusal
 use Rattle.run_commands.specs.Readers.{Readers, Keeps}
 use Rattle.run_commands.specs.Reading.{accepted, scenario_at, scenario_refusal, script_refusal, words_refusal}
-use Rattle.run_commands.specs.Reading.{with_scenario, with_script, with_words, with_play, with_history}
-use Rattle.run_commands.specs.Course.{CommandStep, AskedStep, NextStep}
+use Rattle.run_commands.specs.Reading.{with_scenario, with_script}
+use Rattle.run_commands.specs.Course.{CommandStep, AskedStep, NextStep, play_step, replay_step}
 use Rattle.run_commands.specs.Headline.{IsRun, Headline, KeepsHeadline, asks_for_run}
 use Rattle.command_ends.proofs.Completes.{file_of, is_text, text_in}
 
@@ -83,44 +83,35 @@ same-file held name due content is told = subst (λ n. IsContent (held n) conten
 
 -- ---- A play.
 
-play-second : (scenario script : List ℕ) (first name : List ℕ) (c : Contents) → scenario_at first ≡ Ok c →
-    Load name ≡ with_scenario first (λ d. Load script)
-    → Load name ≡ Load script
-play-second scenario script first name c one is =
-    is ∙ ap (λ a. accepted scenario_refusal a (λ (d : Contents). Load script)) one
+-- the file that is due after an accepted scenario, and after an accepted script
+pub due-second : (due first name : List ℕ) (c : Contents) → scenario_at first ≡ Ok c →
+    Load name ≡ with_scenario first (λ d. Load due) → Load name ≡ Load due
+due-second due first name c one is = is ∙ ap (λ a. accepted scenario_refusal a (λ (d : Contents). Load due)) one
 
-play-third : (words : List ℕ) (first second name : List ℕ) (c : Contents) (lines : List Line) → scenario_at first ≡ Ok c
-    → script_in (who_of c) second ≡ Ok lines →
-    Load name ≡ with_scenario first (λ d. with_script d second (λ ls. Load words)) → Load name ≡ Load words
-play-third words first second name c lines one two is =
-    is ∙ ap (λ a. accepted scenario_refusal a (λ (d : Contents). with_script d second (λ ls. Load words))) one
-    ∙ ap (λ a. accepted script_refusal a (λ (ls : List Line). Load words)) two
+pub due-third : (due first second name : List ℕ) (c : Contents) (lines : List Line) → scenario_at first ≡ Ok c →
+    script_in (who_of c) second ≡ Ok lines
+    → Load name ≡ with_scenario first (λ d. with_script d second (λ ls. Load due)) → Load name ≡ Load due
+due-third due first second name c lines one two is =
+    is ∙ ap (λ a. accepted scenario_refusal a (λ (d : Contents). with_script d second (λ ls. Load due))) one
+    ∙ ap (λ a. accepted script_refusal a (λ (ls : List Line). Load due)) two
 
 play-whole : (r : Readers) → Keeps r → (call : Call) (scenario script words text first second third : List ℕ)
     → wanted_in call.words ≡ Some (play scenario script words) → (a b d : List ℕ) → IsContent (call.held a) first →
     IsContent (call.held b) second → IsContent (call.held d) third
-    → Load a ≡ Load scenario → Load b ≡ with_scenario first (λ c. Load script) →
-    Load d ≡ with_scenario first (λ c. with_script c second (λ lines. Load words))
-    → Gives text ≡ with_scenario first
-    (λ c. with_script c second
-    (λ lines. with_words c third (λ sayings. with_play r c lines sayings (λ history. Gives (r.text_of c history)))))
+    → Load a ≡ play_step r scenario script words [] → Load b ≡ play_step r scenario script words (first ∷ []) →
+    Load d ≡ play_step r scenario script words (first ∷ second ∷ [])
+    → Gives text ≡ play_step r scenario script words (first ∷ second ∷ third ∷ [])
     → call.put_after ≡ with_piece call.put_before text → Headline r call
 play-whole r laws call scenario script words text first second third asked a b d at_a at_b
     at_d due_a due_b due_d is put =
-    let one = accepted-gives scenario_refusal (scenario_at first)
-    (λ c. with_script c second
-    (λ lines. with_words c third
-    (λ sayings. with_play r c lines sayings (λ history. Gives (r.text_of c history))))) text is in
+    let one = accepted-gives scenario_refusal (scenario_at first) _ text is in
     let c : Contents = one.0 in
-    let two = accepted-gives script_refusal (script_in (who_of c) second)
-    (λ lines. with_words c third
-    (λ sayings. with_play r c lines sayings (λ history. Gives (r.text_of c history)))) text one.2 in
+    let two = accepted-gives script_refusal (script_in (who_of c) second) _ text one.2 in
     let lines : List Line = two.0 in
-    let three = accepted-gives words_refusal (words_in (who_of c) third)
-    (λ sayings. with_play r c lines sayings (λ history. Gives (r.text_of c history))) text two.2 in
+    let three = accepted-gives words_refusal (words_in (who_of c) third) _ text two.2 in
     let sayings : List Saying = three.0 in
-    let four = accepted-gives (λ (e : LineFault × ℕ). refusal.Script e.0 e.1) (r.played c lines sayings)
-    (λ history. Gives (r.text_of c history)) text three.2 in
+    let four = accepted-gives (λ (e : LineFault × ℕ). refusal.Script e.0 e.1) (r.played c lines sayings) _ text
+    three.2 in
     let history : List Entry = four.0 in
     let valid : IsScenario c = scenario-valid first c one.1 in
     let legal = laws.played_legal c lines sayings history valid (second, two.1) (third, three.1) four.1 in
@@ -129,8 +120,8 @@ play-whole r laws call scenario script words text first second third asked a b d
       history = history;
       run = IsRun.plays scenario script words asked first second third
           (same-file call.held a scenario first due_a at_a)
-          (same-file call.held b script second (play-second scenario script first b c one.1 due_b) at_b)
-          (same-file call.held d words third (play-third words first second d c lines one.1 two.1 due_d) at_d)
+          (same-file call.held b script second (due-second script first b c one.1 due_b) at_b)
+          (same-file call.held d words third (due-third words first second d c lines one.1 two.1 due_d) at_d)
           lines sayings one.1 two.1 three.1 four.1
           (laws.played_unforged c lines sayings history valid (second, two.1) (third, three.1) four.1);
       legal = legal;
@@ -169,15 +160,13 @@ play-run r laws call scenario script words text asked (first ∷ second ∷ thir
 replay-whole : (r : Readers) → Keeps r → (call : Call) (scenario spelt text first second : List ℕ)
     → wanted_in call.words ≡ Some (replay scenario spelt) → (a b : List ℕ) → IsContent (call.held a) first →
     IsContent (call.held b) second
-    → Load a ≡ Load scenario → Load b ≡ with_scenario first (λ c. Load spelt)
-    → Gives text ≡ with_scenario first (λ c. with_history r c second (λ history. Gives (r.text_of c history)))
+    → Load a ≡ replay_step r scenario spelt [] → Load b ≡ replay_step r scenario spelt (first ∷ [])
+    → Gives text ≡ replay_step r scenario spelt (first ∷ second ∷ [])
     → call.put_after ≡ with_piece call.put_before text → Headline r call
 replay-whole r laws call scenario spelt text first second asked a b at_a at_b due_a due_b is put =
-    let one = accepted-gives scenario_refusal (scenario_at first)
-    (λ c. with_history r c second (λ history. Gives (r.text_of c history))) text is in
+    let one = accepted-gives scenario_refusal (scenario_at first) _ text is in
     let c : Contents = one.0 in
-    let two = accepted-gives (λ (e : LineFault × ℕ). refusal.History e.0 e.1) (r.history_in c second)
-    (λ history. Gives (r.text_of c history)) text one.2 in
+    let two = accepted-gives (λ (e : LineFault × ℕ). refusal.History e.0 e.1) (r.history_in c second) _ text one.2 in
     let history : List Entry = two.0 in
     let valid : IsScenario c = scenario-valid first c one.1 in
     let legal = laws.read_legal c second history valid two.1 in
@@ -186,7 +175,7 @@ replay-whole r laws call scenario spelt text first second asked a b at_a at_b du
       history = history;
       run = IsRun.replays scenario spelt asked first second
           (same-file call.held a scenario first due_a at_a)
-          (same-file call.held b spelt second (play-second scenario spelt first b c one.1 due_b) at_b)
+          (same-file call.held b spelt second (due-second spelt first b c one.1 due_b) at_b)
           one.1 two.1;
       legal = legal;
       put = put ∙ ap (λ (s : Step). with_piece call.put_before (text_in s)) two.2;

@@ -10,19 +10,13 @@ use Rattle.run_commands.proofs.answering.rebuild.Goals as goal
 
 pub returns-in-Ok-clause-cause : goal.returns-in-Ok-clause-cause
 returns-in-Ok-clause-cause g c =
-    after-open (RebuildCourse g.R.Runs.readers c.args.scenario.now c.args.pieces.now) (g.F.Files.held c.args.files.now)
-    (g.F.Files.held c.open_scenario.new.files) (g.F.Files.faults c.args.files.now)
-    (g.F.Files.faults c.open_scenario.new.files)
-    (g.F.Files.faults c.rebuild_from.new.files) [] c.args.scenario.now with_scenario contents
-    c.in-Ok.scenario c.rebuild_from.result
+    after-open (RebuildCourse g.R.Runs.readers c.args.scenario.now c.args.pieces.now) _ _ _ _ _ []
+    c.args.scenario.now with_scenario contents c.in-Ok.scenario c.rebuild_from.result
     refl c.in-Ok.ensures.cause c.open_scenario.ensures.kept c.in-Ok.ensures.file_faults
     (λ first one. c.rebuild_from.ensures.cause c.args.scenario.now first one)
 
 pub returns-in-Err-clause-cause : goal.returns-in-Err-clause-cause
 returns-in-Err-clause-cause g c =
-    open-refused (RebuildCourse g.R.Runs.readers c.args.scenario.now c.args.pieces.now)
-    (g.F.Files.held c.args.files.now)
-    (g.F.Files.faults c.args.files.now) (g.F.Files.faults c.open_scenario.new.files) [] c.args.scenario.now
-    with_scenario contents c.in-Err.refusal
-    refl c.in-Err.ensures.cause
+    open-refused (RebuildCourse g.R.Runs.readers c.args.scenario.now c.args.pieces.now) _ _ _ []
+    c.args.scenario.now with_scenario contents c.in-Err.refusal refl c.in-Err.ensures.cause
     (λ first w one. rebuild-refused g.R.Runs.readers c.args.scenario.now c.args.pieces.now first w one)

@@ -11,20 +11,15 @@ use Rattle.run_commands.proofs.scripted.keys.Goals as goal
 
 pub returns-in-Ok-clause-cause : goal.returns-in-Ok-clause-cause
 returns-in-Ok-clause-cause g c =
-    let later = g.F.Files.held c.open_scenario.new.files in
-    let after = g.F.Files.faults c.open_scenario.new.files in
-    let text = keys_text (contents c.in-Ok.scenario) in
-    after-open (KeysCourse c.args.scenario.now) (g.F.Files.held c.args.files.now) later
-    (g.F.Files.faults c.args.files.now) after after
-    [] c.args.scenario.now with_scenario contents c.in-Ok.scenario c.keys_of.result
-    refl c.in-Ok.ensures.cause c.open_scenario.ensures.kept c.in-Ok.ensures.file_faults
-    (λ first one. made-now (KeysCourse c.args.scenario.now) later after after (first ∷ []) (Gives text) c.keys_of.result
+    after-open (KeysCourse c.args.scenario.now) _ _ _ _ _ [] c.args.scenario.now with_scenario contents
+    c.in-Ok.scenario c.keys_of.result refl c.in-Ok.ensures.cause c.open_scenario.ensures.kept
+    c.in-Ok.ensures.file_faults
+    (λ first one. made-now (KeysCourse c.args.scenario.now) _ _ _ (first ∷ [])
+    (Gives (keys_text (contents c.in-Ok.scenario))) c.keys_of.result
     (sym (one (λ d. Gives (keys_text d)))) c.keys_of.ensures)
 
 pub returns-in-Err-clause-cause : goal.returns-in-Err-clause-cause
 returns-in-Err-clause-cause g c =
-    open-refused (KeysCourse c.args.scenario.now) (g.F.Files.held c.args.files.now)
-    (g.F.Files.faults c.args.files.now) (g.F.Files.faults c.open_scenario.new.files) [] c.args.scenario.now
-    with_scenario contents c.in-Err.refusal
-    refl c.in-Err.ensures.cause
+    open-refused (KeysCourse c.args.scenario.now) _ _ _ [] c.args.scenario.now with_scenario contents
+    c.in-Err.refusal refl c.in-Err.ensures.cause
     (λ first w one. sym (one (λ d. Gives (keys_text d))))

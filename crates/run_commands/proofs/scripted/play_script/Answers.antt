@@ -13,11 +13,8 @@ pub returns-in-Ok-clause-cause : goal.returns-in-Ok-clause-cause
 returns-in-Ok-clause-cause g c = λ name first one.
     let r = g.R.Runs.readers in
     let is = contents c.args.scenario.now in
-    after-open (CommandStep r (play name c.args.script.now c.args.words.now)) (g.F.Files.held c.args.files.now)
-    (g.F.Files.held c.open_script.new.files)
-    (g.F.Files.faults c.args.files.now) (g.F.Files.faults c.open_script.new.files)
-    (g.F.Files.faults c.play_words.new.files) (first ∷ []) c.args.script.now
-    (with_script is) (λ script. script) c.in-Ok.script c.play_words.result
+    after-open (CommandStep r (play name c.args.script.now c.args.words.now)) _ _ _ _ _
+    (first ∷ []) c.args.script.now (with_script is) (λ script. script) c.in-Ok.script c.play_words.result
     (play-first r name c.args.script.now c.args.words.now first is one) c.in-Ok.ensures.cause
     c.open_script.ensures.kept c.in-Ok.ensures.file_faults
     (λ second two. c.play_words.ensures.cause name c.args.script.now first second one two)
@@ -26,9 +23,8 @@ pub returns-in-Err-clause-cause : goal.returns-in-Err-clause-cause
 returns-in-Err-clause-cause g c = λ name first one.
     let r = g.R.Runs.readers in
     let is = contents c.args.scenario.now in
-    open-refused (CommandStep r (play name c.args.script.now c.args.words.now)) (g.F.Files.held c.args.files.now)
-    (g.F.Files.faults c.args.files.now)
-    (g.F.Files.faults c.open_script.new.files) (first ∷ []) c.args.script.now (with_script is)
+    open-refused (CommandStep r (play name c.args.script.now c.args.words.now)) _ _ _
+    (first ∷ []) c.args.script.now (with_script is)
     (λ script. script) c.in-Err.refusal
     (play-first r name c.args.script.now c.args.words.now first is one) c.in-Err.ensures.cause
     (λ second w two. play-second-refused r name c.args.script.now c.args.words.now first second is w one two)

@@ -14,14 +14,11 @@ returns-in-Ok-clause-cause g c = λ name named first second one two.
     let r = g.R.Runs.readers in
     let is = contents c.args.scenario.now in
     let next = CommandStep r (play name named c.args.words.now) in
-    let later = g.F.Files.held c.open_words.new.files in
-    let after = g.F.Files.faults c.open_words.new.files in
-    after-open next (g.F.Files.held c.args.files.now) later (g.F.Files.faults c.args.files.now) after after
-    (first ∷ second ∷ []) c.args.words.now
-    (with_words is) (λ words. words) c.in-Ok.words c.play_text.result
+    after-open next _ _ _ _ _ (first ∷ second ∷ []) c.args.words.now (with_words is) (λ words. words)
+    c.in-Ok.words c.play_text.result
     (play-second r name named c.args.words.now first second is c.args.script.now one two) c.in-Ok.ensures.cause
     c.open_words.ensures.kept c.in-Ok.ensures.file_faults
-    (λ third three. made-now next later after after (first ∷ second ∷ third ∷ [])
+    (λ third three. made-now next _ _ _ (first ∷ second ∷ third ∷ [])
     (last-step r is c.args.script.now c.in-Ok.words) c.play_text.result
     (play-third r name named c.args.words.now first second third is c.args.script.now c.in-Ok.words one two three)
     (play-makes r is c.args.script.now c.in-Ok.words c.play_text.result c.play_text.ensures))
@@ -30,9 +27,8 @@ pub returns-in-Err-clause-cause : goal.returns-in-Err-clause-cause
 returns-in-Err-clause-cause g c = λ name named first second one two.
     let r = g.R.Runs.readers in
     let is = contents c.args.scenario.now in
-    open-refused (CommandStep r (play name named c.args.words.now)) (g.F.Files.held c.args.files.now)
-    (g.F.Files.faults c.args.files.now)
-    (g.F.Files.faults c.open_words.new.files) (first ∷ second ∷ []) c.args.words.now (with_words is)
+    open-refused (CommandStep r (play name named c.args.words.now)) _ _ _
+    (first ∷ second ∷ []) c.args.words.now (with_words is)
     (λ words. words) c.in-Err.refusal
     (play-second r name named c.args.words.now first second is c.args.script.now one two) c.in-Err.ensures.cause
     (λ third w three. play-third-refused r name named c.args.words.now first second third is

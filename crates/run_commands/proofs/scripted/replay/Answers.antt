@@ -11,20 +11,13 @@ use Rattle.run_commands.proofs.scripted.replay.Goals as goal
 
 pub returns-in-Ok-clause-cause : goal.returns-in-Ok-clause-cause
 returns-in-Ok-clause-cause g c =
-    after-open (CommandStep g.R.Runs.readers (replay c.args.scenario.now c.args.history.now))
-    (g.F.Files.held c.args.files.now)
-    (g.F.Files.held c.open_scenario.new.files) (g.F.Files.faults c.args.files.now)
-    (g.F.Files.faults c.open_scenario.new.files)
-    (g.F.Files.faults c.replay_history.new.files) [] c.args.scenario.now with_scenario contents
-    c.in-Ok.scenario c.replay_history.result
+    after-open (CommandStep g.R.Runs.readers (replay c.args.scenario.now c.args.history.now)) _ _ _ _ _ []
+    c.args.scenario.now with_scenario contents c.in-Ok.scenario c.replay_history.result
     refl c.in-Ok.ensures.cause c.open_scenario.ensures.kept c.in-Ok.ensures.file_faults
     (λ first one. c.replay_history.ensures.cause c.args.scenario.now first one)
 
 pub returns-in-Err-clause-cause : goal.returns-in-Err-clause-cause
 returns-in-Err-clause-cause g c =
-    open-refused (CommandStep g.R.Runs.readers (replay c.args.scenario.now c.args.history.now))
-    (g.F.Files.held c.args.files.now)
-    (g.F.Files.faults c.args.files.now) (g.F.Files.faults c.open_scenario.new.files) [] c.args.scenario.now
-    with_scenario contents c.in-Err.refusal
-    refl c.in-Err.ensures.cause
+    open-refused (CommandStep g.R.Runs.readers (replay c.args.scenario.now c.args.history.now)) _ _ _ []
+    c.args.scenario.now with_scenario contents c.in-Err.refusal refl c.in-Err.ensures.cause
     (λ first w one. replay-refused g.R.Runs.readers c.args.scenario.now c.args.history.now first w one)
