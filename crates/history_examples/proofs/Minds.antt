@@ -1,7 +1,7 @@
 -- What an actor says, entry after entry: each master's mind, which is what it knows and was told of so far, is computed
 -- once an entry, from what it was before. So long examples can be computed.
 use Rattle.std.proofs.Common.{◌≡◌, ℕ, ◌+◌, Bool, true, false, ◌&&◌, cond, List, [], ◌∷◌, ◌++◌, map, refl, sym, ◌∙◌, ap}
-use Rattle.std.proofs.Common.{subst, inl, inr, ◌⊎◌, nat_eq, append_assoc}
+use Rattle.std.proofs.Common.{inl, inr, ◌⊎◌, nat_eq, append_assoc}
 use Rattle.std.proofs.lemmas.Bool.{and_parts, eq-eqb, ne_eqb, cases_eq}
 use Rattle.std.proofs.lemmas.List.{append-nil}
 use Rattle.std.proofs.lemmas.Grind.{flat_map-append}
