@@ -21,7 +21,7 @@ use Rattle.script_plays.specs.declared.playing.Playing.{Playing}
 use Rattle.script_plays.specs.Making.{Given, is_raw, words_signed, bench_at, beginning}
 use Rattle.script_plays.specs.Playing.{IsMaking, IsMail, IsKeptAt, IsSaidTo}
 use Rattle.script_plays.proofs.Standing.{few_actors}
-use Rattle.script_plays.proofs.Legality.{beginning_sound}
+use Rattle.script_plays.proofs.Keeping.{beginning_sound}
 use Rattle.quorum_sets.proofs.Numbered.{length-numbers_below}
 
 pub number_at : (n k d : ℕ) → k < n → get_or (numbers_below n) k d ≡ k

@@ -18,7 +18,8 @@ use Rattle.script_plays.specs.declared.playing.Playing.{Playing}
 use Rattle.script_plays.specs.Making.{Given, Making, Going, is_cry, is_lost, does, deliver, deliver_all, round}
 use Rattle.script_plays.specs.Playing.{IsMaking, IsPlaying, IsMail, AreSlots, Goes, is_due, is_held_well, slots_of}
 use Rattle.script_plays.proofs.Sounding.{all_due_later}
-use Rattle.script_plays.proofs.Legality.{deliver_keeps, may_take, takes_well, emptied}
+use Rattle.script_plays.proofs.Keeping.{may_take, takes_well, emptied}
+use Rattle.script_plays.proofs.Legality.{deliver_longer}
 use Rattle.script_plays.proofs.Stepped.{round_is}
 
 pub due_after : (g : Given) {done : Unit {0}} (d : Delivery) (p q : Playing) (rest : List Delivery) → IsPlaying g p
@@ -31,7 +32,7 @@ due_after g d p q rest playing does due =
     let went = does m is in
     let here : is_due g.scenario (length m.history) d ≡ true =
     subst (λ (n : ℕ). is_due g.scenario n d ≡ true) is.entries due.0 in
-    let longer = (deliver_keeps g d m went.0 here is.sound went.1).longer in
+    let longer = deliver_longer g d m went.0 here is.sound went.1 in
     all_due_later g.scenario p.entries q.entries rest (omega (arith, longer, is.entries, went.2.entries)) due.1
 
 cut_off_is : (m : Making) (d : Delivery) (lost : List ℕ) (b : Bool) → lost ≡ m.lost →

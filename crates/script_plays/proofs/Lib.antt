@@ -1,12 +1,14 @@
--- Behind a play of a script, lowest first: its lists and slots, what each kind of line does to a play at work, that
--- what is played is the history that script and words define; then, by the names with Unforged, that without raw words
--- nothing in it is forged.
+-- Behind a play of a script, lowest first: its lists and slots, what each entry of a play keeps and so the whole play,
+-- what each kind of line does to a play at work, that what is played is the history that script and words define; then,
+-- by the names with Unforged, that without raw words nothing in it is forged.
 pub mod Lists
 pub mod Going
 pub mod Slotting
 pub mod Standing
 pub mod Sounding
 pub mod Stepping
+pub mod UnforgedPosts
+pub mod Keeping
 pub mod Legality
 pub mod Stepped
 pub mod Delivering
@@ -26,5 +28,4 @@ pub mod UnforgedWords
 pub mod UnforgedParts
 pub mod UnforgedSaid
 pub mod UnforgedCries
-pub mod UnforgedPosts
 pub mod UnforgedPlay

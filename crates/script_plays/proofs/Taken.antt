@@ -21,7 +21,7 @@ use Rattle.script_plays.specs.Mail.{post_named, taking}
 use Rattle.script_plays.specs.Making.{Given, Making, Going, is_cry, has_halted, does, takes, takes_held}
 use Rattle.script_plays.specs.Playing.{IsMaking, IsPlaying, Goes, FoundAs, slot_at}
 use Rattle.script_plays.proofs.Standing.{few_actors}
-use Rattle.script_plays.proofs.Legality.{named_is_well, may_take, takes_well}
+use Rattle.script_plays.proofs.Keeping.{named_is_well, may_take, takes_well}
 use Rattle.script_plays.proofs.Acted.{kept_here}
 
 takes_halted : (g : Given) (actor : ℕ) (r : Ref) (m : Making) → has_halted g m actor ≡ true → takes g actor r m ≡ Ok m

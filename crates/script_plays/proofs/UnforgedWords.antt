@@ -20,8 +20,8 @@ use Rattle.message_types.specs.declared.vouchers.Order.TheVariants as order
 use Rattle.message_types.specs.declared.body.Body.{Body}
 use Rattle.message_types.specs.declared.body.Body.TheVariants as body
 use Rattle.message_types.specs.Parts.{inside, inside_report, request_parts, as_frame, frames_of}
-use Rattle.message_types.specs.Texts.{list_text, signed_text, notice_number, order_text, update_text, summary_text}
-use Rattle.message_types.specs.Texts.{prepare_text, commit_text, mark_text, certificate_text, report_text, rows_text}
+use Rattle.message_types.specs.Texts.{list_text, signed_text, notice_number, order_text}
+use Rattle.message_types.specs.Texts.{prepare_text, certificate_text, rows_text}
 use Rattle.message_types.specs.Texts.{body_text}
 use Rattle.message_types.specs.Spelling.{is_rising, always_fits, frames_fit, certificate_fits, body_fits}
 use Rattle.message_types.specs.Digests.{digest_of_update, digest_of_rows}
@@ -127,7 +127,7 @@ module _ (known : List (Signed Body)) (closed : Closed known) (fit : Each IsFit 
       → SpelledAlike known (body.PoRequest record { k = k; update = u })
   request_kept k u h fits = record {
     kept = body.PoRequest record { k = low64 k; update = u };
-    text = ap (λ (bs : List ℕ). u16_bytes 2 ++ bs ++ signed_text update_text u) (same64 k);
+    text = rw (same64 k);
     fits = fits;
     wide = (small64 k, fit (as_frame body.Update u) h);
     among = each_one IsKnown (as_frame body.Update u) h;
@@ -137,8 +137,7 @@ module _ (known : List (Signed Body)) (closed : Closed known) (fit : Each IsFit 
       SpelledAlike known (body.PoAck record { j = j; k = k; digest = digest })
   ack_kept j k digest size = record {
     kept = body.PoAck record { j = low32 j; k = low64 k; digest = digest };
-    text = ap (λ (bs : List ℕ). u16_bytes 3 ++ bs ++ u64_bytes (low64 k) ++ digest) (same32 j)
-        ∙ ap (λ (bs : List ℕ). u16_bytes 3 ++ u32_bytes j ++ bs ++ digest) (same64 k);
+    text = rw (same32 j, same64 k);
     fits = refl;
     wide = (small32 j, (small64 k, size));
     among = each_none IsKnown;
@@ -148,7 +147,7 @@ module _ (known : List (Signed Body)) (closed : Closed known) (fit : Each IsFit 
       SpelledAlike known (body.PoSummary record { numbers = numbers })
   summary_kept numbers fits = record {
     kept = body.PoSummary record { numbers = low_row numbers };
-    text = ap (λ (bs : List ℕ). u16_bytes 4 ++ bs) (row_same numbers);
+    text = rw (row_same numbers);
     fits = row_fit_same numbers ∙ fits;
     wide = row_wide numbers;
     among = each_none IsKnown;
@@ -159,9 +158,7 @@ module _ (known : List (Signed Body)) (closed : Closed known) (fit : Each IsFit 
       → SpelledAlike known (body.PrePrepare record { v = v; s = s; frames = fs })
   proposal_kept v s fs among fits = record {
     kept = body.PrePrepare record { v = low64 v; s = low64 s; frames = fs };
-    text = ap (λ (bs : List ℕ). u16_bytes 5 ++ bs ++ u64_bytes (low64 s) ++ list_text (signed_text summary_text) fs)
-        (same64 v)
-        ∙ ap (λ (bs : List ℕ). u16_bytes 5 ++ u64_bytes v ++ bs ++ list_text (signed_text summary_text) fs) (same64 s);
+    text = rw (same64 v, same64 s);
     fits = fits;
     wide = (
       small64 v,
@@ -177,8 +174,7 @@ module _ (known : List (Signed Body)) (closed : Closed known) (fit : Each IsFit 
       SpelledAlike known (body.Prepare record { v = v; s = s; digest = digest })
   prepare_kept v s digest size = record {
     kept = body.Prepare record { v = low64 v; s = low64 s; digest = digest };
-    text = ap (λ (bs : List ℕ). u16_bytes 6 ++ bs ++ u64_bytes (low64 s) ++ digest) (same64 v)
-        ∙ ap (λ (bs : List ℕ). u16_bytes 6 ++ u64_bytes v ++ bs ++ digest) (same64 s);
+    text = rw (same64 v, same64 s);
     fits = refl;
     wide = (small64 v, (small64 s, size));
     among = each_none IsKnown;
@@ -188,8 +184,7 @@ module _ (known : List (Signed Body)) (closed : Closed known) (fit : Each IsFit 
       SpelledAlike known (body.Commit record { v = v; s = s; digest = digest })
   commit_kept v s digest size = record {
     kept = body.Commit record { v = low64 v; s = low64 s; digest = digest };
-    text = ap (λ (bs : List ℕ). u16_bytes 7 ++ bs ++ u64_bytes (low64 s) ++ digest) (same64 v)
-        ∙ ap (λ (bs : List ℕ). u16_bytes 7 ++ u64_bytes v ++ bs ++ digest) (same64 s);
+    text = rw (same64 v, same64 s);
     fits = refl;
     wide = (small64 v, (small64 s, size));
     among = each_none IsKnown;
@@ -198,7 +193,7 @@ module _ (known : List (Signed Body)) (closed : Closed known) (fit : Each IsFit 
   ping_kept : (number : ℕ) → SpelledAlike known (body.Ping record { number = number })
   ping_kept number = record {
     kept = body.Ping record { number = low64 number };
-    text = ap (λ (bs : List ℕ). u16_bytes 8 ++ bs) (same64 number);
+    text = rw (same64 number);
     fits = refl;
     wide = small64 number;
     among = each_none IsKnown;
@@ -207,8 +202,7 @@ module _ (known : List (Signed Body)) (closed : Closed known) (fit : Each IsFit 
   pong_kept : (to number : ℕ) → SpelledAlike known (body.Pong record { to = to; number = number })
   pong_kept to number = record {
     kept = body.Pong record { to = low32 to; number = low64 number };
-    text = ap (λ (bs : List ℕ). u16_bytes 9 ++ bs ++ u64_bytes (low64 number)) (same32 to)
-        ∙ ap (λ (bs : List ℕ). u16_bytes 9 ++ u32_bytes to ++ bs) (same64 number);
+    text = rw (same32 to, same64 number);
     fits = refl;
     wide = (small32 to, small64 number);
     among = each_none IsKnown;
@@ -217,9 +211,7 @@ module _ (known : List (Signed Body)) (closed : Closed known) (fit : Each IsFit 
   rtt_kept : (to number ticks : ℕ) → SpelledAlike known (body.Rtt record { to = to; number = number; ticks = ticks })
   rtt_kept to number ticks = record {
     kept = body.Rtt record { to = low32 to; number = low64 number; ticks = low64 ticks };
-    text = ap (λ (bs : List ℕ). u16_bytes 10 ++ bs ++ u64_bytes (low64 number) ++ u64_bytes (low64 ticks)) (same32 to)
-        ∙ ap (λ (bs : List ℕ). u16_bytes 10 ++ u32_bytes to ++ bs ++ u64_bytes (low64 ticks)) (same64 number)
-        ∙ ap (λ (bs : List ℕ). u16_bytes 10 ++ u32_bytes to ++ u64_bytes number ++ bs) (same64 ticks);
+    text = rw (same32 to, same64 number, same64 ticks);
     fits = refl;
     wide = (small32 to, (small64 number, small64 ticks));
     among = each_none IsKnown;
@@ -228,8 +220,7 @@ module _ (known : List (Signed Body)) (closed : Closed known) (fit : Each IsFit 
   tat_report_kept : (v ticks : ℕ) → SpelledAlike known (body.TatReport record { v = v; ticks = ticks })
   tat_report_kept v ticks = record {
     kept = body.TatReport record { v = low64 v; ticks = low64 ticks };
-    text = ap (λ (bs : List ℕ). u16_bytes 11 ++ bs ++ u64_bytes (low64 ticks)) (same64 v)
-        ∙ ap (λ (bs : List ℕ). u16_bytes 11 ++ u64_bytes v ++ bs) (same64 ticks);
+    text = rw (same64 v, same64 ticks);
     fits = refl;
     wide = (small64 v, small64 ticks);
     among = each_none IsKnown;
@@ -238,8 +229,7 @@ module _ (known : List (Signed Body)) (closed : Closed known) (fit : Each IsFit 
   tat_bound_kept : (v ticks : ℕ) → SpelledAlike known (body.TatBound record { v = v; ticks = ticks })
   tat_bound_kept v ticks = record {
     kept = body.TatBound record { v = low64 v; ticks = low64 ticks };
-    text = ap (λ (bs : List ℕ). u16_bytes 12 ++ bs ++ u64_bytes (low64 ticks)) (same64 v)
-        ∙ ap (λ (bs : List ℕ). u16_bytes 12 ++ u64_bytes v ++ bs) (same64 ticks);
+    text = rw (same64 v, same64 ticks);
     fits = refl;
     wide = (small64 v, small64 ticks);
     among = each_none IsKnown;
@@ -248,7 +238,7 @@ module _ (known : List (Signed Body)) (closed : Closed known) (fit : Each IsFit 
   suspect_kept : (v : ℕ) → SpelledAlike known (body.Suspect record { v = v })
   suspect_kept v = record {
     kept = body.Suspect record { v = low64 v };
-    text = ap (λ (bs : List ℕ). u16_bytes 13 ++ bs) (same64 v);
+    text = rw (same64 v);
     fits = refl;
     wide = small64 v;
     among = each_none IsKnown;
@@ -265,12 +255,11 @@ module _ (known : List (Signed Body)) (closed : Closed known) (fit : Each IsFit 
       certificates =
           map low_certificate r.certificates;
     };
-    text = ap (λ (bs : List ℕ). u16_bytes 14 ++ bs ++ u64_bytes (low64 r.base) ++ list_text (signed_text mark_text)
-        r.marks ++ list_text certificate_text (map low_certificate r.certificates)) (same64 r.v)
-        ∙ ap (λ (bs : List ℕ). u16_bytes 14 ++ u64_bytes r.v ++ bs ++ list_text (signed_text mark_text) r.marks
-        ++ list_text certificate_text (map low_certificate r.certificates)) (same64 r.base)
-        ∙ ap (λ (bs : List ℕ). u16_bytes 14 ++ u64_bytes r.v ++ u64_bytes r.base ++ list_text (signed_text mark_text)
-        r.marks ++ bs) (list_same certificate_text low_certificate certificate_same r.certificates);
+    text = rw (
+      same64 r.v,
+      same64 r.base,
+      list_same certificate_text low_certificate certificate_same r.certificates,
+    );
     fits = ap (λ (n : ℕ). frames_fit always_fits r.marks && nat_le n 16
         && is_rising (map (λ (c : Certificate). c.s) (map low_certificate r.certificates))
         && list_all certificate_fits (map low_certificate r.certificates)) (length-map r.certificates low_certificate)
@@ -314,7 +303,7 @@ module _ (known : List (Signed Body)) (closed : Closed known) (fit : Each IsFit 
       → SpelledAlike known (body.NewView record { v = v; reports = rs })
   new_view_kept v rs among fits = record {
     kept = body.NewView record { v = low64 v; reports = rs };
-    text = ap (λ (bs : List ℕ). u16_bytes 15 ++ bs ++ list_text (signed_text report_text) rs) (same64 v);
+    text = rw (same64 v);
     fits = fits;
     wide = (small64 v, all_recursively (FitsSigner FitsReport) rs (λ r h. fit (as_frame body.Report r) (among r h)));
     among = each_flat_map IsKnown (λ (f : Signed Report). as_frame body.Report f ∷ inside_report f.body) rs (λ r h.
@@ -327,8 +316,7 @@ module _ (known : List (Signed Body)) (closed : Closed known) (fit : Each IsFit 
   ask_update_kept : (j k : ℕ) → SpelledAlike known (body.AskUpdate record { j = j; k = k })
   ask_update_kept j k = record {
     kept = body.AskUpdate record { j = low32 j; k = low64 k };
-    text = ap (λ (bs : List ℕ). u16_bytes 16 ++ bs ++ u64_bytes (low64 k)) (same32 j)
-        ∙ ap (λ (bs : List ℕ). u16_bytes 16 ++ u32_bytes j ++ bs) (same64 k);
+    text = rw (same32 j, same64 k);
     fits = refl;
     wide = (small32 j, small64 k);
     among = each_none IsKnown;
@@ -355,7 +343,7 @@ module _ (known : List (Signed Body)) (closed : Closed known) (fit : Each IsFit 
   ask_order_kept : (s : ℕ) → SpelledAlike known (body.AskOrder record { s = s })
   ask_order_kept s = record {
     kept = body.AskOrder record { s = low64 s };
-    text = ap (λ (bs : List ℕ). u16_bytes 18 ++ bs) (same64 s);
+    text = rw (same64 s);
     fits = refl;
     wide = small64 s;
     among = each_none IsKnown;
@@ -365,12 +353,7 @@ module _ (known : List (Signed Body)) (closed : Closed known) (fit : Each IsFit 
       SpelledAlike known (body.GiveOrdered b)
   given_kept b commits fits = record {
     kept = body.GiveOrdered record { s = low64 b.s; v = low64 b.v; rows = low_rows b.rows; commits = b.commits };
-    text = ap (λ (bs : List ℕ). u16_bytes 19 ++ bs ++ u64_bytes (low64 b.v) ++ rows_text (low_rows b.rows)
-        ++ list_text (signed_text commit_text) b.commits) (same64 b.s)
-        ∙ ap (λ (bs : List ℕ). u16_bytes 19 ++ u64_bytes b.s ++ bs ++ rows_text (low_rows b.rows)
-        ++ list_text (signed_text commit_text) b.commits) (same64 b.v)
-        ∙ ap (λ (bs : List ℕ). u16_bytes 19 ++ u64_bytes b.s ++ u64_bytes b.v ++ bs
-        ++ list_text (signed_text commit_text) b.commits) (rows_same b.rows);
+    text = rw (same64 b.s, same64 b.v, rows_same b.rows);
     fits = ap (λ (c : Bool). c && frames_fit always_fits b.commits) (rows_fit_same b.rows) ∙ fits;
     wide = (
       small64 b.s,
@@ -390,10 +373,7 @@ module _ (known : List (Signed Body)) (closed : Closed known) (fit : Each IsFit 
       SpelledAlike known (body.Voucher record { client = client; number = number; order = o })
   voucher_kept client number o = record {
     kept = body.Voucher record { client = low32 client; number = low64 number; order = low_order o };
-    text = ap (λ (bs : List ℕ). u16_bytes 20 ++ bs ++ u64_bytes (low64 number) ++ order_text (low_order o))
-        (same32 client)
-        ∙ ap (λ (bs : List ℕ). u16_bytes 20 ++ u32_bytes client ++ bs ++ order_text (low_order o)) (same64 number)
-        ∙ ap (λ (bs : List ℕ). u16_bytes 20 ++ u32_bytes client ++ u64_bytes number ++ bs) (order_same o);
+    text = rw (same32 client, same64 number, order_same o);
     fits = refl;
     wide = (small32 client, (small64 number, order_wide o));
     among = each_none IsKnown;
@@ -402,7 +382,7 @@ module _ (known : List (Signed Body)) (closed : Closed known) (fit : Each IsFit 
   mark_kept : (s : ℕ) → SpelledAlike known (body.Mark record { s = s })
   mark_kept s = record {
     kept = body.Mark record { s = low64 s };
-    text = ap (λ (bs : List ℕ). u16_bytes 21 ++ bs) (same64 s);
+    text = rw (same64 s);
     fits = refl;
     wide = small64 s;
     among = each_none IsKnown;

@@ -9,7 +9,7 @@ use Rattle.script_laws.specs.Accepted.{is_there}
 use Rattle.script_plays.specs.Making.{all_tick, does}
 use Rattle.script_plays.specs.Playing.{given_in}
 use Rattle.script_plays.proofs.Going.{starts, list_on, list_stops, list_ends}
-use Rattle.script_plays.proofs.Legality.{may_tick}
+use Rattle.script_plays.proofs.Keeping.{may_tick}
 use Rattle.script_plays.proofs.Stepped.{ticks_more, ticks_end}
 use Rattle.plain_lists.proofs.Lists.{all_at}
 use Rattle.script_plays.proofs.steps.all_tick.Goals as goal

@@ -8,7 +8,7 @@ use Rattle.script_laws.specs.Accepted.{is_there}
 use Rattle.script_plays.specs.Making.{Making, all_tick, times_over}
 use Rattle.script_plays.specs.Playing.{given_in, IsMaking, Goes}
 use Rattle.script_plays.proofs.Going.{wants}
-use Rattle.script_plays.proofs.Legality.{tickers_there}
+use Rattle.script_plays.proofs.Keeping.{tickers_there}
 use Rattle.script_plays.proofs.steps.tick.Goals as goal
 
 pub tick_times-requires-clause-there : goal.tick_times-requires-clause-there
