@@ -1,8 +1,8 @@
 -- Frames that stand, by their bytes and by their entries.
 use Rattle.std.proofs.Common.{◌≡◌, ◌⊎◌, ℕ, zero, suc, ◌+◌, ◌<◌, ◌≤◌, Bool, true, false, cond, List, [], ◌∷◌, ◌++◌}
-use Rattle.std.proofs.Common.{Option, Some, None, Result, Ok, Err, length, take, filter, inl, inr, refl, sym, ◌∙◌, ap}
+use Rattle.std.proofs.Common.{Option, Some, None, length, take, filter, inl, inr, refl, sym, ◌∙◌, ap}
 use Rattle.std.proofs.Common.{arith}
-use Rattle.std.proofs.lemmas.Bool.{cases_lt, and_parts, false≢true, false_from_ne_true}
+use Rattle.std.proofs.lemmas.Bool.{cases_lt, and_parts}
 use Rattle.std.proofs.lemmas.List.{length-append, take_all}
 use Rattle.std.proofs.lemmas.Option.{slice_get_past}
 use Rattle.std.specs.List.{list_all}
@@ -10,58 +10,33 @@ use Rattle.std.specs.Option.{option_to_list}
 use Rattle.std.specs.Prelude.{slice_get}
 use Rattle.message_types.specs.declared.signed.Signed.{Signed}
 use Rattle.message_types.specs.declared.body.Body.{Body}
-use Rattle.checked_frames.specs.declared.refusal.CheckRefusal.{CheckRefusal}
-use Rattle.checked_frames.specs.declared.refusal.CheckRefusal.TheVariants as refusal
 use Rattle.checked_frames.specs.Standing.{Ring}
 use Rattle.checked_frames.specs.Standing as checked
-use Rattle.checked_frames.proofs.StandingLaws.{stands_faultless}
 use Rattle.scenario_file.specs.Reading.{Contents}
 use Rattle.history_rules.specs.Events.{Cry, Entry}
 use Rattle.history_rules.specs.Setup.{Setup, stands, own}
 use Rattle.world_rules.specs.Frames.{cried, frames_of, frames_at_stamp}
 use Rattle.world_rules.specs.Scenarios.{setup_of}
 use Rattle.bench_rules.specs.Lists.{ring_in}
-use Rattle.bench_rules.proofs.Ringing.{stands_by_ring}
-use Rattle.printed_history.specs.Reading.{is_want, standing_frame, frame_in}
+use Rattle.world_history.proofs.Refusing.{stands_by}
+use Rattle.printed_history.specs.Reading.{standing_frame, frame_in}
 use Rattle.printed_history.proofs.Places.{get_last}
 use Rattle.plain_lists.proofs.Lists.{get_left, take_left}
 
--- a frame that stands is all that its bytes spell
-pub one_stands : (ring : Ring) (bytes : List ℕ) (frame found : Signed Body) → frame ∷ [] ≡ cried (Cry bytes) →
-    found ≡ frame → checked.stands ring frame ≡ true
-    → option_to_list (Some found) ≡ filter (checked.stands ring) (cried (Cry bytes))
-one_stands ring bytes frame found read same stand =
-    ap (λ (f : Signed Body). f ∷ []) same
-    ∙ sym (ap (λ b. cond b (frame ∷ []) []) stand)
-    ∙ ap (filter (checked.stands ring)) read
-
-pub none_stands : (ring : Ring) (bytes : List ℕ) (frame : Signed Body) → frame ∷ [] ≡ cried (Cry bytes) →
-    checked.stands ring frame ≡ false
-    → ◌≡◌ {A = List (Signed Body)} [] (filter (checked.stands ring) (cried (Cry bytes)))
-none_stands ring bytes frame read falls = sym (ap (λ b. cond b (frame ∷ []) []) falls)
-    ∙ ap (filter (checked.stands ring)) read
+-- of the frame that bytes spell, what was found is what stands
+pub one_found : (ring : Ring) (bytes : List ℕ) (frame : Signed Body) (found : Option (Signed Body)) →
+    frame ∷ [] ≡ cried (Cry bytes) → found ≡ cond (checked.stands ring frame) (Some frame) None
+    → option_to_list found ≡ filter (checked.stands ring) (cried (Cry bytes))
+one_found ring bytes frame found read is =
+    ap option_to_list is ∙ by (checked.stands ring frame) ∙ ap (filter (checked.stands ring)) read
+  where
+    by : (b : Bool) → option_to_list (cond b (Some frame) None) ≡ cond b (frame ∷ []) []
+    by true = refl
+    by false = refl
 
 pub none_read : (ring : Ring) (bytes : List ℕ) → [] ≡ cried (Cry bytes) →
     ◌≡◌ {A = List (Signed Body)} [] (filter (checked.stands ring) (cried (Cry bytes)))
 none_read ring bytes read = ap (filter (checked.stands ring)) read
-
-some_fault : (r : CheckRefusal) (first : Option CheckRefusal) → is_want r ≡ false →
-    checked.IsFault r first → first ≡ None → ⊥
-some_fault refusal.Want first other fault none = false≢true (sym other)
-some_fault (refusal.SignerUnknown signer) first other fault none = absurd cc
-some_fault (refusal.Unsigned part) first other fault none = absurd cc
-some_fault (refusal.Misplaced part) first other fault none = absurd cc
-
--- a frame that is refused doesn't stand
-pub refused_falls : (ring : Ring) (frame : Signed Body) (r : CheckRefusal) → is_want r ≡ false →
-    checked.IsFault r (checked.first_fault ring frame) → checked.stands ring frame ≡ false
-refused_falls ring frame r other fault =
-    false_from_ne_true (checked.stands ring frame) (λ stand. some_fault r (checked.first_fault ring frame) other fault
-    (stands_faultless ring frame stand))
-
-pub same_refusal : (r : Result (Signed Body) CheckRefusal) (a b : CheckRefusal) → r ≡ Err a → r ≡ Err b → a ≡ b
-same_refusal r a b first second = ap (λ (x : Result (Signed Body) CheckRefusal). elim x [ Ok f ↦ a | Err e ↦ e ])
-    (sym first ∙ second)
 
 -- by the ring of a scenario's actors the same frames stand as in its histories
 pub same_stand : (c : Contents) (ring : Ring) (frames : List (Signed Body)) → ring ≡ ring_in c
@@ -69,7 +44,7 @@ pub same_stand : (c : Contents) (ring : Ring) (frames : List (Signed Body)) → 
 same_stand c ring [] is = refl
 same_stand c ring (f ∷ fs) is =
     ap (λ b. cond b (f ∷ filter (checked.stands ring) fs) (filter (checked.stands ring) fs))
-    (ap (λ (r : Ring). checked.stands r f) is ∙ sym (stands_by_ring c f))
+    (sym (stands_by c ring f is))
     ∙ ap (λ (xs : List (Signed Body)). cond (stands (setup_of c) f) (f ∷ xs) xs) (same_stand c ring fs is)
 
 -- where all frames stand, each place has its own

@@ -3,8 +3,6 @@ use Rattle.std.specs.Prelude.{◌≡◌, ℕ, Bool, true, false, if◌then◌els
 use Rattle.std.specs.Prelude.{Result, Ok, Err, filter, length, map, slice_get}
 use Rattle.message_types.specs.declared.signed.Signed.{Signed}
 use Rattle.message_types.specs.declared.body.Body.{Body}
-use Rattle.checked_frames.specs.declared.refusal.CheckRefusal.{CheckRefusal}
-use Rattle.checked_frames.specs.declared.refusal.CheckRefusal.TheVariants as refusal
 use Rattle.checked_frames.specs.Standing.{Ring}
 use Rattle.checked_frames.specs.Standing as checked
 use Rattle.quorum_sets.specs.Masters.{numbers_below}
@@ -39,11 +37,6 @@ standing_frame w (Some frame) = if stands w frame then Some frame else None
 -- the frame at a stamp and a place of lists of frames, one list a stamp
 abbrev pub frame_in : List (List (Signed Body)) → ℕ → ℕ → Option (Signed Body)
 frame_in posted stamp place = elim (slice_get posted stamp) [ None ↦ None | Some frames ↦ slice_get frames place ]
-
--- a refusal that is want of memory
-abbrev pub is_want : CheckRefusal → Bool
-is_want refusal.Want = true
-is_want _ = false
 
 -- what a list of lists has at a place, or nothing
 abbrev pub list_at : {X : Type 0} → Option (List X) → List X

@@ -5,18 +5,16 @@ ghost use Rattle.scenario_file.specs.Reading.{contents};
 ghost use Rattle.world_entries.specs.Entries.{entry_of, event_of};
 ghost use Rattle.world_rules.specs.Frames.{cried, frames_at_stamp};
 ghost use Rattle.world_rules.specs.Scenarios.{setup_of};
-ghost use Rattle.world_history.specs.Roles.{is_want};
 ghost use Rattle.printed_run.specs.Places.{IsAtHand};
 ghost use Rattle.printed_run.specs.Printed.{is_frame, is_said};
 
 use checked_frames::Checked;
-use message_forms::{FormRefusal, read_frame};
 use message_types::Frame;
 use plain_lists::{Same, Want};
 use scenario_file::Scenario;
 use std::alloc::Global;
 use world_entries::{Entry, Event};
-use world_history::Bench;
+use world_history::{Bench, cried};
 
 /// A history with the benches of its actors and the places of its entries in their lists.
 #[derive(Drop)]
@@ -86,15 +84,9 @@ fn is_cried(alloc: Global, bytes: &[u8], place: u32, frame: &Frame) -> Result<bo
     if place != 0 {
         return Ok(false);
     }
-    match read_frame(alloc, bytes) {
-        Ok(said) => Ok(said.is_same(frame)),
-        Err(refusal) if is_want(refusal) => Err(Want),
-        Err(_) => Ok(false),
+    let found = cried(alloc, bytes)?;
+    match found {
+        Some(said) => Ok(said.is_same(frame)),
+        None => Ok(false),
     }
-}
-
-fn is_want(refusal: FormRefusal) -> bool
-    ensures { result ≡ is_want refusal }
-{
-    matches!(refusal, FormRefusal::Want)
 }

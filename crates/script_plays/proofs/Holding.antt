@@ -1,15 +1,10 @@
 -- What an actor's frame is held as.
-use Rattle.std.proofs.Common.{◌≡◌, ℕ, ◌^◌, ◌<◌, Bool, true, false, cond, ◌&&◌, List, [], ◌∷◌, Option, Some, None}
-use Rattle.std.proofs.Common.{Result, Ok, Err, nat_lt, refl, sym, ◌∙◌, ap, subst, arith}
-use Rattle.std.specs.Prelude.{IsTrue}
-use Rattle.std.proofs.lemmas.Bool.{lt-ltb, le-ltb, false≢true, false_from_ne_true}
+use Rattle.std.proofs.Common.{◌≡◌, ℕ, ◌^◌, ◌<◌, Bool, true, false, cond, ◌&&◌, List, Option, Some, None}
+use Rattle.std.proofs.Common.{nat_lt, refl, sym, ◌∙◌, ap, arith}
+use Rattle.std.proofs.lemmas.Bool.{lt-ltb, le-ltb}
 use Rattle.message_types.specs.declared.signed.Signed.{Signed}
 use Rattle.message_types.specs.declared.body.Body.{Body}
-use Rattle.checked_frames.specs.declared.refusal.CheckRefusal.{CheckRefusal}
-use Rattle.checked_frames.specs.declared.refusal.CheckRefusal.TheVariants as check
-use Rattle.checked_frames.specs.Standing.{Ring, IsFault, first_fault}
 use Rattle.checked_frames.specs.Standing as ring
-use Rattle.checked_frames.proofs.StandingLaws.{stands_faultless}
 use Rattle.scenario_file.specs.Reading.{Contents, contents}
 use Rattle.scenario_file.specs.declared.scenario.Scenario.{Scenario}
 use Rattle.protocol_rules.specs.Group.{group_of}
@@ -22,7 +17,6 @@ use Rattle.bench_rules.specs.Lists.{ring_in}
 use Rattle.bench_rules.proofs.Ringing.{stands_by_ring}
 use Rattle.script_plays.specs.declared.mail.Held.{Held}
 use Rattle.script_plays.specs.Mail.{held_at, post_to}
-use Rattle.script_plays.specs.Posting.{is_want}
 
 made : Bool → Bool → ℕ → ℕ → Signed Body → Option Held
 made here well stamp place f = cond (here && well) (Some (record { stamp = stamp; place = place; frame = f })) None
@@ -53,28 +47,6 @@ pub held_fallen : (w : Setup) (stamp place : ℕ) (f : Signed Body) → stands w
     ◌≡◌ {A = Option Held} None (held_at w stamp place f)
 unfolding held_at made
 held_fallen w stamp place f falls = sym (fallen w stamp place f (nat_lt place (2 ^ 32)) falls)
-
-some_fault : (r : CheckRefusal) (first : Option CheckRefusal) → is_want r ≡ false → IsFault r first → first ≡ None → ⊥
-some_fault check.Want first other fault none = false≢true (sym other)
-some_fault (check.SignerUnknown signer) first other fault none = absurd cc
-some_fault (check.Unsigned part) first other fault none = absurd cc
-some_fault (check.Misplaced part) first other fault none = absurd cc
-
--- a frame that is refused doesn't stand
-pub refused_falls : (c : Contents) (rg : Ring) (f : Signed Body) (r : CheckRefusal) → rg ≡ ring_in c →
-    is_want r ≡ false → IsFault r (first_fault rg f) → stands (setup_of c) f ≡ false
-refused_falls c rg f r same other fault =
-    false_from_ne_true (stands (setup_of c) f) (λ stand.
-    some_fault r (first_fault rg f) other fault
-    (stands_faultless rg f (ap (λ (x : Ring). ring.stands x f) same ∙ sym (stands_by_ring c f) ∙ stand)))
-
-pub passed_stands : (c : Contents) (rg : Ring) (f : Signed Body) → rg ≡ ring_in c → ring.stands rg f ≡ true →
-    stands (setup_of c) f ≡ true
-passed_stands c rg f same stand = stands_by_ring c f ∙ ap (λ (x : Ring). ring.stands x f) (sym same) ∙ stand
-
-pub same_refusal : (r : Result (Signed Body) CheckRefusal) (a b : CheckRefusal) → r ≡ Err a → r ≡ Err b → a ≡ b
-same_refusal r a b first second = ap (λ (x : Result (Signed Body) CheckRefusal). elim x [ Ok f ↦ a | Err e ↦ e ])
-    (sym first ∙ second)
 
 -- a frame that stands does so in the ring of the scenario's actors
 pub stands_somewhere : (c : Contents) (f : Signed Body) → stands (setup_of c) f ≡ true → ring.StandsSomewhere f

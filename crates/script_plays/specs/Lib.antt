@@ -4,4 +4,3 @@ pub mod Making
 pub mod Playing
 pub mod Crying
 pub mod Laws
-pub mod Posting

@@ -1,5 +1,5 @@
 //! What is posted of an entry.
-ghost use Rattle.std.specs.Prelude.{◌≡◌, true, map, nat_lt, IsTrue, IfOk, IfSome};
+ghost use Rattle.std.specs.Prelude.{◌≡◌, true, map, nat_lt, IsTrue, IfOk};
 ghost use Rattle.std.specs.List.{list_all};
 ghost use Rattle.scenario_file.specs.Reading.{contents};
 ghost use Rattle.message_types.specs.Spelling.{has_spelling};
@@ -9,19 +9,17 @@ ghost use Rattle.history_rules.specs.Setup.{Setup, stands};
 ghost use Rattle.world_rules.specs.Frames.{addressees as addressees_of, cried};
 ghost use Rattle.world_rules.specs.Scenarios.{setup_of};
 ghost use Rattle.script_plays.specs.Mail.{held_at, post_to, posts_from};
-ghost use Rattle.world_history.specs.Roles.{is_want as is_want_of_form, optional};
-ghost use Rattle.script_plays.specs.Posting.{is_want};
 ghost use Rattle.script_plays.specs.Playing.{IsWorld};
 
 use crate::addressing::addressees;
 use crate::mail::{Held, Post};
 use crate::playing::World;
-use checked_frames::{CheckRefusal, Checked, check};
+use checked_frames::{Checked, RingMemory};
 use intruder_words::kind_of;
-use message_forms::{FormRefusal, read_frame};
 use message_types::Frame;
 use plain_lists::{Items, Want};
 use std::alloc::Global;
+use world_history::{cried, if_standing};
 
 /// A frame of a correct actor, which stands: no part of it is tried.
 fn hold(alloc: Global, stamp: u64, place: usize, frame: Frame) -> Result<Option<Held>, Want>
@@ -84,21 +82,16 @@ fn hold_if_standing(world: &World<'_>, stamp: u64, frame: Frame) -> Result<Optio
     requires spelled { IsTrue (has_spelling frame) }
     ensures { IfOk result (λ held. held ≡ held_at (setup_of (contents world.now.scenario.now)) stamp 0 frame) }
 {
-    match check(world.alloc, &world.ring, frame) {
-        Ok(frame) => Ok(Some(Held {
+    let mut memory = RingMemory::none(world.alloc);
+    let found = if_standing(world.alloc, &world.ring, &mut memory, frame)?;
+    match found {
+        Some(frame) => Ok(Some(Held {
             stamp,
             place: 0,
             frame,
         })),
-        Err(refusal) if is_want(refusal) => Err(Want),
-        Err(_) => Ok(None),
+        None => Ok(None),
     }
-}
-
-fn is_want(refusal: CheckRefusal) -> bool
-    ensures { result ≡ is_want refusal }
-{
-    matches!(refusal, CheckRefusal::Want)
 }
 
 fn as_actors(alloc: Global, to: &[u64]) -> Result<Items<u32>, Want>
@@ -131,24 +124,6 @@ fn cried_post(
         to: as_actors(world.alloc, to)?,
         held: hold_if_standing(world, stamp, frame)?,
     })
-}
-
-/// The frame that a cry's bytes spell.
-fn cried(alloc: Global, bytes: &[u8]) -> Result<Option<Frame>, Want>
-    ensures found { IfOk result (λ found. optional found ≡ cried (Cry bytes.now)) }
-    ensures spelled { IfOk result (λ found. IfSome found (λ frame. IsTrue (has_spelling frame))) }
-{
-    match read_frame(alloc, bytes) {
-        Ok(frame) => Ok(Some(frame)),
-        Err(refusal) if is_want_of_form(refusal) => Err(Want),
-        Err(_) => Ok(None),
-    }
-}
-
-fn is_want_of_form(refusal: FormRefusal) -> bool
-    ensures { result ≡ is_want_of_form refusal }
-{
-    matches!(refusal, FormRefusal::Want)
 }
 
 /// What is posted of a cry: the frame that its bytes spell, if they spell one.

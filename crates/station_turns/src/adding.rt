@@ -3,23 +3,21 @@ ghost use Rattle.std.specs.Prelude.{◌≡◌, ◌<◌, ◌^◌, ◌++◌, true,
 ghost use Rattle.std.specs.List.{list_all};
 ghost use Rattle.message_types.specs.Spelling.{has_spelling};
 ghost use Rattle.scenario_file.specs.Reading.{contents};
-ghost use Rattle.history_rules.specs.Events.{Cry};
 ghost use Rattle.history_rules.specs.Setup.{stands};
 ghost use Rattle.history_rules.specs.Legal.{TakesWell};
 ghost use Rattle.world_entries.specs.Entries.{event_of};
 ghost use Rattle.world_rules.specs.Frames.{cried};
-ghost use Rattle.world_history.specs.Roles.{is_want, optional};
+ghost use Rattle.world_history.specs.Roles.{optional};
 ghost use Rattle.world_history.specs.State.{setup_in, with_entry};
 ghost use Rattle.world_history.specs.KeptState.{halted_in};
 ghost use Rattle.station_turns.specs.Turns.{stamp_posted, frames_posted, cries_frame};
 
-use message_forms::{FormRefusal, read_frame};
 use message_types::Frame;
 use plain_lists::Want;
 use scenario_file::Scenario;
 use std::alloc::Global;
 use world_entries::Event;
-use world_history::{Bench, Kept};
+use world_history::{Bench, Kept, cried};
 
 /// The stamp at which the frames were said that are posted at an event.
 fn stamp_posted(bench: &Bench, stamp: u64, event: &Event) -> u64
@@ -31,31 +29,13 @@ fn stamp_posted(bench: &Bench, stamp: u64, event: &Event) -> u64
     }
 }
 
-fn is_want(refusal: FormRefusal) -> bool
-    ensures { result ≡ is_want refusal }
-{
-    matches!(refusal, FormRefusal::Want)
-}
-
-/// The frame that a cry's bytes spell.
-fn frame_in(alloc: Global, bytes: &[u8]) -> Result<Option<Frame>, Want>
-    ensures found { IfOk result (λ found. optional found ≡ cried (Cry bytes.now)) }
-    ensures spelled { IfOk result (λ found. IfSome found (λ frame. IsTrue (has_spelling frame))) }
-{
-    match read_frame(alloc, bytes) {
-        Ok(frame) => Ok(Some(frame)),
-        Err(refusal) if is_want(refusal) => Err(Want),
-        Err(_) => Ok(None),
-    }
-}
-
 /// The frame that an event cries.
-fn cried(alloc: Global, event: &Event) -> Result<Option<Frame>, Want>
+fn frame_cried(alloc: Global, event: &Event) -> Result<Option<Frame>, Want>
     ensures found { IfOk result (λ found. optional found ≡ cried (event_of event.now)) }
     ensures spelled { IfOk result (λ found. IfSome found (λ frame. IsTrue (has_spelling frame))) }
 {
     match event {
-        Event::Cry { bytes } => frame_in(alloc, bytes.as_slice()),
+        Event::Cry { bytes } => cried(alloc, bytes.as_slice()),
         _ => Ok(None),
     }
 }
@@ -106,7 +86,7 @@ pub(crate) fn add(
     ensures stand { IfOk result (λ posting. posting.cries ≡ false → list_all (stands (setup_in kept.old.bench)) posting.frames.items ≡ true) }
 {
     let said = stamp_posted(kept.bench(), stamp, &event);
-    let frame = cried(alloc, &event)?;
+    let frame = frame_cried(alloc, &event)?;
     let cries = frame.is_some();
     let mut frames = kept.act(scenario, stamp, event)?;
     push_if(&mut frames, frame)?;

@@ -4,19 +4,14 @@ ghost use Rattle.message_types.specs.Spelling.{has_spelling};
 ghost use Rattle.scenario_file.specs.Reading.{Contents};
 ghost use Rattle.world_rules.specs.Scenarios.{setup_of};
 ghost use Rattle.bench_rules.specs.Lists.{ring_in};
-ghost use Rattle.station_turns.specs.Checking.{is_want, held_where_standing};
+ghost use Rattle.station_turns.specs.Checking.{held_where_standing};
 
 use crate::held::Held;
-use checked_frames::{CheckRefusal, KeyRing, RingMemory, check_with};
+use checked_frames::{KeyRing, RingMemory};
 use message_types::Frame;
 use plain_lists::Want;
 use std::alloc::Global;
-
-fn is_want(refusal: CheckRefusal) -> bool
-    ensures { result ≡ is_want refusal }
-{
-    matches!(refusal, CheckRefusal::Want)
-}
+use world_history::if_standing;
 
 /// A frame that was taken from an inbox, as a turn can take it; none where it doesn't stand. It was said at this stamp as body
 /// number `place` of its entry. The ring has the keys of the run's scenario; the memory is of frames that were checked with it.
@@ -31,13 +26,13 @@ pub fn held_if_standing(
     requires { IsTrue (has_spelling frame) }
     ensures { IfOk result (λ held. (c : Contents) → ring.now ≡ ring_in c → held ≡ held_where_standing (setup_of c) stamp place frame) }
 {
-    match check_with(alloc, ring, memory, frame) {
-        Ok(frame) => Ok(Some(Held {
+    let found = if_standing(alloc, ring, memory, frame)?;
+    match found {
+        Some(frame) => Ok(Some(Held {
             stamp,
             place,
             frame,
         })),
-        Err(refusal) if is_want(refusal) => Err(Want),
-        Err(_) => Ok(None),
+        None => Ok(None),
     }
 }

@@ -3,6 +3,7 @@
 pub mod Answering
 pub mod Masters
 pub mod Clients
+pub mod Refusing
 pub mod Intruded
 pub mod Roles
 pub mod Joining

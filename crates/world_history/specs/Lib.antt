@@ -1,5 +1,6 @@
 pub mod State
 pub mod Roles
+pub mod Reading
 pub mod Seats
 pub mod Benches
 pub mod Places

@@ -3,8 +3,6 @@ use Rattle.std.specs.Prelude.{◌≡◌, ℕ, ◌+◌, ◌^◌, ◌<◌, ◌≤�
 use Rattle.std.specs.Prelude.{Option, Some, None, length}
 use Rattle.message_types.specs.declared.signed.Signed.{Signed}
 use Rattle.message_types.specs.declared.body.Body.{Body}
-use Rattle.message_forms.specs.declared.refusal.FormRefusal.{FormRefusal}
-use Rattle.message_forms.specs.declared.refusal.FormRefusal.TheVariants as refusal
 use Rattle.protocol_rules.specs.Group.{Group}
 use Rattle.protocol_rules.specs.Master.{Heard}
 use Rattle.master_knowledge.specs.Whole.{is_whole}
@@ -95,11 +93,6 @@ CanAnswer event (role.Master node) = CanHear node event
 CanAnswer event (role.Intruded known) = Unit {0}
 CanAnswer event (role.Proxy front) = front.updates < 2 ^ 62
 CanAnswer event (role.Screen desk) = desk.commands < 2 ^ 63
-
--- a refusal that is want of memory
-abbrev pub is_want : FormRefusal → Bool
-is_want refusal.Want = true
-is_want _ = false
 
 -- what an option has, as a list
 abbrev pub optional : {X : Type 0} → Option X → List X

@@ -1,17 +1,14 @@
 //! An intruded master at its events.
-ghost use Rattle.std.specs.Prelude.{◌≡◌, ◌++◌, OnOk, IfOk, IfSome, IsTrue};
+ghost use Rattle.std.specs.Prelude.{◌≡◌, ◌++◌, OnOk};
 ghost use Rattle.std.specs.List.{flat_map};
 ghost use Rattle.message_types.specs.Parts.{parts};
 ghost use Rattle.protocol_rules.specs.Master.{taken_frames};
 ghost use Rattle.history_rules.specs.Events.{frame_taken, Cry};
 ghost use Rattle.world_entries.specs.Entries.{event_of};
-ghost use Rattle.message_types.specs.Spelling.{has_spelling};
 ghost use Rattle.world_rules.specs.Frames.{cried};
-ghost use Rattle.world_history.specs.Roles.{is_want, optional};
 
+use crate::reading::cried;
 use intruder_words::Overheard;
-use message_forms::{FormRefusal, read_frame};
-use message_types::Frame;
 use plain_lists::Want;
 use std::alloc::Global;
 use world_entries::Event;
@@ -35,22 +32,4 @@ fn overhear_cry(alloc: Global, known: &mut Overheard, bytes: &[u8]) -> Result<()
         Some(frame) => known.hear(&frame),
         None => Ok(()),
     }
-}
-
-/// The frame that the bytes spell.
-fn cried(alloc: Global, bytes: &[u8]) -> Result<Option<Frame>, Want>
-    ensures found { IfOk result (λ found. optional found ≡ cried (Cry bytes.now)) }
-    ensures spelled { IfOk result (λ found. IfSome found (λ frame. IsTrue (has_spelling frame))) }
-{
-    match read_frame(alloc, bytes) {
-        Ok(frame) => Ok(Some(frame)),
-        Err(refusal) if is_want(refusal) => Err(Want),
-        Err(_) => Ok(None),
-    }
-}
-
-fn is_want(refusal: FormRefusal) -> bool
-    ensures { result ≡ is_want refusal }
-{
-    matches!(refusal, FormRefusal::Want)
 }

@@ -5,55 +5,50 @@ use Rattle.scenario_file.specs.Reading.{contents}
 use Rattle.world_entries.specs.Entries.{entry_of, event_of}
 use Rattle.world_history.proofs.Steps.{Comes, IsReady, next_comes, all_replayed, bench_there, bench_ready}
 use Rattle.world_history.proofs.Steps.{benches_grow}
+use Rattle.world_history.proofs.replaying.replayed.Goals.{After-index_mut, In_ok-event}
 use Rattle.world_history.proofs.replaying.replayed.Goals as goal
+
+-- the entry gone over comes next
+comes : (c : In_ok-event) → Comes (contents c.args.scenario.now) c.args.history.now c.loop-entry.entry-index
+    (entry_of c.entry-item.result)
+comes c = next_comes (contents c.args.scenario.now) c.args.history.now c.entries-entries.result.now
+    c.loop-entry.entry-index c.entry-item.result
+    c.entries-entries.ensures c.requires.legal c.loop-entry-test.true c.entry-item.is
 
 pub index_mut-requires : goal.index_mut-requires
 index_mut-requires c =
-    let comes : Comes (contents c.args.scenario.now) c.args.history.now c.loop-entry.entry-index
-    (entry_of c.entry-item.result) =
-    next_comes (contents c.args.scenario.now) c.args.history.now c.entries-entries.result.now
-    c.loop-entry.entry-index c.entry-item.result
-    c.entries-entries.ensures c.requires.legal c.loop-entry-test.true c.entry-item.is in
     let there : c.entry-item.result.actor < length c.loop-entry.benches.items =
     bench_there (contents c.args.scenario.now) c.args.history.now c.loop-entry.entry-index
-    (entry_of c.entry-item.result) c.loop-entry.benches.items comes c.loop-entry.invariant in
+    (entry_of c.entry-item.result) c.loop-entry.benches.items
+    (comes (goal.at.index_mut-requires c).In_ok-event) c.loop-entry.invariant in
     omega (arith, c.loop-entry.benches.ok)
 
-ready : (c : goal.After-index_mut) → IsReady (2 ^ 32) c.index_mut.result.now c.entry-item.result.stamp
+ready : (c : After-index_mut) → Comes (contents c.args.scenario.now) c.args.history.now c.loop-entry.entry-index
+    (entry_of c.entry-item.result) → IsReady (2 ^ 32) c.index_mut.result.now c.entry-item.result.stamp
     (event_of c.in_ok-event.event)
-ready c =
-    let comes : Comes (contents c.args.scenario.now) c.args.history.now c.loop-entry.entry-index
-    (entry_of c.entry-item.result) =
-    next_comes (contents c.args.scenario.now) c.args.history.now c.entries-entries.result.now
-    c.loop-entry.entry-index c.entry-item.result
-    c.entries-entries.ensures c.requires.legal c.loop-entry-test.true c.entry-item.is in
-    bench_ready (contents c.args.scenario.now) c.args.history.now c.loop-entry.entry-index (2 ^ 32)
+ready c next = bench_ready (contents c.args.scenario.now) c.args.history.now c.loop-entry.entry-index (2 ^ 32)
     (entry_of c.entry-item.result) (event_of c.in_ok-event.event)
-    c.loop-entry.benches.items c.index_mut.result.now comes c.requires.short (ap event_of c.in_ok-event.ensures)
+    c.loop-entry.benches.items c.index_mut.result.now next c.requires.short (ap event_of c.in_ok-event.ensures)
     c.loop-entry.invariant c.index_mut.ensures.value
 
 pub act-requires-clause-fits : goal.act-requires-clause-fits
-act-requires-clause-fits c = (ready c).fits
+act-requires-clause-fits c = (ready c (comes (goal.at.act-requires-clause-fits c).In_ok-event)).fits
 
 pub act-requires-clause-later : goal.act-requires-clause-later
-act-requires-clause-later c = (ready c).later
+act-requires-clause-later c = (ready c (comes (goal.at.act-requires-clause-later c).In_ok-event)).later
 
 pub act-requires-clause-taken : goal.act-requires-clause-taken
-act-requires-clause-taken c = (ready c).taken
+act-requires-clause-taken c = (ready c (comes (goal.at.act-requires-clause-taken c).In_ok-event)).taken
 
 pub act-requires-clause-short : goal.act-requires-clause-short
-act-requires-clause-short c = (ready c).short
+act-requires-clause-short c = (ready c (comes (goal.at.act-requires-clause-short c).In_ok-event)).short
 
 pub loop-entry-preserved : goal.loop-entry-preserved
 loop-entry-preserved c =
-    let comes : Comes (contents c.args.scenario.now) c.args.history.now c.loop-entry.entry-index
-    (entry_of c.entry-item.result) =
-    next_comes (contents c.args.scenario.now) c.args.history.now c.entries-entries.result.now
-    c.loop-entry.entry-index c.entry-item.result
-    c.entries-entries.ensures c.requires.legal c.loop-entry-test.true c.entry-item.is in
     benches_grow (contents c.args.scenario.now) c.args.history.now c.loop-entry.entry-index
     (entry_of c.entry-item.result) (event_of c.in_ok-event.event)
-    c.loop-entry.benches.items _ c.index_mut.result.now c.act.new.self comes (ap event_of c.in_ok-event.ensures)
+    c.loop-entry.benches.items _ c.index_mut.result.now c.act.new.self
+    (comes (goal.at.loop-entry-preserved c).In_ok-event) (ap event_of c.in_ok-event.ensures)
     c.loop-entry.invariant c.index_mut.ensures.value
     c.in_ok-act.ensures.entry refl
 
