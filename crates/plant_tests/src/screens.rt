@@ -44,8 +44,9 @@ fn a_screen_shows_what_two_masters_of_four_vouch_for(rt: HostRuntime) -> Result<
     take(&mut screen, &votes)?;
     assert!(rt; screen.board().is_empty());
     take(&mut screen, &[(2, told(1, NoticeKind::NoAlarm))])?;
-    assert_eq!(rt; screen.board().len(), 2);
-    assert!(rt; screen.board()[0].what == NoticeKind::NoAlarm);
-    assert!(rt; screen.board()[1].what == NoticeKind::Done);
+    let board = screen.board();
+    assert_eq!(rt; board.len(), 2);
+    assert!(rt; board[0].what == NoticeKind::NoAlarm);
+    assert!(rt; board[1].what == NoticeKind::Done);
     Ok(())
 }
