@@ -37,7 +37,9 @@ fn command() -> Event {
 
 /// One command of a screen, with the frames of what it says.
 fn one_more(rt: &impl Abort, screen: &mut Bench, stamp: u64) -> Result<Vec<Frame>, Want> {
-    let event = command();
+    let event = Event::Command {
+        op: Op::Ack { alarm: 0 },
+    };
     assert!(rt; screen.fits(&event));
     assert!(rt; is_later(screen.list(), stamp));
     assert!(rt; screen.list().len() < 40);
