@@ -1,3 +1,4 @@
+-- One alarm: when a value raises it, when one clears it, and what acknowledging it changes. (This project's own.)
 use Rattle.std.specs.Prelude.{Bool, true, false, if◌then◌else◌, ℤ, ◌+ℤ◌, ◌-ℤ◌, int_le, int_lt}
 use Rattle.alarm_rules.specs.declared.alarm.AlarmKind.{AlarmKind}
 use Rattle.alarm_rules.specs.declared.alarm.AlarmKind.TheVariants.{High, Low}

@@ -1,3 +1,4 @@
+-- All alarms of a plant with their states, and what a value of a point changes of them. (This project's own.)
 use Rattle.std.specs.Prelude.{ℕ, suc, ◌==◌, Bool, true, false, if◌then◌else◌, List, [], ◌∷◌, ◌++◌, map, Option, Some}
 use Rattle.std.specs.Prelude.{None, ℤ, slice_get, position}
 use Rattle.std.specs.Option.{option_to_list, option_map_or}

@@ -174,7 +174,7 @@ impl KeyState {
     }
 
     /// Each head with the next signature, of this message, behind it: one leaf for all of them. All are made before the
-    /// leaf is used, so want of memory costs no leaf, and no leaf signs two messages.
+    /// leaf is used, so want of memory costs no leaf. No later `sign` or `sign_behind` of this key uses that leaf again.
     pub fn sign_behind(&mut self, heads: &[Bytes], message: &[u8]) -> Result<Vec<Bytes>, SignAnswer>
         ensures fields { IfOk result (λ fields. fields.items ≡ signed_behind self.old.key self.old.used message.now heads.now) }
         ensures verifies { OnOk result (Verifies (key_public self.old.key) message.now (signature_at self.old.key self.old.used message.now)) }

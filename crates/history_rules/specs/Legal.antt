@@ -64,7 +64,7 @@ executions w history actor = executions_in w actor (own history actor)
 abbrev pub view_by : Setup → List Entry → ℕ → ℕ
 view_by w history actor = view_in w actor (own history actor)
 
--- an event that takes a frame takes one that stands and that was said earlier
+-- An event that takes a frame takes one that stands and bears a lower stamp. That it was said there isn't asked.
 abbrev pub TakesWell : Setup → ℕ → Event → Type 0
 TakesWell w now (Took stamp place frame) = (stands w frame ≡ true) × (stamp < now)
 TakesWell w now _ = Unit {0}

@@ -48,8 +48,9 @@ impl<T: Postable> Inbox<T> {
         self.queue.absorb::<Joins>(&mut pass.seat, seat);
     }
 
-    /// The item at the front, or none. It is none only where the inbox was empty at a step of this call. It may wait for a post
-    /// that has begun.
+    /// An item that was at the front at one step of the inbox, behind all that this pass took before; or none. Of none the clause
+    /// says that the inbox was empty at a step at which this pass had taken and posted what it has: one of this call is meant, but
+    /// only a pass that has all parts can tell it from an earlier one. It may wait for a post that has begun.
     pub fn take<R: Wait>(&self, rt: &R, pass: &mut InboxPass<T>) -> Option<T>
         requires { IsPassOf self.now pass.old }
         ensures of { IsPassOf self.now pass.new }

@@ -1,11 +1,10 @@
+-- A rule as a list, operands first, and the way back: by this a proof tells rules apart.
 use Rattle.std.specs.Prelude.{◌≡◌, ℕ, zero, suc, List, [], ◌∷◌, ◌++◌, ℤ, pos, refl}
 use Rattle.std.specs.Coded.{Coded, code_by, coded×, coded_ℕ, coded_ℤ, coded_list}
 use Rattle.std.proofs.Common.{ap, ◌∙◌, sym, append_assoc, append-nil}
 use Rattle.interlocks.specs.declared.tree.Comparison.{Comparison}
 use Rattle.interlocks.specs.declared.tree.Comparison.TheVariants.{Equal, NotEqual, Below, AtMost, Above, AtLeast}
 use Rattle.interlocks.specs.Formula.{Formula, alarm, compare, negation, bracket, both, either}
-
--- A rule as a list, operands first, and the way back: by this a proof tells rules apart.
 
 abbrev pub index_of : Comparison → ℕ
 index_of Equal = 0

@@ -1,3 +1,4 @@
+-- The six comparisons of a rule. (This project's own.)
 use Rattle.std.specs.Prelude.{Bool, not, ℤ, int_le, int_lt}
 use Rattle.std.specs.Ordering.{int_eq}
 use Rattle.interlocks.specs.declared.tree.Comparison.{Comparison}

@@ -1,3 +1,4 @@
+-- What stands open while a rule is read from left to right. (This project's own.)
 use Rattle.std.specs.Prelude.{ℕ, List, Option}
 use Rattle.interlocks.specs.declared.reader.Scope.{Scope}
 

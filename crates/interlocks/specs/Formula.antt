@@ -1,3 +1,4 @@
+-- A rule as its text groups it, and when it holds over the points' values and the alarms' states. (This project's own.)
 use Rattle.std.specs.Prelude.{ℕ, zero, suc, Bool, false, not, ◌&&◌, ◌||◌, ℤ, slice_get}
 use Rattle.std.specs.Option.{option_map_or}
 use Rattle.point_table.specs.Table.{Table}

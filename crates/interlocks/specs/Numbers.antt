@@ -1,3 +1,4 @@
+-- The numbers of a rule: decimal digits, with a `-` or without, that 64 bits with sign hold. (This project's own.)
 use Rattle.std.specs.Prelude.{ℕ, ◌+◌, ◌-◌, ◌*◌, ◌==◌, nat_le, nat_lt, Bool, true, false, not, ◌&&◌, if◌then◌else◌}
 use Rattle.std.specs.Prelude.{List, [], ◌∷◌, Option, Some, None, ℤ, pos, neg_ℤ}
 use Rattle.std.specs.Option.{option_and_then, option_map}

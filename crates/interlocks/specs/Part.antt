@@ -1,3 +1,4 @@
+-- A part of a rule that is read, with how deep it is. (This project's own.)
 use Rattle.std.specs.Prelude.{ℕ, refl}
 use Rattle.std.specs.Coded.{Coded, code_by, coded×, coded_ℕ}
 use Rattle.interlocks.specs.Formula.{Formula}

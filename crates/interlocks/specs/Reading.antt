@@ -1,3 +1,8 @@
+-- Reading a rule from left to right, token by token. The grammar is
+--   any := all { "or" all },  all := one { "and" one },
+--   one := "not" one | "(" any ")" | "alarm" NAME | NAME CMP NUMBER
+-- (this project's own). A node is a `not`, a pair of brackets, an `and` or `or` of two parts or more, or
+-- a leaf, and what a node holds is one level deeper. A rule has at most 64 nodes on at most 16 levels.
 use Rattle.std.specs.Prelude.{ℕ, ◌+◌, ◌-◌, max, nat_le, nat_lt, Bool, true, false, ◌&&◌, if◌then◌else◌, List, [], ◌∷◌}
 use Rattle.std.specs.Prelude.{length, Option, Some, None, Result, Ok, Err, is_some, is_none, unwrap_or, take, drop}
 use Rattle.std.specs.Option.{option_map}
@@ -16,12 +21,6 @@ use Rattle.interlocks.specs.Formula.{Formula, alarm, compare, bracket, both, eit
 use Rattle.interlocks.specs.Part.{Part}
 use Rattle.interlocks.specs.Desk.{Desk}
 use Rattle.interlocks.specs.Tokens.{Piece, pieces, pieces_on, token_of}
-
--- Reading a rule from left to right, token by token. The grammar is
---   any := all { "or" all },  all := one { "and" one },
---   one := "not" one | "(" any ")" | "alarm" NAME | NAME CMP NUMBER
--- (this project's own). A node is a `not`, a pair of brackets, an `and` or `or` of two parts or more, or
--- a leaf, and what a node holds is one level deeper. A rule has at most 64 nodes on at most 16 levels.
 
 -- what names in a rule mean
 pub record Names : Type 0 where

@@ -1,3 +1,4 @@
+-- The tokens of a rule's text: names, keywords, comparisons, numbers and brackets. (This project's own.)
 use Rattle.std.specs.Prelude.{ℕ, suc, ◌-◌, ◌==◌, nat_le, Bool, false, not, ◌&&◌, ◌||◌, if◌then◌else◌, List, [], ◌∷◌}
 use Rattle.std.specs.Prelude.{◌++◌, length, Option, Some, None, ℤ, codes}
 use Rattle.std.specs.List.{list_all}

@@ -1,3 +1,5 @@
+-- What an executed update does to the plant as a master keeps it, and which orders it gives (this project's
+-- own rules). Clients are numbered from the proxies on; the screens come behind them.
 use Rattle.std.specs.Prelude.{◌≡◌, ℕ, zero, suc, ◌==◌, nat_lt, Bool, true, false, ◌&&◌, if◌then◌else◌, List, [], ◌∷◌}
 use Rattle.std.specs.Prelude.{◌++◌, Option, Some, None, ℤ, slice_get, slice_set, position, IsSomeAnd}
 use Rattle.std.specs.Ordering.{int_eq}
@@ -23,9 +25,6 @@ use Rattle.master_points.specs.declared.effect.Step.TheVariants.{Keep, Read, Ack
 use Rattle.master_points.specs.declared.effect.Effect.{Effect}
 use Rattle.master_points.specs.declared.effect.Verdict.{Verdict}
 use Rattle.master_points.specs.declared.effect.Verdict.TheVariants as verdict
-
--- What an executed update does to the plant as a master keeps it, and which orders it gives (this project's
--- own rules). Clients are numbered from the proxies on; the screens come behind them.
 
 -- what stays: how many proxies and screens there are, and the interlocks
 pub record Site : Type 0 where

@@ -1,3 +1,4 @@
+-- Lists of orders, one a client. (This project's own.)
 use Rattle.std.specs.Prelude.{ℕ, ◌<◌, List, [], ◌∷◌, ◌++◌, zero, suc}
 use Rattle.message_types.specs.declared.vouchers.Order.{Order}
 use Rattle.master_points.specs.declared.effect.Addressed.{Addressed}

@@ -1,3 +1,4 @@
+-- The plant after executed updates, and the orders that these give each client. (This project's own, after Spire.)
 use Rattle.std.specs.Prelude.{◌≡◌, ℕ, ◌+◌, ◌==◌, ◌<◌, ◌≤◌, if◌then◌else◌, List, [], ◌∷◌, ◌++◌, length, replicate}
 use Rattle.std.specs.Prelude.{slice_get, Some}
 use Rattle.message_types.specs.declared.updates.Update.{Update}

@@ -1,3 +1,4 @@
+-- Counts of faults of files, outputs and keepers. (This project's own.)
 use Rattle.std.specs.Prelude.{◌≡◌, ℕ, ◌<◌, ◌^◌, ◌-◌, ◌⊎◌}
 
 -- A count of faults has risen in a call: it stands above what it was, or at its greatest value, past

@@ -1,3 +1,4 @@
+-- What a put does to an output: a piece is there whole, in part or not at all. (This project's own.)
 use Rattle.std.specs.Prelude.{◌≡◌, ℕ, List, ◌++◌, Option, None, Some, take, Result, Ok, Err}
 use Rattle.std.specs.Io.KnownBytes.{Appends}
 use Rattle.outside.specs.declared.sinks.PutAnswer.{PutAnswer}

@@ -1,3 +1,4 @@
+-- What a load of a file gives, and files in memory. (This project's own.)
 use Rattle.std.specs.Prelude.{◌≡◌, ℕ, ◌+◌, ◌≤◌, ◌<◌, List, [], ◌∷◌, ◌++◌, Option, None, Some, Result, Ok, Err, length}
 use Rattle.std.specs.Prelude.{count_by, IsSome, if◌then◌else◌, nat_eq, min, ◌^◌, ◌-◌, string_bytes}
 use Rattle.std.specs.List.{list_any}

@@ -8,8 +8,8 @@ use Rattle.history_rules.specs.Legal.{says_in, TakesWell, Stands}
 use Rattle.history_rules.specs.Counts.{stamped}
 
 -- The actor could add the entry after these of its own: its stamp is above theirs, the actor wasn't halted, the event
--- is one of its role, a frame that it takes stands and was said at a lower stamp, and what it says is what the rules
--- make it say.
+-- is one of its role, a frame that it takes stands and bears a lower stamp, and what it says is what the rules make it
+-- say.
 pub record IsOwnEntry (w : Setup) (actor : ℕ) (before : List Entry) (e : Entry) : Type 0 where
   pub by : e.actor ≡ actor
   pub later : list_all (λ b. nat_lt b.stamp e.stamp) before ≡ true

@@ -11,7 +11,7 @@ use std::alloc::Global;
 use std::process::Abort;
 use std::test::Fail;
 
-// The frames were made by pymodbus (bench/interop).
+// The frames were made by pymodbus (trials/interop).
 
 fn asks(
     rt: &impl Abort,

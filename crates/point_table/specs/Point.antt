@@ -1,3 +1,5 @@
+-- Points: what a place of each area can hold, what a raw value stands for, and which points a scenario may give. (Areas
+-- and their values after Modbus V1.1b3, section 4.3; scales, offsets and bounds are this project's own.)
 use Rattle.std.specs.Prelude.{◌≡◌, ℕ, suc, zero, Bool, true, false, ◌&&◌, if◌then◌else◌, Option, Some, None, ℤ, pos}
 use Rattle.std.specs.Prelude.{◌+ℤ◌, ◌*ℤ◌, ◌≤ℤ◌, int_le}
 use Rattle.std.specs.Ordering.{int_eq}

@@ -1,3 +1,5 @@
+-- The table of a plant's points: each has a value within its bounds, which is read and set by the point's number. (This
+-- project's own.)
 use Rattle.std.specs.Prelude.{◌≡◌, ℕ, true, List, [], ◌∷◌, map, Option, ℤ, position}
 use Rattle.std.specs.Str.{bytes_eq}
 use Rattle.point_table.specs.declared.point.Point.{Point}

@@ -68,7 +68,7 @@ pub record IsWorld (world : World) : Type 0 where
   pub ring : world.ring ≡ ring_in (contents world.scenario.now)
   pub words : are_sayings_of (contents world.scenario.now) world.words.now ≡ true
 
--- the frame stands, and was said before now
+-- the frame stands, and bears a stamp before now
 abbrev pub is_held_well : Setup → ℕ → Held → Bool
 is_held_well w now h = nat_lt h.stamp now && stands w h.frame
 
@@ -82,7 +82,7 @@ abbrev pub is_due : Contents → ℕ → Delivery → Bool
 is_due c now d = is_there c d.to && is_held_well (setup_of c) now d.held
 
 -- What holds of each history in the making: it is legal and no longer than a play can be, each frame that can be taken
--- stands and was said before, and each delivery is to an actor that is there.
+-- stands and bears a stamp before now, and each delivery is to an actor that is there.
 pub record IsSound (c : Contents) (m : Making) : Type 0 where
   pub legal : IsLegal (setup_of c) m.history
   pub short : length m.history ≤ most_entries

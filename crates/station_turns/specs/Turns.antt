@@ -204,6 +204,6 @@ given_or_tick b (Some x) = unwrap_or (event_given b x) Tick
 abbrev pub event_from_input : Stationed → Event
 event_from_input s = given_or_tick s.kept.bench (next_input s.inputs s.kept.bench.list)
 
--- the frame stands, and was said at a lower stamp
+-- the frame stands, and bears a lower stamp
 abbrev pub TakesAt : Setup → ℕ → Option Held → Type 0
 TakesAt w stamp held = TakesWell w stamp (taking held)
