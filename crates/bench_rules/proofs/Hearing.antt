@@ -1,29 +1,22 @@
 -- What a master hears along its own list.
 use Rattle.std.proofs.Common.{◌≡◌, ℕ, ◌+◌, ◌≤◌, Bool, true, false, cond, ◌&&◌, not, List, [], ◌∷◌, ◌++◌, length}
-use Rattle.std.proofs.Common.{length-append, take, filter, nat_eq, nat_lt, refl, sym, ◌∙◌, ap, subst, inl, inr, ◌⊎◌}
+use Rattle.std.proofs.Common.{length-append, take, nat_lt, refl, ◌∙◌, ap, inl, inr, ◌⊎◌}
 use Rattle.std.proofs.Common.{arith}
-use Rattle.std.proofs.lemmas.Bool.{false≢true, eq-eqb, cases_Bool}
+use Rattle.std.proofs.lemmas.Bool.{false≢true, cases_Bool}
 use Rattle.std.proofs.lemmas.List.{append-nil}
-use Rattle.std.specs.List.{list_all}
-use Rattle.message_types.specs.declared.signed.Signed.{Signed}
 use Rattle.std.proofs.Math.Seq.{take-nil}
 use Rattle.message_types.specs.declared.body.Body.{Body}
 use Rattle.protocol_rules.specs.Master.{Heard, answers}
-use Rattle.history_rules.specs.Events.{Event, Entry, frame_taken, is_tick, is_silent}
+use Rattle.history_rules.specs.Events.{Entry, frame_taken, is_tick, is_silent}
 use Rattle.history_rules.specs.Leaves.{leaves_for}
-use Rattle.history_rules.specs.Setup.{Setup, is_correct_master, heard_from, leaves_used, signed_from, room}
-use Rattle.history_rules.specs.Legal.{Stands, heard_in, says_in}
-use Rattle.history_rules.specs.Audit.{IsIn}
-use Rattle.agreement.proofs.Known.{hears, signed_from_in, signed_from_bodies, heard_step}
-use Rattle.agreement.proofs.Places.{by_growth, stands_in}
+use Rattle.history_rules.specs.Setup.{Setup, is_correct_master, heard_from, leaves_used, room}
+use Rattle.history_rules.specs.Legal.{heard_in, says_in}
+use Rattle.agreement.proofs.Known.{hears, heard_step}
+use Rattle.agreement.proofs.Places.{by_growth}
 use Rattle.words_in_place.specs.Laws.{ticks_heard}
-use Rattle.words_in_place.proofs.Limits.{all_from, filter_more}
-use Rattle.master_node.specs.Running.{AreItsFrames}
-use Rattle.master_node.specs.Charge.{says_at}
-use Rattle.master_node.specs.Laws.{charge_of, SilentSayNothing}
-use Rattle.master_node.proofs.Histories.{says_as_histories_do}
-use Rattle.bench_rules.specs.Lists.{AddsEntry, IsBenchList, frames_after}
-use Rattle.bench_rules.specs.Laws.{FewTicks, MasterSays, MasterIsHanded, SilentSaysNothing, HeardNext, HeardSame}
+use Rattle.words_in_place.proofs.Limits.{filter_more}
+use Rattle.own_histories.specs.Lists.{AddsEntry}
+use Rattle.bench_rules.specs.Laws.{FewTicks, SilentSaysNothing, HeardNext, HeardSame}
 use Rattle.quorum_sets.proofs.MastersLemmas.{at_most_one}
 use Rattle.words_in_place.proofs.Signing.{rule_of as rule_if}
 
@@ -116,20 +109,3 @@ rule_of w i list e adds correct loud =
     adds.said ∙ rule_if (room w list) (nat_lt i w.group.n) (w.intruded i) (is_silent e.event)
     (answers w.group w.orders i (heard_in w i list) (frame_taken e.event) (is_tick e.event))
     (w.client_says i list e.event) correct loud
-
-quiet : (w : Setup) (i : ℕ) (list : List Entry) → is_correct_master w i ≡ true → IsBenchList w i list →
-    SilentSayNothing list
-quiet w i list correct is x h silent =
-    let place = stands_in list h in silent_says_nothing w i place.0 x correct (is.entries place.0 x place.1) silent
-
-pub master_says : MasterSays
-master_says w i list e correct is adds loud =
-    says_as_histories_do w i list e.event correct (quiet w i list correct is) loud ∙ sym adds.said
-
-pub master_is_handed : MasterIsHanded
-master_is_handed w i list e correct is adds loud = record {
-  own = all_from (λ f. nat_eq f.signer i) (frames_after w i list e)
-      (λ f h. eq-eqb f.signer i (signed_from_in w i (leaves_used w list) 0 e.said e.said f h).0);
-  words = signed_from_bodies w i (leaves_used w list) 0 e.said e.said
-      ∙ sym (master_says w i list e correct is adds loud);
-}

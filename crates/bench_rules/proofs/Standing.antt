@@ -1,6 +1,6 @@
 -- What a correct master says along its own list is spelled, signed and in its place, as all that it knows is.
 use Rattle.std.proofs.Common.{◌≡◌, ℕ, ◌+◌, ◌-◌, ◌^◌, ◌<◌, ◌≤◌, Bool, true, false, cond, ◌&&◌, not, List, [], ◌∷◌}
-use Rattle.std.proofs.Common.{◌++◌, take, map, length, length-append, nat_eq, nat_lt, refl, sym, ◌∙◌, ap, subst, inl}
+use Rattle.std.proofs.Common.{◌++◌, take, length, length-append, nat_eq, nat_lt, refl, sym, ◌∙◌, ap, subst, inl}
 use Rattle.std.proofs.Common.{inr, ◌⊎◌, arith}
 use Rattle.std.proofs.lemmas.Bool.{and_parts, ltb-true, eq-eqb, cases_Bool}
 use Rattle.std.proofs.lemmas.Grind.{flat_map-append}
@@ -14,10 +14,10 @@ use Rattle.protocol_rules.specs.Master.{Heard, learned, known_at, taken_frames, 
 use Rattle.history_rules.specs.Events.{Entry, frame_taken, is_tick, is_silent}
 use Rattle.history_rules.specs.Leaves.{leaves_for}
 use Rattle.history_rules.specs.Setup.{Setup, stands, is_correct_master, leaves_used, room, signed_from}
-use Rattle.history_rules.specs.Legal.{Stands, heard_in, says_in}
+use Rattle.history_rules.specs.Legal.{heard_in}
 use Rattle.history_rules.specs.Audit.{IsIn}
 use Rattle.agreement.specs.Laws.{HasSizes}
-use Rattle.agreement.proofs.Lists.{Each, each_none, each_append, none_in, in_cases, in_take, in_map_from}
+use Rattle.agreement.proofs.Lists.{Each, each_none, each_append, none_in, in_cases, in_take}
 use Rattle.agreement.proofs.Lists.{in_flat_map_from}
 use Rattle.agreement.proofs.Places.{by_growth, stands_on, stands_last}
 use Rattle.agreement.proofs.Known.{hears, signed_from_in, signed_from_bodies}
@@ -28,13 +28,11 @@ use Rattle.words_in_place.specs.Signing.{SignsWell}
 use Rattle.words_in_place.proofs.Limits.{all_from, all_each}
 use Rattle.words_in_place.proofs.Spelled.{answers_are_spelled}
 use Rattle.words_in_place.proofs.Standing.{own_frames_stand}
-use Rattle.bench_rules.specs.Lists.{AddsEntry, IsBenchList, frames_after}
-use Rattle.bench_rules.specs.Laws.{MasterFramesStand, MasterWordsFit, StandingIsWhole}
+use Rattle.own_histories.specs.Lists.{AddsEntry, IsBenchList}
+use Rattle.bench_rules.specs.Lists.{frames_after}
+use Rattle.bench_rules.specs.Laws.{MasterFramesStand, MasterWordsFit}
 use Rattle.bench_rules.proofs.Hearing.{heard_next, heard_same, heard_none, few_ticks, rule_of, silent_says_nothing}
 use Rattle.words_in_place.proofs.Signing.{IsWell, parts_well, room_enough, taken_well}
-
-pub standing_is_whole : StandingIsWhole
-standing_is_whole w frame stand = all_from (in_place w.group) (parts frame) (λ p h. (parts_well w frame stand p h).0)
 
 known_from : (w : Setup) (before : List Heard) (e : Entry) (p : Signed Body) →
     IsIn p (known_at before (frame_taken e.event))

@@ -1,4 +1,4 @@
-//! Lists of entries that one actor's state is the replay of, and what holds of the words said along them.
+//! What a correct master hears along its own list of entries, and that what it says there stands.
 #![tactic(auto)]
 
 pub mod laws;

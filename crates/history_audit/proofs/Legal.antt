@@ -17,8 +17,8 @@ use Rattle.world_rules.specs.Clients.{proxy_says, screen_says, front_of, desk_of
 use Rattle.world_rules.specs.Scenarios.{masters_in, proxies_in, client_in, setup_of}
 use Rattle.world_rules.proofs.Fields.{setup_goes_by, sizes_of_group}
 use Rattle.world_rules.proofs.Signed.{signatures_sign}
-use Rattle.bench_rules.specs.Lists.{IsBenchList}
-use Rattle.bench_rules.proofs.Growing.{own_history_is_bench_list, intruded_say_nothing}
+use Rattle.own_histories.specs.Lists.{IsBenchList}
+use Rattle.own_histories.proofs.Growing.{own_history_is_bench_list, intruded_say_nothing}
 use Rattle.bench_rules.proofs.Standing.{master_words_fit}
 use Rattle.history_audit.specs.Legal.{LegalAreSpelled}
 use Rattle.history_rules.proofs.Entries.{all_from, own_fewer}

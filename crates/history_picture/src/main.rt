@@ -3,14 +3,24 @@
 //! master that executed most. Without words it prints what it can be asked.
 #![tactic(auto)]
 
+mod happened;
+mod lanes;
+mod marks;
+mod picture;
+mod plot;
+mod shapes;
+mod style;
+
 ghost use Rattle.std.specs.Prelude.{◌<◌, ◌^◌, length, IfOk};
 ghost use Rattle.scenario_file.specs.Reading.{contents};
 ghost use Rattle.scenario_file.specs.Valid.{IsScenario};
 ghost use Rattle.history_rules.specs.Legal.{IsLegal};
 ghost use Rattle.world_rules.specs.Scenarios.{setup_of};
 
+use crate::happened::picture_of;
+use crate::picture::Range;
+use crate::plot::plot_of;
 use anyhow::{Context, Result, bail};
-use history_pictures::{Range, picture_of, plot_of};
 use outside::{Files, LoadAnswer, RealFiles};
 use printed_history::{read_history, read_replay};
 use scenario_file::Scenario;

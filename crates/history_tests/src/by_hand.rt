@@ -8,7 +8,6 @@ ghost use Rattle.world_rules.specs.Scenarios.{group_in};
 ghost use Rattle.world_history.specs.State.{setup_in};
 
 use crate::common::{has_actor, is_later};
-use bench_rules::laws::stands_by_ring;
 use checked_frames::{Checked, KeyRing, check};
 use message_types::Op;
 use plain_lists::{Copied, Want};
@@ -17,6 +16,7 @@ use std::alloc::Global;
 use std::marker::Model;
 use std::process::Abort;
 use std::test::Fail;
+use world_history::laws::stands_by_ring;
 use world_history::{Bench, Event, ring_of};
 
 /// Masters 0 to 3 and a screen as actor 4.
@@ -45,7 +45,7 @@ impl Model for Seen {
     ghost use Rattle.std.specs.Prelude.{◌≡◌};
     ghost use Rattle.std.specs.Coded.{codes};
     ghost use Rattle.interlocks.specs.Code.{formula_code};
-    ghost use Rattle.bench_rules.specs.Lists.{ring_in};
+    ghost use Rattle.world_history.specs.Signed.{ring_in};
     ghost use Rattle.world_history.specs.State.{BenchState};
 
     ghost Value = { BenchState };

@@ -1,7 +1,7 @@
 //! Small plays.
 use crate::scripts::{last_of, last_said, played};
 use message_types::Body;
-use script_plays::PlayAnswer;
+use run_scripts::PlayAnswer;
 use std::alloc::Global;
 use std::test::Fail;
 use world_history::{Event, Kept};

@@ -1,9 +1,9 @@
 //! Plays for the tests to look at.
 use message_types::Body;
+use run_scripts::{PlayAnswer, play};
 use scenario_file::Scenario;
 use script_laws::laws::{read_lines_are_of_scenario, read_words_are_of_scenario};
 use script_lines::{Script, Words};
-use script_plays::{PlayAnswer, play};
 use std::alloc::Global;
 use std::test::Fail;
 use world_history::{Entry, Kept};

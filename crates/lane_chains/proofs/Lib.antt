@@ -1,6 +1,11 @@
-pub mod Growing
-pub mod HashLaws
-pub mod ValueLaws
-mod WordLaws
-mod ChainLaws
-mod MarkLaws
+mod RotationByShifts
+mod MajorityInFewer
+mod LanesOneByOne
+mod RoundsOneByOne
+mod StepsInOneBlock
+pub mod ChainsGrow
+pub mod HashLengths
+pub mod ValuesJoined
+mod BytesAsWords
+mod LanesOfChains
+mod ChainsInAnyOrder

@@ -1,3 +1,6 @@
 pub mod Hash
 pub mod Chains
 pub mod Marks
+pub mod Lanes
+pub mod Steps
+pub mod Trails

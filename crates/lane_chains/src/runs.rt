@@ -2,11 +2,12 @@
 
 ghost use Rattle.std.specs.Prelude.{◌≡◌, ℕ, ◌<◌, ◌≤◌, ◌+◌, ◌-◌, ◌*◌, ◌%◌, ◌^◌, length, slice_index, cond, ltb};
 ghost use Rattle.sha2.specs.Sha256.{digest_bytes};
-ghost use Rattle.sha_lanes.specs.Lanes.{lane};
+ghost use Rattle.lane_chains.specs.Lanes.{lane};
 ghost use Rattle.lane_chains.specs.Chains.{chain, end_of, AreSteps};
 
+use crate::rounds::Room;
+use crate::steps::{begun, chain_step};
 use crate::words::{gathered, gathered_values, spread};
-use sha_lanes::{Room, begun, chain_step};
 use std::simd::u32x8 as Words;
 
 // `a` in the lanes whose step is below the last, and `b` in the others.

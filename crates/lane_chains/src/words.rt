@@ -2,7 +2,7 @@
 
 ghost use Rattle.std.specs.Prelude.{◌≡◌, ℕ, ◌<◌, ◌≤◌, ◌+◌, ◌*◌, ◌^◌, length, slice_index};
 ghost use Rattle.sha2.specs.Sha256.{digest_bytes, word_at};
-ghost use Rattle.sha_lanes.specs.Lanes.{lane};
+ghost use Rattle.lane_chains.specs.Lanes.{lane};
 ghost use Rattle.lane_chains.specs.Chains.{value_at};
 
 use std::simd::u32x8 as Words;

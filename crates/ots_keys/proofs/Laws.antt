@@ -13,8 +13,8 @@ use Rattle.ots_keys.specs.Parameters.{type_code, chains, top_digit, signature_le
 use Rattle.ots_keys.specs.Digits.{coef, digit}
 use Rattle.lane_chains.specs.Hash.{hash_under}
 use Rattle.lane_chains.specs.Chains.{joined, chain}
-use Rattle.lane_chains.proofs.Growing.{joined-cong}
-pub use Rattle.lane_chains.proofs.HashLaws.{length-hash_under}
+use Rattle.lane_chains.proofs.ChainsGrow.{joined-cong}
+pub use Rattle.lane_chains.proofs.HashLengths.{length-hash_under}
 use Rattle.ots_keys.specs.Keys.{secret, public_key, key_of_ends, chain_end, signature, signed_element, candidate}
 use Rattle.ots_keys.specs.Keys.{finished_element, IsSignatureForm, randomizer, randomizer_in, message_hash}
 use Rattle.ots_keys.specs.Keys.{element_in, public_tag}

@@ -2,3 +2,4 @@ pub mod Building
 pub mod Owning
 pub mod Stamps
 pub mod Merging
+pub mod Growing

@@ -1,2 +1,3 @@
 pub mod Own
+pub mod Lists
 pub mod Laws

@@ -1,4 +1,4 @@
-ghost use Rattle.own_histories.specs.Laws.{OwnOfLegal, MergedIsLegal, MergedHasOwnLists, NoneIsLegal, OneMoreIsLegal, NoneIsOwn, OneMoreIsOwn, OwnEntryIsLegal};
+ghost use Rattle.own_histories.specs.Laws.{OwnOfLegal, MergedIsLegal, MergedHasOwnLists, NoneIsLegal, OneMoreIsLegal, NoneIsOwn, OneMoreIsOwn, OwnEntryIsLegal, NoneIsBenchList, OneMoreIsBenchList, OwnHistoryIsBenchList, UnhaltedIsOwnHistory, IntrudedSayNothing};
 
 /// Of a legal history each actor's own entries are a list that the actor could make alone.
 pub fn own_of_legal()
@@ -27,4 +27,29 @@ pub fn one_more_is_own()
 /// What an actor can add to its own list of a history, with the next stamp, can come in that history.
 pub fn own_entry_is_legal()
     ensures { OwnEntryIsLegal }
+{}
+
+/// The list of no entries is a bench's.
+pub fn none_is_bench_list()
+    ensures { NoneIsBenchList }
+{}
+
+/// So is one with one more entry that its actor could add.
+pub fn one_more_is_bench_list()
+    ensures { OneMoreIsBenchList }
+{}
+
+/// An actor's own history is a bench's list.
+pub fn own_history_is_bench_list()
+    ensures { OwnHistoryIsBenchList }
+{}
+
+/// A bench's list whose actor was never halted before an entry is an own history.
+pub fn unhalted_is_own_history()
+    ensures { UnhaltedIsOwnHistory }
+{}
+
+/// An intruded master says nothing by itself.
+pub fn intruded_say_nothing()
+    ensures { IntrudedSayNothing }
 {}

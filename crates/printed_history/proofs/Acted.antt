@@ -20,15 +20,16 @@ use Rattle.history_rules.specs.Legal.{says_in}
 use Rattle.world_rules.specs.Frames.{cried, frames_of}
 use Rattle.world_rules.specs.Scenarios.{setup_of, masters_in}
 use Rattle.world_rules.proofs.Fields.{setup_goes_by, group_is}
-use Rattle.bench_rules.specs.Lists.{ring_in, frames_after}
-use Rattle.bench_rules.proofs.Growing.{intruded_say_nothing}
+use Rattle.world_history.specs.Signed.{ring_in}
+use Rattle.bench_rules.specs.Lists.{frames_after}
+use Rattle.own_histories.proofs.Growing.{intruded_say_nothing}
 use Rattle.world_entries.specs.declared.entry.Entry.{Entry as KeptEntry}
 use Rattle.world_entries.specs.Entries.{entry_of}
 use Rattle.world_history.specs.State.{BenchState, setup_in, entry_at, with_entry, frames_said}
 use Rattle.world_history.specs.Seats.{frames_of_each}
 use Rattle.printed_history.specs.Reading.{standing_frame, list_at, posted_of}
 use Rattle.printed_history.proofs.Framing.{same_stand, all_standing, few_standing}
-use Rattle.printed_run.proofs.Cries.{who_cries}
+use Rattle.world_history.proofs.Intruded.{who_cries}
 use Rattle.plain_lists.proofs.Lists.{mapped_at}
 
 -- the last entry is the one that was added

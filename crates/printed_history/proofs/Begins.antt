@@ -12,7 +12,7 @@ use Rattle.history_rules.specs.Keeping.{keeper_calls}
 use Rattle.history_rules.specs.Legal.{IsLegal}
 use Rattle.message_types.specs.declared.signed.Signed.{Signed}
 use Rattle.message_types.specs.declared.body.Body.{Body}
-use Rattle.bench_rules.specs.Lists.{ring_in}
+use Rattle.world_history.specs.Signed.{ring_in}
 use Rattle.own_histories.proofs.Building.{none_is_legal}
 use Rattle.world_rules.specs.Frames.{frames_at_stamp}
 use Rattle.world_rules.specs.Scenarios.{setup_of}

@@ -17,7 +17,7 @@ use Rattle.history_rules.specs.Events.{Cry, Entry}
 use Rattle.history_rules.specs.Setup.{Setup, stands, own}
 use Rattle.world_rules.specs.Frames.{cried, frames_of, frames_at_stamp}
 use Rattle.world_rules.specs.Scenarios.{setup_of}
-use Rattle.bench_rules.specs.Lists.{ring_in}
+use Rattle.world_history.specs.Signed.{ring_in}
 use Rattle.world_history.proofs.Refusing.{stands_by}
 use Rattle.printed_history.specs.Reading.{standing_frame, frame_in}
 use Rattle.printed_history.proofs.Places.{get_last}

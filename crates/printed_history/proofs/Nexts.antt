@@ -27,7 +27,7 @@ use Rattle.own_histories.proofs.Building.{one_more_is_legal}
 use Rattle.world_rules.specs.Frames.{frames_of, frames_at_stamp}
 use Rattle.world_rules.specs.Scenarios.{setup_of}
 use Rattle.world_rules.proofs.Fields.{group_is}
-use Rattle.bench_rules.specs.Lists.{ring_in}
+use Rattle.world_history.specs.Signed.{ring_in}
 use Rattle.world_history.specs.State.{BenchState, setup_in, entry_at, with_entry}
 use Rattle.world_history.specs.Benches.{actors_in, bench_in, benches_of}
 use Rattle.run_lines.specs.declared.entry_line.EntryLine.{EntryLine}

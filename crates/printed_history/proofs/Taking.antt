@@ -19,7 +19,7 @@ use Rattle.history_rules.specs.Setup.{Setup, stands, own}
 use Rattle.history_rules.specs.Legal.{TakesWell}
 use Rattle.world_rules.specs.Frames.{cried, frames_of, frames_at_stamp}
 use Rattle.world_rules.specs.Scenarios.{setup_of}
-use Rattle.bench_rules.specs.Lists.{ring_in}
+use Rattle.world_history.specs.Signed.{ring_in}
 use Rattle.world_entries.specs.declared.entry.Event.{Event as KeptEvent}
 use Rattle.world_entries.specs.Entries.{event_of}
 use Rattle.run_lines.specs.declared.event_line.EventLine.{EventLine}

@@ -18,7 +18,7 @@ use Rattle.world_entries.specs.Entries.{event_of}
 use Rattle.world_entries.specs.declared.entry.Event.{Event as EventWord}
 use Rattle.world_history.specs.State.{BenchState, setup_in}
 use Rattle.world_history.specs.Seats.{frames_of_each}
-use Rattle.bench_rules.specs.Lists.{ring_in}
+use Rattle.world_history.specs.Signed.{ring_in}
 use Rattle.world_history.specs.Benches.{actors_in, benches_of}
 use Rattle.run_lines.specs.declared.refusal.HistoryRefusal.{HistoryRefusal}
 use Rattle.run_lines.specs.Runs.{Reading}

@@ -6,7 +6,7 @@ ghost use Rattle.history_rules.specs.Setup.{stands};
 ghost use Rattle.history_rules.specs.Legal.{TakesWell};
 ghost use Rattle.world_entries.specs.Entries.{event_of, entry_of};
 ghost use Rattle.world_rules.specs.Frames.{frames_of};
-ghost use Rattle.bench_rules.specs.Lists.{ring_in};
+ghost use Rattle.world_history.specs.Signed.{ring_in};
 ghost use Rattle.world_history.specs.State.{setup_in, entry_at, with_entry};
 ghost use Rattle.printed_history.specs.Reading.{standing_frame, posted_of};
 

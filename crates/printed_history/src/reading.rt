@@ -12,13 +12,12 @@ use crate::histories::Replay;
 use checked_frames::{Checked, KeyRing};
 use message_types::Body;
 use plain_lists::{Items, Want};
-use printed_run::{calls_at, fails};
 use run_lines::{EntryLine, EventLine, kind_of};
 use scenario_file::Scenario;
 use script_grammar::Kind;
 use std::alloc::Global;
 use world_entries::{Event, History};
-use world_history::{Bench, all_benches, ring_of};
+use world_history::{Bench, all_benches, calls_at, fails, ring_of};
 
 /// The entries read so far, with what is at hand of them.
 pub struct SoFar<'a> {

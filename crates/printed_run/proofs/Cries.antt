@@ -1,19 +1,18 @@
 -- Whether a frame is the one that was said at a stamp and a place: in a cry, in an actor's frames, or nowhere.
-use Rattle.std.proofs.Common.{◌≡◌, ℕ, zero, suc, ◌-◌, ◌<◌, Bool, true, false, if◌then◌else◌, nat_lt, List, [], ◌∷◌}
+use Rattle.std.proofs.Common.{◌≡◌, ℕ, zero, suc, ◌-◌, ◌<◌, Bool, true, false, nat_lt, List, [], ◌∷◌}
 use Rattle.std.proofs.Common.{◌++◌, Option, None, Some, Result, Ok, Err, length, get_or, inl, inr, map, take, drop}
 use Rattle.std.proofs.Common.{refl, sym, ◌∙◌, ap, subst, arith}
 use Rattle.std.specs.List.{slice_get}
 use Rattle.message_types.specs.declared.signed.Signed.{Signed}
 use Rattle.message_types.specs.declared.body.Body.{Body}
-use Rattle.quorum_sets.specs.Masters.{has_master}
 use Rattle.protocol_rules.specs.Group.{Group}
 use Rattle.scenario_file.specs.Reading.{Contents}
 use Rattle.history_rules.specs.Events.{Cry, Entry}
 use Rattle.history_rules.specs.Setup.{Setup, own, signed_from, leaves_used}
 use Rattle.history_rules.specs.Legal.{IsLegal}
-use Rattle.bench_rules.proofs.Growing.{intruded_say_nothing}
+use Rattle.own_histories.proofs.Growing.{intruded_say_nothing}
 use Rattle.world_rules.specs.Frames.{cried, frames_of, frames_at_stamp}
-use Rattle.world_rules.specs.Scenarios.{setup_of, masters_in, proxies_in, fits_in}
+use Rattle.world_rules.specs.Scenarios.{setup_of, masters_in, fits_in}
 use Rattle.world_rules.proofs.Fields.{setup_goes_by, group_is}
 use Rattle.world_entries.specs.declared.entry.Entry.{Entry as KeptEntry}
 use Rattle.plain_lists.specs.declared.want.Want.{Want}
@@ -29,6 +28,7 @@ use Rattle.std.proofs.lemmas.Bool.{true≢false, lt-ltb, ltb-true}
 use Rattle.std.proofs.lemmas.Bool.Decides.{same_from_decides}
 use Rattle.std.proofs.lemmas.Option.{slice_get-get_or, slice_get_cases}
 use Rattle.std.specs.Bool.{Decides}
+use Rattle.world_history.proofs.Intruded.{who_cries}
 use Rattle.printed_run.specs.Printed.{is_frame}
 use Rattle.printed_run.proofs.Posting.{stands_at}
 
@@ -93,21 +93,6 @@ none_said w history stamp place frame is = sym (ap (λ (o : Option Entry). is_fr
   where
     at : Option Entry → List (Signed Body)
     at o = elim o [ None ↦ [] | Some e ↦ frames_of w (own (take stamp history) e.actor) e ]
-
--- only an intruded master cries
-pub who_cries : (c : Contents) (actor : ℕ) (bytes : List ℕ) → fits_in c actor (Cry bytes) ≡ true
-    → (nat_lt actor (masters_in c) ≡ true) × (has_master c.settings.intruded actor ≡ true)
-who_cries c actor bytes fits = by (nat_lt actor (masters_in c)) (has_master c.settings.intruded actor)
-    (nat_lt (actor - masters_in c) (proxies_in c)) refl refl fits
-  where
-    by : (master intruded proxy : Bool) → nat_lt actor (masters_in c) ≡ master →
-        has_master c.settings.intruded actor ≡ intruded
-        → (if master then (if intruded then true else false) else (if proxy then false else false)) ≡ true
-        → (nat_lt actor (masters_in c) ≡ true) × (has_master c.settings.intruded actor ≡ true)
-    by true true proxy m i h = (m, i)
-    by true false proxy m i h = absurd (cc)
-    by false intruded true m i h = absurd (cc)
-    by false intruded false m i h = absurd (cc)
 
 -- The frames of a cry are what its bytes spell.
 pub frames_of_cry : (c : Contents) (history : List Entry) (stamp : ℕ) (e : Entry) (bytes : List ℕ) →

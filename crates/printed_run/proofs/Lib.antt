@@ -1,6 +1,5 @@
 pub mod Benches
 pub mod Posting
-pub mod Calls
 pub mod Cries
 pub mod Hands
 pub mod Showing

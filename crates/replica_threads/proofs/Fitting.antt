@@ -19,8 +19,8 @@ use Rattle.script_lines.specs.declared.step.Step.TheVariants as step
 use Rattle.script_lines.specs.Given.{own_words, say, where_same, plain_at, given_at, left_after, given, inputs_of}
 use Rattle.script_laws.specs.Accepted.{actors_in, is_there, may_do, is_intruded, is_step_of, are_lines_of}
 use Rattle.script_laws.specs.Accepted.{is_saying_of, are_sayings_of}
-use Rattle.script_plays.proofs.Lists.{all_join}
-use Rattle.script_plays.proofs.Begun.{number_at}
+use Rattle.world_history.proofs.Lists.{all_join}
+use Rattle.world_history.proofs.Lists.{number_at}
 use Rattle.station_turns.specs.Pace.{fits_input, fit_inputs}
 use Rattle.replica_threads.specs.Courses.{AreFit, inputs_given}
 use Rattle.quorum_sets.proofs.Numbered.{length-numbers_below}

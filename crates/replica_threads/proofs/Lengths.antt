@@ -20,7 +20,7 @@ use Rattle.world_rules.specs.Scenarios.{setup_of}
 use Rattle.world_rules.proofs.Fields.{group_is}
 use Rattle.world_history.specs.State.{BenchState}
 use Rattle.script_laws.specs.Accepted.{actors_in}
-use Rattle.script_plays.proofs.Standing.{few_actors}
+use Rattle.world_history.proofs.Addressed.{few_actors}
 use Rattle.world_history.specs.Benches.{lists_of, AreOfAll}
 use Rattle.station_turns.specs.Pace.{is_skip, turns_made, IsPaced, begins, turns, halts}
 use Rattle.station_turns.proofs.Counting.{turn_more, turn_same}

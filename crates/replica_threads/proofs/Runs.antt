@@ -19,8 +19,8 @@ use Rattle.stamps.specs.Seats.{Source, Drawer, IsWhole, IsEachOnce}
 use Rattle.world_history.specs.State.{BenchState}
 use Rattle.world_history.specs.KeptState.{KeptState}
 use Rattle.world_history.specs.Benches.{actors_in, lists_of, IsBenchOf, AreOfAll}
-use Rattle.run_laws.specs.Laws.{stamps_in, stamps_of}
-use Rattle.run_laws.proofs.Once.{drawn_once, run_is_legal}
+use Rattle.station_turns.specs.Laws.{stamps_in, stamps_of}
+use Rattle.station_turns.proofs.Once.{drawn_once, run_is_legal}
 use Rattle.station_turns.specs.Naming.{RunName}
 use Rattle.replica_threads.specs.Ended.{IsActor, IsRun, IsDone, RunsStampOnce, HistoriesAreLegal}
 use Rattle.replica_threads.proofs.Counted.{each_once_moved, placed, none_twice}

@@ -9,7 +9,7 @@ use Rattle.scenario_file.specs.Reading.{Contents}
 use Rattle.history_rules.specs.Setup.{Setup, stands}
 use Rattle.world_rules.specs.Scenarios.{setup_of}
 use Rattle.checked_frames.specs.Standing.{Ring}
-use Rattle.bench_rules.specs.Lists.{ring_in}
+use Rattle.world_history.specs.Signed.{ring_in}
 use Rattle.station_turns.specs.declared.held.Held.{Held}
 use Rattle.station_turns.specs.Checking.{held_where_standing}
 use Rattle.inboxes.specs.declared.pass.InboxPass.{InboxPass}

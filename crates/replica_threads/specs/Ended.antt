@@ -14,7 +14,7 @@ use Rattle.stamps.specs.Seats.{Drawer, IsEachOnce}
 use Rattle.world_history.specs.State.{BenchState}
 use Rattle.world_history.specs.KeptState.{KeptState, halted_in}
 use Rattle.world_history.specs.Benches.{actors_in, lists_of, IsBenchOf, AreOfAll}
-use Rattle.run_laws.specs.Laws.{stamps_in, stamps_of}
+use Rattle.station_turns.specs.Laws.{stamps_in, stamps_of}
 use Rattle.station_turns.specs.Pace.{turns_made, IsPaced}
 use Rattle.station_turns.specs.Turns.{Stationed}
 use Rattle.station_turns.specs.Naming.{RunName}

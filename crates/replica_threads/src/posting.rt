@@ -17,10 +17,10 @@ use crate::shared::Shared;
 use inboxes::InboxPass;
 use message_types::Frame;
 use plain_lists::{Copied, Vector, Want};
-use script_plays::addressees;
 use station_turns::Turned;
 use std::alloc::Global;
 use std::sync::Wait;
+use world_history::addressees;
 
 /// A frame's place is a number of 32 bits.
 const MOST_FRAMES: usize = 1 << 32;

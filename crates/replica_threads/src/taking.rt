@@ -3,7 +3,7 @@ ghost use Rattle.std.specs.Prelude.{◌≡◌, ◌<◌, length, true, IfOk, IfSo
 ghost use Rattle.history_rules.specs.Setup.{stands};
 ghost use Rattle.world_rules.specs.Scenarios.{setup_of};
 ghost use Rattle.scenario_file.specs.Reading.{Contents};
-ghost use Rattle.bench_rules.specs.Lists.{ring_in};
+ghost use Rattle.world_history.specs.Signed.{ring_in};
 ghost use Rattle.inboxes.specs.Passes.{IsPassOf};
 ghost use Rattle.replica_threads.specs.Hands.{ArePassesOf, Takes};
 

@@ -1,5 +1,5 @@
 //! The text of parts of a request.
-use part_runs::{PartsRefusal, parts_text};
+use run_questions::parts::{PartsRefusal, parts_text};
 use scenario_file::Scenario;
 use std::process::Abort;
 use std::test::Fail;

@@ -1,5 +1,5 @@
 //! Texts rebuilt from the lines of parts, in a group of four masters of which one may be intruded.
-use part_runs::{RebuildRefusal, rebuilt_text};
+use run_questions::parts::{RebuildRefusal, rebuilt_text};
 use scenario_file::Scenario;
 use std::alloc::Global;
 use std::process::Abort;

@@ -6,7 +6,7 @@ use Rattle.checked_frames.specs.Standing.{Ring}
 use Rattle.checked_frames.specs.Standing as ring
 use Rattle.scenario_file.specs.Reading.{Contents}
 use Rattle.world_rules.specs.Scenarios.{setup_of}
-use Rattle.bench_rules.specs.Lists.{ring_in}
+use Rattle.world_history.specs.Signed.{ring_in}
 use Rattle.world_history.proofs.Refusing.{stands_by}
 use Rattle.station_turns.specs.declared.held.Held.{Held}
 use Rattle.station_turns.specs.Checking.{held_where_standing}

@@ -8,3 +8,4 @@ pub mod Posting
 pub mod Seen
 pub mod Checked
 pub mod Told
+pub mod Once

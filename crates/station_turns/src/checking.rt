@@ -3,7 +3,7 @@ ghost use Rattle.std.specs.Prelude.{◌≡◌, IsTrue, IfOk};
 ghost use Rattle.message_types.specs.Spelling.{has_spelling};
 ghost use Rattle.scenario_file.specs.Reading.{Contents};
 ghost use Rattle.world_rules.specs.Scenarios.{setup_of};
-ghost use Rattle.bench_rules.specs.Lists.{ring_in};
+ghost use Rattle.world_history.specs.Signed.{ring_in};
 ghost use Rattle.station_turns.specs.Checking.{held_where_standing};
 
 use crate::held::Held;

@@ -5,6 +5,7 @@ mod adding;
 mod checking;
 mod giving;
 mod held;
+pub mod laws;
 pub mod live;
 mod naming;
 mod skipping;

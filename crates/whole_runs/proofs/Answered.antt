@@ -7,12 +7,12 @@ use Rattle.history_rules.specs.Events.{Entry}
 use Rattle.part_lines.specs.declared.fault.RebuildRefusal.{RebuildRefusal}
 use Rattle.part_lines.specs.declared.fault.RebuildRefusal.TheVariants as rebuild
 use Rattle.part_lines.specs.Rebuilding.{rebuilt_in, RefusesText}
-use Rattle.part_runs.specs.Parts.{parts_in}
-use Rattle.part_runs.specs.declared.parts.PartsRefusal.{PartsRefusal}
-use Rattle.part_runs.specs.declared.parts.PartsRefusal.TheVariants as parts
-use Rattle.trend_runs.specs.Asked.{trend_in, Gives}
-use Rattle.trend_runs.specs.declared.fault.TrendRefusal.{TrendRefusal}
-use Rattle.trend_runs.specs.declared.fault.TrendRefusal.TheVariants as trend
+use Rattle.run_questions.specs.PartsText.{parts_in}
+use Rattle.run_questions.specs.declared.parts.text.PartsRefusal.{PartsRefusal}
+use Rattle.run_questions.specs.declared.parts.text.PartsRefusal.TheVariants as parts
+use Rattle.run_questions.specs.TrendAnswers.{trend_in, Gives}
+use Rattle.run_questions.specs.declared.trend.fault.TrendRefusal.{TrendRefusal}
+use Rattle.run_questions.specs.declared.trend.fault.TrendRefusal.TheVariants as trend
 use Rattle.command_ends.specs.declared.refusal.Refusal.{Refusal}
 use Rattle.command_ends.specs.declared.refusal.Refusal.TheVariants as refusal
 use Rattle.run_lines.specs.declared.refusal.HistoryRefusal.{HistoryRefusal}

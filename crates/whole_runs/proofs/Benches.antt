@@ -22,9 +22,9 @@ use Rattle.printed_run.specs.Printed.{text_of}
 use Rattle.world_history.specs.Benches.{actors_in, bench_in, benches_of, unsigned, AreBenches, lists_of}
 use Rattle.world_history.specs.KeptState.{KeptState}
 use Rattle.script_lines.specs.declared.saying.Saying.{Saying}
-use Rattle.script_plays.specs.Making.{Given, bench_at, most_entries}
-use Rattle.script_plays.specs.Playing.{ArePlayed}
-use Rattle.script_plays.specs.Laws.{IsPlayed}
+use Rattle.run_scripts.specs.Making.{Given, bench_at, most_entries}
+use Rattle.run_scripts.specs.Playing.{ArePlayed}
+use Rattle.run_scripts.specs.Laws.{IsPlayed}
 use Rattle.whole_runs.specs.Whole.{AreAfter}
 use Rattle.whole_runs.proofs.Stamps.{each_stamp_once}
 use Rattle.plain_lists.proofs.Lists.{map_map}

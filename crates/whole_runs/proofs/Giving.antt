@@ -9,11 +9,11 @@ use Rattle.script_lines.specs.declared.script.Line.{Line}
 use Rattle.world_history.specs.KeptState.{KeptState}
 use Rattle.command_ends.specs.declared.refusal.Refusal.{Refusal}
 use Rattle.command_ends.specs.declared.refusal.Refusal.TheVariants as refusal
-use Rattle.script_plays.specs.declared.answer.StepRefusal.{StepRefusal}
-use Rattle.script_plays.specs.declared.answer.PlayAnswer.{PlayAnswer}
-use Rattle.script_plays.specs.declared.answer.PlayAnswer.TheVariants as answer
-use Rattle.script_plays.specs.Making.{played}
-use Rattle.script_plays.specs.Playing.{Plays}
+use Rattle.run_scripts.specs.declared.answer.StepRefusal.{StepRefusal}
+use Rattle.run_scripts.specs.declared.answer.PlayAnswer.{PlayAnswer}
+use Rattle.run_scripts.specs.declared.answer.PlayAnswer.TheVariants as answer
+use Rattle.run_scripts.specs.Making.{played}
+use Rattle.run_scripts.specs.Playing.{Plays}
 use Rattle.run_lines.specs.declared.refusal.HistoryRefusal.{HistoryRefusal}
 use Rattle.run_lines.specs.declared.refusal.HistoryRefusal.TheVariants as history
 use Rattle.run_lines.specs.Runs.{ReadsRun, Reading}

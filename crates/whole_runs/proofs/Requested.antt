@@ -8,8 +8,8 @@ use Rattle.part_lines.specs.Rebuilding.{told_for, rebuilt_in}
 use Rattle.part_lines.specs.Texts.{rebuilt_lines}
 use Rattle.part_lines.specs.declared.fault.RebuildRefusal.{RebuildRefusal}
 use Rattle.part_lines.specs.declared.told.Told.{Told}
-use Rattle.part_runs.specs.Laws.{PartsArePrinted, PrintedLinesRebuild}
-use Rattle.part_runs.specs.Parts.{parts_in}
+use Rattle.run_questions.specs.PartsLaws.{PartsArePrinted, PrintedLinesRebuild}
+use Rattle.run_questions.specs.PartsText.{parts_in}
 use Rattle.command_ends.specs.Calls.{Call}
 use Rattle.command_ends.specs.Ended.{ErrorSink}
 use Rattle.run_commands.specs.declared.questions.Question.TheVariants as question

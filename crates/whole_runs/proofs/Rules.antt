@@ -10,9 +10,9 @@ use Rattle.script_lines.specs.declared.saying.Saying.{Saying}
 use Rattle.script_lines.specs.declared.script.Line.{Line}
 use Rattle.script_laws.specs.Accepted.{are_lines_of, are_sayings_of}
 use Rattle.script_laws.specs.Laws.{ReadLinesAreOfScenario, ReadWordsAreOfScenario}
-use Rattle.script_plays.specs.declared.answer.StepRefusal.{StepRefusal}
-use Rattle.script_plays.specs.Making as making
-use Rattle.script_plays.specs.Laws as plays
+use Rattle.run_scripts.specs.declared.answer.StepRefusal.{StepRefusal}
+use Rattle.run_scripts.specs.Making as making
+use Rattle.run_scripts.specs.Laws as plays
 use Rattle.run_lines.specs.declared.refusal.HistoryRefusal.{HistoryRefusal}
 use Rattle.printed_history.specs.Histories.{history_in}
 use Rattle.run_commands.specs.Readers.{Readers, Keeps, IsScriptOf, AreWordsOf, AreNotRaw, is_raw}

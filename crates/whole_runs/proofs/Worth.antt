@@ -5,13 +5,13 @@ use Rattle.scenario_file.specs.Reading.{Contents}
 use Rattle.history_rules.specs.Events.{Entry}
 use Rattle.world_rules.specs.Headline.{Premises}
 use Rattle.world_rules.specs.Scenarios.{setup_of}
-use Rattle.blame_runs.specs.Laws.{BlamedAreProved, QuorumsAreBlamed, CorrectAreNotBlamed}
-use Rattle.blame_runs.specs.Printed.{blame_text}
-use Rattle.trend_runs.specs.Asked.{trend_in, changes_by}
-use Rattle.trend_runs.specs.Laws.{IsHeadlined, PrintsTheChangesOfOne, PrintsTheChangesOfAll, AlwaysMatches}
-use Rattle.trend_runs.specs.Text.{changes_text}
-use Rattle.trend_runs.specs.declared.fault.TrendRefusal.{TrendRefusal}
-use Rattle.trend_runs.specs.declared.fault.TrendRefusal.TheVariants as trend
+use Rattle.run_questions.specs.BlameLaws.{BlamedAreProved, QuorumsAreBlamed, CorrectAreNotBlamed}
+use Rattle.run_questions.specs.BlameText.{blame_text}
+use Rattle.run_questions.specs.TrendAnswers.{trend_in, changes_by}
+use Rattle.run_questions.specs.TrendLaws.{IsHeadlined, PrintsTheChangesOfOne, PrintsTheChangesOfAll, AlwaysMatches}
+use Rattle.run_questions.specs.TrendText.{changes_text}
+use Rattle.run_questions.specs.declared.trend.fault.TrendRefusal.{TrendRefusal}
+use Rattle.run_questions.specs.declared.trend.fault.TrendRefusal.TheVariants as trend
 use Rattle.command_ends.specs.Calls.{Call}
 use Rattle.command_ends.specs.Ended.{ErrorSink}
 use Rattle.command_ends.specs.declared.refusal.NoAnswer.{NoAnswer}

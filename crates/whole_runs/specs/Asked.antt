@@ -5,16 +5,16 @@ use Rattle.std.specs.declared.vec.Vec.{Vec}
 use Rattle.std.specs.declared.alloc.Global.{Global}
 use Rattle.scenario_file.specs.Reading.{Contents}
 use Rattle.history_rules.specs.Events.{Entry}
-use Rattle.blame_runs.specs.Printed.{blame_text}
+use Rattle.run_questions.specs.BlameText.{blame_text}
 use Rattle.part_lines.specs.declared.fault.RebuildRefusal.{RebuildRefusal}
 use Rattle.part_lines.specs.declared.fault.RebuildRefusal.TheVariants as rebuild
 use Rattle.part_lines.specs.Rebuilding.{rebuilt_in}
-use Rattle.part_runs.specs.Parts.{parts_in}
-use Rattle.part_runs.specs.declared.parts.PartsRefusal.{PartsRefusal}
-use Rattle.part_runs.specs.declared.parts.PartsRefusal.TheVariants as parts
-use Rattle.trend_runs.specs.Asked.{trend_in}
-use Rattle.trend_runs.specs.declared.fault.TrendRefusal.{TrendRefusal}
-use Rattle.trend_runs.specs.declared.fault.TrendRefusal.TheVariants as trend
+use Rattle.run_questions.specs.PartsText.{parts_in}
+use Rattle.run_questions.specs.declared.parts.text.PartsRefusal.{PartsRefusal}
+use Rattle.run_questions.specs.declared.parts.text.PartsRefusal.TheVariants as parts
+use Rattle.run_questions.specs.TrendAnswers.{trend_in}
+use Rattle.run_questions.specs.declared.trend.fault.TrendRefusal.{TrendRefusal}
+use Rattle.run_questions.specs.declared.trend.fault.TrendRefusal.TheVariants as trend
 use Rattle.command_ends.specs.declared.refusal.NoAnswer.{NoAnswer}
 use Rattle.command_ends.specs.declared.refusal.NoAnswer.TheVariants as none
 use Rattle.command_ends.specs.declared.refusal.Refusal.{Refusal}

@@ -11,8 +11,8 @@ use Rattle.history_rules.specs.Counts.{forged}
 use Rattle.world_rules.specs.Scenarios.{setup_of}
 use Rattle.blame_check.specs.declared.pairs.Named.{Named}
 use Rattle.blame_check.specs.Laws.{blamed}
-use Rattle.blame_runs.specs.Laws.{IsEvidence, IsCommitted}
-use Rattle.blame_runs.specs.Printed.{blame_text}
+use Rattle.run_questions.specs.BlameLaws.{IsEvidence, IsCommitted}
+use Rattle.run_questions.specs.BlameText.{blame_text}
 use Rattle.command_ends.specs.Calls.{Call}
 use Rattle.run_commands.specs.declared.questions.Question.TheVariants as question
 use Rattle.run_commands.specs.Answered.{asked_by, Spells}

@@ -1,10 +1,10 @@
 -- Why there is no run, as the program tells it. (This project's own.)
 use Rattle.std.specs.Prelude.{◌≡◌, ℕ, List, Result, Ok, Err}
 use Rattle.history_rules.specs.Events.{Entry}
-use Rattle.script_plays.specs.declared.answer.StepRefusal.{StepRefusal}
-use Rattle.script_plays.specs.declared.answer.StepRefusal.TheVariants as stop
-use Rattle.script_plays.specs.declared.answer.PlayAnswer.{PlayAnswer}
-use Rattle.script_plays.specs.declared.answer.PlayAnswer.TheVariants as answer
+use Rattle.run_scripts.specs.declared.answer.StepRefusal.{StepRefusal}
+use Rattle.run_scripts.specs.declared.answer.StepRefusal.TheVariants as stop
+use Rattle.run_scripts.specs.declared.answer.PlayAnswer.{PlayAnswer}
+use Rattle.run_scripts.specs.declared.answer.PlayAnswer.TheVariants as answer
 use Rattle.run_lines.specs.declared.refusal.HistoryRefusal.{HistoryRefusal}
 use Rattle.run_lines.specs.declared.refusal.HistoryRefusal.TheVariants as history
 use Rattle.command_ends.specs.declared.refusal.LineFault.{LineFault}

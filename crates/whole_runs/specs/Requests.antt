@@ -17,8 +17,8 @@ use Rattle.part_lines.specs.Laws.{HasEnoughLines, IsRebuilt}
 use Rattle.part_lines.specs.Rebuilding.{told_for}
 use Rattle.part_lines.specs.Texts.{rebuilt_lines}
 use Rattle.part_lines.specs.declared.told.Told.{Told}
-use Rattle.part_runs.specs.Laws.{ArePrinted, HasPrintedLines}
-use Rattle.part_runs.specs.Parts.{parts_in}
+use Rattle.run_questions.specs.PartsLaws.{ArePrinted, HasPrintedLines}
+use Rattle.run_questions.specs.PartsText.{parts_in}
 use Rattle.command_words.specs.Wanted.{rebuild, wanted_in}
 use Rattle.command_ends.specs.Calls.{Call}
 use Rattle.run_commands.specs.declared.questions.Question.TheVariants as question

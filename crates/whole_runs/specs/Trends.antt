@@ -7,9 +7,9 @@ use Rattle.scenario_file.specs.Reading.{Contents}
 use Rattle.history_rules.specs.Events.{Entry}
 use Rattle.world_rules.specs.Headline.{Premises}
 use Rattle.world_rules.specs.Scenarios.{setup_of}
-use Rattle.trend_runs.specs.Asked.{changes_by}
-use Rattle.trend_runs.specs.Laws.{Reaches}
-use Rattle.trend_runs.specs.Text.{changes_text}
+use Rattle.run_questions.specs.TrendAnswers.{changes_by}
+use Rattle.run_questions.specs.TrendLaws.{Reaches}
+use Rattle.run_questions.specs.TrendText.{changes_text}
 use Rattle.command_ends.specs.Calls.{Call}
 use Rattle.command_ends.specs.Ended.{ErrorSink, Told}
 use Rattle.command_ends.specs.declared.refusal.NoAnswer.{NoAnswer}

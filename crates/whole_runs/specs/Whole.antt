@@ -7,7 +7,7 @@ use Rattle.history_rules.specs.Legal.{IsLegal}
 use Rattle.world_rules.specs.Scenarios.{setup_of}
 use Rattle.world_history.specs.State.{BenchState}
 use Rattle.world_history.specs.Benches.{AreBenches}
-use Rattle.script_plays.specs.Making.{played}
+use Rattle.run_scripts.specs.Making.{played}
 use Rattle.printed_history.specs.Histories.{history_in}
 use Rattle.printed_run.specs.Printed.{text_of}
 use Rattle.run_commands.specs.Readers.{Readers}

@@ -10,16 +10,16 @@ ghost use Rattle.whole_runs.specs.Whole.{whole_runs};
 ghost use Rattle.world_rules.specs.Scenarios.{setup_of};
 
 use crate::faults::{history_refusal, parts_refusal, request_refusal, trend_refusal};
-use blame_runs::blame_text;
 use command_ends::Refusal;
 use part_lines::rebuilt_text;
-use part_runs::parts_text;
 use plain_lists::Want;
 use printed_history::{Replay, read_replay};
 use run_commands::Question;
+use run_questions::blame::blame_text;
+use run_questions::parts::parts_text;
+use run_questions::trend::trend_text;
 use scenario_file::Scenario;
 use std::alloc::Global;
-use trend_runs::trend_text;
 
 /// The answer to a question over the history that a printed text tells, or why there is none. Its actors do what it says once.
 pub(crate) fn answered_text(

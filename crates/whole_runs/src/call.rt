@@ -10,14 +10,16 @@ ghost use Rattle.whole_runs.specs.Requests.{KeepsParts, KeepsRebuild};
 ghost use Rattle.whole_runs.specs.Whole.{whole_runs};
 
 use crate::runs::WholeRuns;
-use blame_runs::laws::{blamed_are_proved, correct_are_not_blamed, quorums_are_blamed};
 use outside::{Files, Sink};
 use part_lines::laws::enough_lines_rebuild;
-use part_runs::laws::{parts_are_printed, printed_lines_rebuild};
 use run_commands::Program;
 use run_commands::plain::plain;
+use run_questions::blame::laws::{blamed_are_proved, correct_are_not_blamed, quorums_are_blamed};
+use run_questions::parts::laws::{parts_are_printed, printed_lines_rebuild};
+use run_questions::trend::laws::{
+    always_matches, prints_the_changes_of_all, prints_the_changes_of_one,
+};
 use std::alloc::Global;
-use trend_runs::laws::{always_matches, prints_the_changes_of_all, prints_the_changes_of_one};
 
 /// Runs the command that the words are, puts its text to `out` and the line of a refusal to `err`, and gives the status: 0 for
 /// the whole text, 2 for other words, 3 for a file, 4 for a scenario that is refused, 5 for a script, for words or for a

@@ -5,10 +5,10 @@ ghost use Rattle.whole_runs.specs.Faults.{play_refusal, history_refusal};
 
 use command_ends::{LineFault, NoAnswer, Refusal};
 use part_lines::RebuildRefusal;
-use part_runs::PartsRefusal;
 use printed_history::HistoryRefusal;
-use script_plays::PlayAnswer;
-use trend_runs::TrendRefusal;
+use run_questions::parts::PartsRefusal;
+use run_questions::trend::TrendRefusal;
+use run_scripts::PlayAnswer;
 
 /// A play that stops counts as its script's fault.
 pub(crate) fn play_refusal(answer: PlayAnswer) -> Refusal

@@ -12,10 +12,10 @@ use crate::faults::play_refusal;
 use command_ends::Refusal;
 use plain_lists::Want;
 use printed_run::write_run_of;
+use run_scripts::laws::played_is_legal;
+use run_scripts::play;
 use scenario_file::Scenario;
 use script_lines::{Script, Words};
-use script_plays::laws::played_is_legal;
-use script_plays::play;
 use std::alloc::Global;
 use world_history::{Bench, Kept, benches_of, merge};
 

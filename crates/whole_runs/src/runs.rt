@@ -5,10 +5,10 @@ use crate::played::played_text;
 use crate::replayed::replayed_text;
 use command_ends::Refusal;
 use run_commands::{Question, Runs};
+use run_scripts::laws::{played_is_legal, played_is_unforged};
 use scenario_file::Scenario;
 use script_laws::laws::{read_lines_are_of_scenario, read_words_are_of_scenario};
 use script_lines::{Script, Words};
-use script_plays::laws::{played_is_legal, played_is_unforged};
 use std::alloc::Global;
 
 /// Plays and replays of whole runs, and what is asked over them.

@@ -19,10 +19,11 @@ use Rattle.history_rules.specs.Legal.{TakesWell}
 use Rattle.client_roles.specs.Roles.{carries_well}
 use Rattle.world_rules.specs.Scenarios.{setup_of, key_in, shares_leaves}
 use Rattle.world_rules.proofs.Fields.{setup_goes_by, leaves_of_all}
-use Rattle.bench_rules.specs.Lists.{frames_after, frames_with, ring_in}
-use Rattle.bench_rules.proofs.Growing.{one_more_is_bench_list}
-use Rattle.bench_rules.proofs.Leaving.{leaves_used_next, groups_use_leaves, leaves_enough, signed_by_signatures}
-use Rattle.bench_rules.proofs.Ringing.{stands_by_ring}
+use Rattle.bench_rules.specs.Lists.{frames_after}
+use Rattle.world_history.specs.Signed.{frames_with, ring_in}
+use Rattle.own_histories.proofs.Growing.{one_more_is_bench_list}
+use Rattle.world_history.proofs.Leaving.{leaves_used_next, groups_use_leaves, leaves_enough, signed_by_signatures}
+use Rattle.world_history.proofs.StandingFrames.{stands_by_ring}
 use Rattle.world_history.specs.declared.role.Role.{Role}
 use Rattle.world_history.specs.declared.seat.Seat.{Seat}
 use Rattle.world_history.specs.Roles.{Comes, IsRole}

@@ -20,8 +20,8 @@ use Rattle.history_rules.specs.Legal.{Stands, TakesWell}
 use Rattle.own_histories.proofs.Building.{last_or_before}
 use Rattle.world_rules.specs.Scenarios.{setup_of, masters_in, proxies_in}
 use Rattle.world_rules.proofs.Fields.{setup_goes_by, group_is}
-use Rattle.bench_rules.specs.Lists.{AddsEntry}
-use Rattle.bench_rules.proofs.Growing.{one_more_is_bench_list}
+use Rattle.own_histories.specs.Lists.{AddsEntry}
+use Rattle.own_histories.proofs.Growing.{one_more_is_bench_list}
 use Rattle.entry_texts.specs.Texts.{entry_text, kept_text}
 use Rattle.entry_texts.specs.Fits.{FitsEntry, HasCount}
 use Rattle.world_history.specs.State.{BenchState, setup_in, entry_at, with_entry, frames_said}

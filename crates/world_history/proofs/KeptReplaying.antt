@@ -17,8 +17,10 @@ use Rattle.history_rules.specs.Events.{Event, Took, Tick, Command, Field, Poll, 
 use Rattle.history_rules.specs.Setup.{stands}
 use Rattle.history_rules.specs.Legal.{Stands, TakesWell, says_in}
 use Rattle.world_rules.specs.Scenarios.{setup_of}
-use Rattle.bench_rules.specs.Lists.{AddsEntry, ring_in, frames_after}
-use Rattle.bench_rules.proofs.Ringing.{stands_by_ring}
+use Rattle.own_histories.specs.Lists.{AddsEntry}
+use Rattle.world_history.specs.Signed.{ring_in}
+use Rattle.bench_rules.specs.Lists.{frames_after}
+use Rattle.world_history.proofs.StandingFrames.{stands_by_ring}
 use Rattle.entry_texts.specs.Texts.{entry_text, kept_text}
 use Rattle.entry_texts.specs.Fits.{FitsEntry, TakenStands}
 use Rattle.entry_texts.specs.KeptEntries.{IsKept}

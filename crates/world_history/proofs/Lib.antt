@@ -1,5 +1,6 @@
 -- Behind an actor's entries: each role through one entry, and all of them as one; that the state after an entry is the
--- replay of the longer list; how actors begin; what a bench shows; what an intruded master is made to say.
+-- replay of the longer list; how actors begin; what a bench shows; what an
+-- intruded master is made to say; the scenario's keys, leaves and charges, and to whom frames go.
 pub mod Answering
 pub mod Masters
 pub mod Clients
@@ -27,3 +28,10 @@ pub mod Rereading
 pub mod Together
 pub mod Beginning
 pub mod TakenOut
+pub mod Charging
+pub mod Leaving
+pub mod StandingFrames
+pub mod Handed
+pub mod Lists
+pub mod Addressed
+pub mod KeeperCalls

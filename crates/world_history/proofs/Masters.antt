@@ -20,9 +20,10 @@ use Rattle.master_node.proofs.Histories.{ticks_are_heard, keeps_its_charge}
 use Rattle.world_rules.specs.Scenarios.{setup_of, masters_in, fits_correct, fits_intruded}
 use Rattle.world_rules.proofs.Fields.{setup_goes_by, group_is}
 use Rattle.bench_rules.specs.Lists.{frames_after}
-use Rattle.bench_rules.proofs.Hearing.{few_ticks, master_says, master_is_handed, silent_says_nothing, heard_next}
+use Rattle.bench_rules.proofs.Hearing.{few_ticks, silent_says_nothing, heard_next}
+use Rattle.world_history.proofs.Handed.{master_says, master_is_handed}
 use Rattle.bench_rules.proofs.Hearing.{heard_same}
-use Rattle.bench_rules.proofs.Standing.{standing_is_whole}
+use Rattle.world_history.proofs.StandingFrames.{standing_is_whole}
 use Rattle.world_history.specs.Roles.{Comes, IsMaster, HasAnswered, CanHear, says_event, is_event_whole}
 
 fits_when : (low intruded : Bool) (correct other third : Bool) → low ≡ true → intruded ≡ false →

@@ -23,8 +23,8 @@ use Rattle.history_rules.specs.Setup as setup
 use Rattle.scenario_file.specs.Reading.{Contents}
 use Rattle.world_rules.specs.Frames.{cried}
 use Rattle.world_rules.specs.Scenarios.{setup_of}
-use Rattle.bench_rules.specs.Lists.{ring_in}
-use Rattle.bench_rules.proofs.Ringing.{stands_by_ring}
+use Rattle.world_history.specs.Signed.{ring_in}
+use Rattle.world_history.proofs.StandingFrames.{stands_by_ring}
 use Rattle.world_history.specs.Reading.{is_want_of_form, is_want_of_check}
 
 -- of one answer there is one refusal

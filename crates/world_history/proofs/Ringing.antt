@@ -8,7 +8,7 @@ use Rattle.scenario_file.specs.declared.scenario.Scenario.{Scenario}
 use Rattle.scenario_file.specs.declared.actors.Cast.{Cast}
 use Rattle.scenario_file.specs.Reading.{contents, cast_of}
 use Rattle.scenario_file.specs.Valid.{IsScenario}
-use Rattle.bench_rules.specs.Lists.{ring_in}
+use Rattle.world_history.specs.Signed.{ring_in}
 
 pub ring_seen : (s : Scenario) (clients : ℕ) → clients ≡ length s.plant.devices + s.screens
     → ring_of (group_of s.sizes clients) (public_keys s.seed s.heights (s.sizes.n + clients)) ≡ ring_in (contents s)

@@ -12,7 +12,7 @@ use Rattle.agreement.proofs.Once.{correct_actor}
 use Rattle.world_rules.proofs.Fields.{setup_goes_by, sizes_of_group}
 use Rattle.world_rules.proofs.Signed.{signatures_sign}
 use Rattle.bench_rules.specs.Lists.{frames_after}
-use Rattle.bench_rules.proofs.Growing.{intruded_say_nothing}
+use Rattle.own_histories.proofs.Growing.{intruded_say_nothing}
 use Rattle.bench_rules.proofs.Standing.{master_frames_stand, master_words_fit}
 use Rattle.world_history.specs.declared.role.Role.{Role}
 use Rattle.world_history.specs.declared.role.Role.TheVariants as role

@@ -30,8 +30,8 @@ use Rattle.world_rules.specs.Frames.{overheard}
 use Rattle.world_rules.specs.Scenarios.{setup_of, group_in, key_in, masters_in, proxies_in, shares_leaves}
 use Rattle.world_rules.proofs.Fields.{setup_goes_by, group_is, leaves_of_all, key_levels, key_made, key_id}
 use Rattle.world_rules.proofs.Signed.{CanBeMade, signed_upto, up_to_all, signature_is}
-use Rattle.bench_rules.specs.Lists.{frames_with}
-use Rattle.bench_rules.proofs.Leaving.{leaves_are_few, signed_by_signatures}
+use Rattle.world_history.specs.Signed.{frames_with}
+use Rattle.world_history.proofs.Leaving.{leaves_are_few, signed_by_signatures}
 use Rattle.world_history.specs.declared.role.Role.{Role}
 use Rattle.world_history.specs.declared.role.Role.TheVariants as role
 use Rattle.world_history.specs.declared.seat.Seat.{Seat}

@@ -7,3 +7,6 @@ pub mod Places
 pub mod Lists
 pub mod Keeping
 pub mod KeptState
+pub mod Addressing
+pub mod Signed
+pub mod Laws

@@ -6,7 +6,7 @@ ghost use Rattle.message_types.specs.Spelling.{body_fits};
 ghost use Rattle.hash_signatures.specs.Signatures.{all_leaves};
 ghost use Rattle.hash_signatures.specs.State.{key_use};
 ghost use Rattle.checked_frames.specs.Entries.{group_size, groups_for, entry_signatures};
-ghost use Rattle.bench_rules.specs.Lists.{frames_with};
+ghost use Rattle.world_history.specs.Signed.{frames_with};
 ghost use Rattle.world_history.specs.Seats.{AllStand};
 
 use checked_frames::{Checked, sign_entry};

@@ -4,6 +4,7 @@
 //! its benches, so that nothing is replayed twice.
 #![tactic(auto)]
 
+mod addressing;
 mod agreeing;
 mod at_intruded;
 mod at_master;
@@ -12,8 +13,10 @@ pub mod bench;
 mod benches;
 mod fitting;
 mod frames;
+mod halting;
 mod keeping;
 mod kept_actor;
+pub mod laws;
 mod merging;
 mod reading;
 mod replaying;
@@ -30,8 +33,10 @@ pub use crate::benches::benches_of;
 pub use crate::keeping::keep;
 pub use crate::kept_actor::Kept;
 pub use crate::reviving::revive;
+pub use addressing::addressees;
 pub use agreeing::{agree, agree_benches};
 pub use bench::Bench;
+pub use halting::{calls_at, fails, is_halted};
 pub use merging::merge;
 pub use play_words::{Input, Item, Ref, Word};
 pub use reading::{cried, if_standing};

@@ -2,7 +2,7 @@
 ghost use Rattle.std.specs.Prelude.{◌≡◌, IfOk};
 ghost use Rattle.scenario_file.specs.Reading.{contents};
 ghost use Rattle.scenario_file.specs.Valid.{IsScenario};
-ghost use Rattle.bench_rules.specs.Lists.{ring_in};
+ghost use Rattle.world_history.specs.Signed.{ring_in};
 
 use checked_frames::KeyRing;
 use plain_lists::Want;

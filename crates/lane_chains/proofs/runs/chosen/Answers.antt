@@ -1,4 +1,4 @@
-use Rattle.lane_chains.proofs.ChainLaws.{chosen_is}
+use Rattle.lane_chains.proofs.LanesOfChains.{chosen_is}
 use Rattle.lane_chains.proofs.runs.chosen.Goals as goal
 
 pub returns : goal.returns

@@ -1,4 +1,4 @@
-use Rattle.sha_lanes.proofs.LaneLaws.{lanes_with}
+use Rattle.lane_chains.proofs.LanesOneByOne.{lanes_with}
 use Rattle.lane_chains.proofs.runs.plus_one.Goals as goal
 
 pub returns : goal.returns

@@ -1,9 +1,9 @@
 -- After each turn every lane stands so many steps further in its own chain, at most at its last. A lane that is
 -- done takes no more, though its block is hashed along with the others.
-use Rattle.std.proofs.Common.{◌≡◌, ◌-◌, ◌∙◌, ℕ, ap, arith, refl, slice_index}
+use Rattle.std.proofs.Common.{◌-◌, ◌∙◌, ℕ, ap, arith, slice_index}
 use Rattle.std.specs.Prelude.{cond, ltb}
-use Rattle.sha_lanes.specs.Lanes.{lane}
-use Rattle.lane_chains.proofs.ChainLaws.{lane_more, lane_none, lane_done, step_fits, zero_lane}
+use Rattle.lane_chains.specs.Lanes.{lane}
+use Rattle.lane_chains.proofs.LanesOfChains.{lane_more, lane_none, lane_done, step_fits, zero_lane}
 use Rattle.lane_chains.proofs.runs.run_lanes.Goals as goal
 
 pub turns-init : goal.turns-init

@@ -1,7 +1,7 @@
 use Rattle.std.proofs.Common.{ℕ, ◌<◌, ◌-◌, slice_index}
 use Rattle.sha2.specs.Sha256.{digest_bytes}
-use Rattle.sha_lanes.specs.Lanes.{lane}
-use Rattle.lane_chains.proofs.ChainLaws.{Lane}
+use Rattle.lane_chains.specs.Lanes.{lane}
+use Rattle.lane_chains.proofs.LanesOfChains.{Lane}
 use Rattle.lane_chains.proofs.runs.run_lanes.Given as goal
 
 abbrev pub invariant-turns : goal.invariant-turns

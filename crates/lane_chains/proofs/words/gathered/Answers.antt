@@ -1,7 +1,7 @@
 -- The lanes so far have the numbers that their chains have in the list; each turn fills the next lane.
-use Rattle.std.proofs.Common.{◌≡◌, ◌∙◌, ℕ, ap, arith, refl, slice_index}
+use Rattle.std.proofs.Common.{◌∙◌, ℕ, ap, arith, slice_index}
 use Rattle.std.proofs.lemmas.List.{length-set}
-use Rattle.lane_chains.proofs.WordLaws.{lanes_more}
+use Rattle.lane_chains.proofs.BytesAsWords.{lanes_more}
 use Rattle.lane_chains.proofs.words.gathered.Goals as goal
 
 pub lanes-preserved : goal.lanes-preserved

@@ -1,8 +1,8 @@
 -- The lanes so far have the word at their chain's place in the values; each turn loads the next lane's.
-use Rattle.std.proofs.Common.{◌≡◌, ◌∙◌, ◌+◌, ◌*◌, ℕ, ap, arith, slice_index}
+use Rattle.std.proofs.Common.{◌∙◌, ◌+◌, ◌*◌, ℕ, ap, arith, slice_index}
 use Rattle.std.proofs.lemmas.List.{length-set}
 use Rattle.sha2.specs.Sha256.{word_at}
-use Rattle.lane_chains.proofs.WordLaws.{lanes_more}
+use Rattle.lane_chains.proofs.BytesAsWords.{lanes_more}
 use Rattle.lane_chains.proofs.words.gathered_word.Goals as goal
 
 pub lanes-preserved : goal.lanes-preserved

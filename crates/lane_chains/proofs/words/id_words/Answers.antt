@@ -2,8 +2,8 @@
 use Rattle.std.proofs.Common.{◌≡◌, ◌+◌, ◌*◌, ◌∙◌, ℕ, [], ◌∷◌, arith, slice_index}
 use Rattle.std.proofs.lemmas.List.{take_all}
 use Rattle.sha2.specs.Sha256.{word_at}
-use Rattle.sha_lanes.proofs.LaneLaws.{below_four}
-use Rattle.lane_chains.proofs.WordLaws.{words_bytes}
+use Rattle.lane_chains.proofs.LanesOneByOne.{below_four}
+use Rattle.lane_chains.proofs.BytesAsWords.{words_bytes}
 use Rattle.lane_chains.proofs.words.id_words.Goals as goal
 
 pub returns : goal.returns

@@ -1,8 +1,8 @@
 -- The lanes so far have the group's numbers, as words; each turn fills the next. As the numbers have 16 bits,
 -- so do the words.
-use Rattle.std.proofs.Common.{◌≡◌, ◌∙◌, ℕ, arith, refl, slice_index}
+use Rattle.std.proofs.Common.{◌∙◌, ℕ, arith, slice_index}
 use Rattle.std.proofs.lemmas.List.{length-set}
-use Rattle.lane_chains.proofs.WordLaws.{lanes_more}
+use Rattle.lane_chains.proofs.BytesAsWords.{lanes_more}
 use Rattle.lane_chains.proofs.words.spread.Goals as goal
 
 pub lanes-preserved : goal.lanes-preserved

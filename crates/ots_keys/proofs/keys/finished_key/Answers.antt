@@ -4,7 +4,7 @@ use Rattle.std.proofs.Common.{◌≡◌, ◌≤◌, ◌-◌, ◌∙◌, ap, arit
 use Rattle.std.specs.Prelude.{replicate}
 use Rattle.std.proofs.lemmas.List.{length-drop, take_all}
 use Rattle.lane_chains.specs.Hash.{hash_under}
-use Rattle.lane_chains.proofs.Growing.{joined-cong}
+use Rattle.lane_chains.proofs.ChainsGrow.{joined-cong}
 use Rattle.ots_keys.specs.Parameters.{chains, top_digit}
 use Rattle.ots_keys.specs.Keys.{public_tag, finished_element}
 use Rattle.ots_keys.proofs.Widths.{top_is}

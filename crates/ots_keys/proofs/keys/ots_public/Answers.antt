@@ -5,7 +5,7 @@ use Rattle.std.specs.Prelude.{replicate}
 use Rattle.std.proofs.lemmas.List.{length-take-le}
 use Rattle.lane_chains.specs.Hash.{hash_under}
 use Rattle.lane_chains.specs.Chains.{end_of}
-use Rattle.lane_chains.proofs.Growing.{joined-cong}
+use Rattle.lane_chains.proofs.ChainsGrow.{joined-cong}
 use Rattle.ots_keys.specs.Parameters.{chains, top_digit}
 use Rattle.ots_keys.specs.Keys.{public_key, public_tag, chain_end}
 use Rattle.ots_keys.proofs.Widths.{top_is}

@@ -4,7 +4,7 @@ use Rattle.std.proofs.Common.{◌≡◌, ◌≤◌, ◌*◌, ◌∙◌, ◌++◌
 use Rattle.std.specs.Prelude.{replicate}
 use Rattle.std.proofs.lemmas.List.{length-take-le}
 use Rattle.lane_chains.specs.Chains.{joined, end_of}
-use Rattle.lane_chains.proofs.Growing.{joined-cong}
+use Rattle.lane_chains.proofs.ChainsGrow.{joined-cong}
 use Rattle.ots_keys.specs.Parameters.{chains, top_digit}
 use Rattle.ots_keys.specs.Keys.{signed_element}
 use Rattle.ots_keys.proofs.Widths.{top_is}

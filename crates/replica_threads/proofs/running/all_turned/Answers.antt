@@ -3,7 +3,7 @@
 use Rattle.std.proofs.Common.{◌≡◌, ◌∙◌, ℕ, List, length, ap, sym, subst, arith}
 use Rattle.std.specs.Prelude.{IfOk}
 use Rattle.scenario_file.specs.Valid.{IsScenario}
-use Rattle.bench_rules.specs.Lists.{ring_in}
+use Rattle.world_history.specs.Signed.{ring_in}
 use Rattle.script_laws.specs.Accepted.{actors_in}
 use Rattle.inboxes.specs.declared.inbox.Inbox.{Inbox}
 use Rattle.replica_threads.specs.declared.posted.Posted.{Posted}

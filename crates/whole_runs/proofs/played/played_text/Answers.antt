@@ -4,7 +4,7 @@ use Rattle.std.specs.declared.vec.Vec.{Vec}
 use Rattle.std.specs.declared.alloc.Global.{Global}
 use Rattle.scenario_file.specs.Reading.{contents}
 use Rattle.world_history.specs.KeptState.{KeptState}
-use Rattle.script_plays.specs.Playing.{ArePlayed}
+use Rattle.run_scripts.specs.Playing.{ArePlayed}
 use Rattle.whole_runs.proofs.Benches.{are_after}
 use Rattle.whole_runs.proofs.Giving.{gives_play, gives_refused}
 use Rattle.whole_runs.proofs.played.played_text.Goals as goal

@@ -1,5 +1,5 @@
 use Rattle.std.proofs.Common.{◌≡◌, take}
-use Rattle.bench_rules.specs.Lists.{frames_with}
+use Rattle.world_history.specs.Signed.{frames_with}
 use Rattle.world_history.proofs.frames.join.Given as goal
 
 abbrev pub invariant-loop-place : goal.invariant-loop-place

@@ -13,7 +13,7 @@ use Rattle.world_history.specs.declared.seat.Seat.{Seat}
 use Rattle.checked_frames.specs.Entries.{group_size, groups_for}
 use Rattle.world_rules.specs.Scenarios.{setup_of, shares_leaves, key_in}
 use Rattle.bench_rules.specs.Lists.{frames_after}
-use Rattle.bench_rules.proofs.Leaving.{leaves_are_few}
+use Rattle.world_history.proofs.Leaving.{leaves_are_few}
 use Rattle.message_types.specs.declared.body.Body.{Body}
 use Rattle.world_history.specs.Roles.{Comes, IsReady}
 use Rattle.world_history.specs.Seats.{IsSeated, world_in, list_in, entry_of_seat}

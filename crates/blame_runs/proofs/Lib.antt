@@ -1,4 +1,0 @@
-pub mod OneMore
-pub mod Spelled
-pub mod Naming
-pub mod Worth

@@ -1,0 +1,2 @@
+mod DrawnInTurn
+mod PlottedInTurn

@@ -1,0 +1,5 @@
+use Rattle.own_histories.proofs.Growing.{intruded_say_nothing}
+use Rattle.own_histories.proofs.laws.intruded_say_nothing.Goals as goal
+
+pub returns : goal.returns
+returns c = intruded_say_nothing

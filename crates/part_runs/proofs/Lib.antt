@@ -1,4 +1,0 @@
-pub mod Shown
-pub mod Printing
-pub mod Printed
-pub mod Agreeing

@@ -1,0 +1,70 @@
+-- An event without where its frame was said does the same.
+use Rattle.std.proofs.Common.{◌≡◌, ℕ, Option, refl, sym, ◌∙◌, ap}
+use Rattle.std.specs.List.{flat_map}
+use Rattle.message_types.specs.declared.signed.Signed.{Signed}
+use Rattle.message_types.specs.declared.body.Body.{Body}
+use Rattle.message_types.specs.Parts.{parts}
+use Rattle.protocol_rules.specs.Master.{taken_frames}
+use Rattle.field_proxy.specs.Front.{Front}
+use Rattle.operator_screen.specs.Board.{Desk}
+use Rattle.scenario_file.specs.Reading.{Contents}
+use Rattle.history_rules.specs.Events.{Event, Took, Tick, Command, Field, Poll, Cry, Skip, Restart, Entry}
+use Rattle.history_rules.specs.Events.{frame_taken, is_tick, is_silent, is_restart}
+use Rattle.history_rules.specs.Audit.{parts_taken}
+use Rattle.world_rules.specs.Clients.{happenings_of, proxy_says, screen_says}
+use Rattle.world_rules.specs.Frames.{cried}
+use Rattle.world_rules.specs.Scenarios.{setup_of}
+use Rattle.world_rules.proofs.Fields.{setup_goes_by}
+use Rattle.printed_laws.specs.AlikeLaws.{without_place, bare}
+
+-- A function of events that doesn't ask where a frame was said, case by case.
+same_for : {X : Type 0} (g : Event → X) →
+    ((stamp place : ℕ) (frame : Signed Body) → g (Took 0 0 frame) ≡ g (Took stamp place frame)) → (event : Event) →
+    g (without_place event) ≡ g event
+same_for g same (Took stamp place frame) = same stamp place frame
+same_for g same Tick = refl
+same_for g same (Command op) = refl
+same_for g same (Field area place value) = refl
+same_for g same Poll = refl
+same_for g same (Cry bytes) = refl
+same_for g same Skip = refl
+same_for g same Restart = refl
+
+pub taken_bare : (event : Event) → frame_taken (without_place event) ≡ frame_taken event
+taken_bare event = same_for frame_taken (λ stamp place frame. refl) event
+
+pub tick_bare : (event : Event) → is_tick (without_place event) ≡ is_tick event
+tick_bare event = same_for is_tick (λ stamp place frame. refl) event
+
+pub silent_bare : (event : Event) → is_silent (without_place event) ≡ is_silent event
+silent_bare event = same_for is_silent (λ stamp place frame. refl) event
+
+pub restart_bare : (event : Event) → is_restart (without_place event) ≡ is_restart event
+restart_bare event = same_for is_restart (λ stamp place frame. refl) event
+
+pub cried_bare : (event : Event) → cried (without_place event) ≡ cried event
+cried_bare event = same_for cried (λ stamp place frame. refl) event
+
+pub parts_bare : (e : Entry) → parts_taken (bare e) ≡ parts_taken e
+parts_bare e = ap (λ (o : Option (Signed Body)). flat_map parts (taken_frames o)) (taken_bare e.event)
+
+-- the entry with another event
+entry_with : Entry → Event → Entry
+entry_with e event = record e { event = event }
+
+pub happenings_bare : (e : Entry) → happenings_of (bare e) ≡ happenings_of e
+unfolding entry_with
+happenings_bare e = same_for (λ event. happenings_of (entry_with e event)) (λ stamp place frame. refl) e.event
+
+pub proxy_bare : (s : Front) (event : Event) → proxy_says s (without_place event) ≡ proxy_says s event
+proxy_bare s event = same_for (proxy_says s) (λ stamp place frame. refl) event
+
+pub screen_bare : (s : Desk) (event : Event) → screen_says s (without_place event) ≡ screen_says s event
+screen_bare s event = same_for (screen_says s) (λ stamp place frame. refl) event
+
+-- so it is one of the same roles
+pub fits_bare : (c : Contents) (actor : ℕ) (event : Event) →
+    (setup_of c).fits actor (without_place event) ≡ (setup_of c).fits actor event
+fits_bare c actor event =
+    same_for ((setup_of c).fits actor) (λ stamp place frame. (setup_goes_by c).fits actor (Took 0 0 frame)
+    ∙ sym ((setup_goes_by c).fits actor (Took stamp place frame))) event

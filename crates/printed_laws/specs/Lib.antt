@@ -1,0 +1,5 @@
+pub mod Lines
+pub mod LineLaws
+pub mod AlikeLaws
+pub mod RunLaws
+pub mod PlayLaws

@@ -1,8 +1,0 @@
-ghost use Rattle.run_laws.specs.Laws.{DrawnOnceIsStampedOnce, RunIsLegal};
-
-/// Where the stamps of all actors' lists are the numbers from 0 on, each once, each is the stamp of just one entry. Lists that
-/// the actors could make alone then merge to a legal history, whatever the order in which the stamps were drawn.
-pub fn run_is_legal()
-    ensures once { DrawnOnceIsStampedOnce }
-    ensures legal { RunIsLegal }
-{}

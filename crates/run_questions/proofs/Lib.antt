@@ -1,0 +1,13 @@
+mod BlameGrows
+mod BlamedAreSpelled
+mod NamedAreBlamed
+mod BlameIsProof
+mod FilteredBoth
+mod GreatestReached
+mod VotesGathered
+mod BenchesAnswer
+mod TrendsAgree
+mod BenchesCertify
+mod PartsInOrder
+mod PrintedAreParts
+mod PrintedRebuild

@@ -1,0 +1,5 @@
+use Rattle.run_scripts.proofs.Legality.{played_is_legal}
+use Rattle.run_scripts.proofs.laws.played_is_legal.Goals as goal
+
+pub returns : goal.returns
+returns c = played_is_legal

@@ -1,6 +1,0 @@
-pub mod Addressing
-pub mod Mail
-pub mod Making
-pub mod Playing
-pub mod Crying
-pub mod Laws

@@ -1,5 +1,0 @@
-pub mod LaneLaws
-pub mod Blocks
-mod Majority
-mod Rotations
-mod RoundLaws

@@ -1,7 +1,0 @@
-use Rattle.std.proofs.Common.{◌≡◌, ℕ, ◌<◌, length, slice_index}
-use Rattle.sha_lanes.specs.Lanes.{column}
-use Rattle.sha_lanes.proofs.rounds.put_block.Given as goal
-
-abbrev pub invariant-words : goal.invariant-words
-invariant-words l =
-    (length l.room ≡ 190) × ((j i : ℕ) → i < l.k → slice_index (column j l.room) i ≡ slice_index (column j l.block) i)

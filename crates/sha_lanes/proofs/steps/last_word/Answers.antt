@@ -1,8 +1,0 @@
-use Rattle.std.proofs.Common.{slice_index}
-use Rattle.sha_lanes.proofs.Blocks.{last_word_is, word_fits}
-use Rattle.sha_lanes.proofs.steps.last_word.Goals as goal
-
-pub returns : goal.returns
-returns c j lt =
-    rw (c.add.ensures j lt, c.shifted_left.ensures j lt, c.splat.ensures j lt)
-    (last_word_is (slice_index c.args.a j) (word_fits c.args.a j c.fits-a.0 c.fits-a.1 lt))

@@ -1,5 +1,0 @@
-mod Filters
-mod Reached
-mod Asking
-mod Benches
-mod Agreeing

@@ -1,0 +1,5 @@
+use Rattle.world_history.proofs.Charging.{charged_by_setup}
+use Rattle.world_history.proofs.laws.charged_by_setup.Goals as goal
+
+pub returns : goal.returns
+returns c = charged_by_setup

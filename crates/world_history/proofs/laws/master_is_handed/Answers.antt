@@ -1,0 +1,5 @@
+use Rattle.world_history.proofs.Handed.{master_is_handed}
+use Rattle.world_history.proofs.laws.master_is_handed.Goals as goal
+
+pub returns : goal.returns
+returns c = master_is_handed

@@ -1,0 +1,5 @@
+use Rattle.world_history.proofs.Handed.{master_says}
+use Rattle.world_history.proofs.laws.master_says.Goals as goal
+
+pub returns : goal.returns
+returns c = master_says
