@@ -1,2 +1,2 @@
-pub mod Hearing
-pub mod Standing
+pub mod HeardEvents
+pub mod FramesStand

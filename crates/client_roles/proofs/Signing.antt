@@ -23,9 +23,6 @@ use Rattle.client_roles.proofs.Saying.{behind_masters, client_says_by_room}
 use Rattle.client_roles.proofs.Wording.{client_words_fit, client_words_are_in_place}
 use Rattle.words_in_place.proofs.Signing.{room_enough}
 
-take_within : (n : ℕ) (xs : List Body) → length (take n xs) ≤ n
-take_within n xs = let same : length (take n xs) ≡ min n (length xs) = length-take n xs in omega arith
-
 -- a word in its place that is no master's has no frames inside
 none_inside : (g : Group) (signer : ℕ) (b : Body) (sig : List ℕ) → nat_lt signer g.n ≡ false
     → in_place g record { signer = signer; body = b; sig = sig } ≡ true → inside b ≡ []

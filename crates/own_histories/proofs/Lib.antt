@@ -1,5 +1,5 @@
-pub mod Building
-pub mod Owning
+pub mod EntryByEntry
+pub mod OwnEntries
 pub mod Stamps
-pub mod Merging
-pub mod Growing
+pub mod MergedHistories
+pub mod BenchLists

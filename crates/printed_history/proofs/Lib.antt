@@ -1,8 +1,8 @@
 mod Places
-mod Framing
-pub mod Taking
-pub mod Nexts
-mod Begins
+mod FramesFound
+pub mod EventTold
+pub mod NextEntry
+mod FirstAtHand
 mod Lines
-mod Acted
-mod Telling
+mod LastFrames
+mod KindsTold

@@ -13,13 +13,13 @@ use Rattle.history_rules.specs.Setup.{Setup, stands, own}
 use Rattle.history_rules.specs.Keeping.{keeper_calls}
 use Rattle.history_rules.specs.Legal.{IsLegal}
 use Rattle.world_rules.specs.Frames.{cried, frames_at_stamp}
-use Rattle.world_rules.specs.Scenarios.{setup_of}
+use Rattle.world_rules.specs.Scenarios.{setup_of, actors_in}
 use Rattle.world_entries.specs.Entries.{event_of}
 use Rattle.world_entries.specs.declared.entry.Event.{Event as EventWord}
 use Rattle.world_history.specs.State.{BenchState, setup_in}
 use Rattle.world_history.specs.Seats.{frames_of_each}
 use Rattle.world_history.specs.Signed.{ring_in}
-use Rattle.world_history.specs.Benches.{actors_in, benches_of}
+use Rattle.world_history.specs.Benches.{benches_of}
 use Rattle.run_lines.specs.declared.refusal.HistoryRefusal.{HistoryRefusal}
 use Rattle.run_lines.specs.Runs.{Reading}
 use Rattle.printed_history.specs.declared.histories.Replay.{Replay}

@@ -19,8 +19,8 @@ use Rattle.run_scripts.specs.Mail.{post_to}
 use Rattle.run_scripts.specs.Making.{Given, Making, bench_at}
 use Rattle.printed_laws.proofs.SaidThere.{IsPosted, WasSaid, posted_on, said_on}
 use Rattle.printed_laws.proofs.PostedWereSaid.{post_posted, cry_posted}
-use Rattle.world_history.proofs.KeptActing.{event_at}
-use Rattle.run_scripts.proofs.Keeping.{Keeps, TakesAs, with_event}
+use Rattle.world_history.proofs.KeptGrows.{event_at}
+use Rattle.run_scripts.proofs.PlayKeeps.{Keeps, TakesAs, with_event}
 
 -- the frame was said where it is held from
 abbrev IsHeldFrom : Setup → List Entry → Held → Type 0

@@ -8,8 +8,7 @@ use Rattle.history_rules.specs.Keeping.{is_halted}
 use Rattle.history_rules.specs.Legal.{executions_in, view_in}
 use Rattle.history_rules.specs.Counts.{forged, alike, intruded_masters}
 use Rattle.world_rules.specs.Headline.{agrees}
-use Rattle.world_rules.specs.Scenarios.{setup_of, masters_in, proxies_in}
-use Rattle.world_history.specs.Benches.{actors_in}
+use Rattle.world_rules.specs.Scenarios.{setup_of, masters_in, proxies_in, actors_in}
 use Rattle.run_lines.specs.Texts.{intruded_text, master_text, proxy_text, screen_text, audit_text, agree_text}
 use Rattle.printed_run.specs.Printed.{cast_in, writes_of, notices_of, master_lines, client_lines, actor_lines}
 use Rattle.printed_run.specs.Printed.{actors_text, totals_text}

@@ -12,8 +12,8 @@ use Rattle.world_rules.specs.Scenarios.{setup_of}
 use Rattle.script_lines.specs.declared.script.Line.{Line}
 use Rattle.script_laws.specs.Accepted.{are_lines_of, are_sayings_of}
 use Rattle.run_scripts.specs.Making.{Given, most_entries, played, beginning}
-use Rattle.run_scripts.proofs.Keeping.{all_played, beginning_kept}
-use Rattle.run_scripts.proofs.Legality.{played_is_legal}
+use Rattle.run_scripts.proofs.PlayKeeps.{all_played, beginning_kept}
+use Rattle.run_scripts.proofs.PlaysAreLegal.{played_is_legal}
 use Rattle.printed_laws.specs.RunLaws.{CanBeTold, entry_as_told}
 use Rattle.printed_laws.proofs.RunsReadBack.{texts_tell_histories}
 use Rattle.printed_laws.specs.PlayLaws.{IsGiven, PlayedIsTold, PlayedTextsReadBack}

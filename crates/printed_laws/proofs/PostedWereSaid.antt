@@ -16,11 +16,11 @@ use Rattle.history_rules.specs.Keeping.{is_halted}
 use Rattle.history_rules.specs.Legal.{Stands, IsLegal, says_in}
 use Rattle.history_rules.specs.Audit.{IsIn}
 use Rattle.audit_counts.proofs.Forged.{in_of_stands}
-use Rattle.own_histories.proofs.Owning.{place_in_whole}
+use Rattle.own_histories.proofs.OwnEntries.{place_in_whole}
 use Rattle.world_rules.specs.Frames.{cried, frames_of, frames_at_stamp}
 use Rattle.world_rules.specs.Scenarios.{setup_of}
 use Rattle.bench_rules.specs.Lists.{frames_after}
-use Rattle.own_histories.proofs.Growing.{intruded_say_nothing}
+use Rattle.own_histories.proofs.BenchLists.{intruded_say_nothing}
 use Rattle.world_history.specs.State.{BenchState, entry_at, frames_said}
 use Rattle.world_history.specs.Lists.{last_of, before_last, frames_at, frames_of_last}
 use Rattle.run_scripts.specs.declared.mail.Held.{Held}

@@ -14,8 +14,7 @@ use Rattle.history_rules.specs.Setup.{Setup, own}
 use Rattle.history_rules.specs.Counts.{intruded_masters}
 use Rattle.world_rules.specs.Clients.{board_of}
 use Rattle.world_rules.specs.Frames.{frames_at_stamp}
-use Rattle.world_rules.specs.Scenarios.{setup_of, masters_in, proxies_in}
-use Rattle.world_history.specs.Benches.{actors_in}
+use Rattle.world_rules.specs.Scenarios.{setup_of, masters_in, proxies_in, actors_in}
 use Rattle.run_lines.specs.Texts.{intruded_text, master_text, proxy_text, screen_text, audit_text, agree_text}
 use Rattle.run_lines.specs.Texts.{count_text, said_text, entry_text}
 use Rattle.printed_run.specs.Printed.{cast_in, master_lines, client_lines, actor_lines, is_frame, is_said, entry_line}

@@ -1,6 +1,6 @@
-pub mod Benches
-pub mod Posting
-pub mod Cries
-pub mod Hands
-pub mod Showing
-pub mod Wholes
+pub mod BenchesMakeText
+pub mod FramesOfEntries
+pub mod SaidThere
+pub mod WhatIsAtHand
+pub mod ShownLines
+pub mod WholeText

@@ -18,9 +18,8 @@ use Rattle.history_rules.specs.Sameness.{is_same_signed, is_same_body}
 use Rattle.world_rules.specs.Clients.{front_of, desk_of, board_of}
 use Rattle.world_rules.specs.Frames.{frames_at_stamp}
 use Rattle.world_rules.specs.Headline.{agrees}
-use Rattle.world_rules.specs.Scenarios.{setup_of, masters_in, proxies_in}
+use Rattle.world_rules.specs.Scenarios.{setup_of, masters_in, proxies_in, actors_in}
 use Rattle.world_history.specs.State.{BenchState}
-use Rattle.world_history.specs.Benches.{actors_in}
 use Rattle.run_lines.specs.Texts.{intruded_text, master_text, proxy_text, screen_text, audit_text, agree_text}
 use Rattle.run_lines.specs.Texts.{count_text, entry_text}
 

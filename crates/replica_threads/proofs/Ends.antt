@@ -4,7 +4,7 @@ use Rattle.std.proofs.Common.{length, All, refl, sym, ◌∙◌, ap, subst, arit
 use Rattle.std.proofs.lemmas.List.{length_push}
 use Rattle.std.proofs.lemmas.List.Elements.{All-push}
 use Rattle.std.specs.List.{slice_index_or}
-use Rattle.script_laws.specs.Accepted.{actors_in}
+use Rattle.world_rules.specs.Scenarios.{actors_in}
 use Rattle.world_history.specs.KeptState.{halted_in}
 use Rattle.station_turns.specs.Pace.{turns_made}
 use Rattle.station_turns.specs.Turns.{Stationed}

@@ -11,13 +11,13 @@ use Rattle.play_words.specs.Accepted.{is_accepted}
 use Rattle.scenario_file.specs.Reading.{Contents, cast_of}
 use Rattle.scenario_file.specs.Actors.{actors_of}
 use Rattle.history_rules.specs.Events.{Event, Command, Field, Poll, Restart}
-use Rattle.world_rules.specs.Scenarios.{fits_in}
+use Rattle.world_rules.specs.Scenarios.{fits_in, actors_in}
 use Rattle.script_lines.specs.declared.saying.Saying.{Saying}
 use Rattle.script_lines.specs.declared.script.Line.{Line}
 use Rattle.script_lines.specs.declared.step.Step.{Step}
 use Rattle.script_lines.specs.declared.step.Step.TheVariants as step
 use Rattle.script_lines.specs.Given.{own_words, say, where_same, plain_at, given_at, left_after, given, inputs_of}
-use Rattle.script_laws.specs.Accepted.{actors_in, is_there, may_do, is_intruded, is_step_of, are_lines_of}
+use Rattle.script_laws.specs.Accepted.{is_there, may_do, is_intruded, is_step_of, are_lines_of}
 use Rattle.script_laws.specs.Accepted.{is_saying_of, are_sayings_of}
 use Rattle.world_history.proofs.Lists.{all_join}
 use Rattle.world_history.proofs.Lists.{number_at}

@@ -9,10 +9,10 @@ use Rattle.message_types.specs.declared.body.Body.{Body}
 use Rattle.message_types.specs.Spelling.{has_spelling}
 use Rattle.scenario_file.specs.Reading.{Contents}
 use Rattle.history_rules.specs.Setup.{stands}
-use Rattle.world_rules.specs.Scenarios.{setup_of}
+use Rattle.world_rules.specs.Scenarios.{setup_of, actors_in}
 use Rattle.world_rules.specs.Frames.{addressees}
-use Rattle.script_laws.specs.Accepted.{actors_in, is_there}
-use Rattle.world_history.proofs.Addressed.{addressees_there}
+use Rattle.script_laws.specs.Accepted.{is_there}
+use Rattle.world_history.proofs.Addressees.{addressees_there}
 use Rattle.station_turns.specs.declared.held.Turned.{Turned}
 use Rattle.inboxes.specs.declared.pass.InboxPass.{InboxPass}
 use Rattle.replica_threads.specs.declared.posted.Posted.{Posted}

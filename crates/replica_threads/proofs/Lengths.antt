@@ -16,14 +16,13 @@ use Rattle.history_rules.specs.Keeping.{is_halted}
 use Rattle.history_rules.specs.Counts.{stamped, merged}
 use Rattle.history_rules.specs.Legal.{Stands}
 use Rattle.own_histories.specs.Own.{IsOwnHistory, HasEachStampOnce}
-use Rattle.world_rules.specs.Scenarios.{setup_of}
+use Rattle.world_rules.specs.Scenarios.{setup_of, actors_in}
 use Rattle.world_rules.proofs.Fields.{group_is}
 use Rattle.world_history.specs.State.{BenchState}
-use Rattle.script_laws.specs.Accepted.{actors_in}
-use Rattle.world_history.proofs.Addressed.{few_actors}
+use Rattle.world_history.proofs.Addressees.{few_actors}
 use Rattle.world_history.specs.Benches.{lists_of, AreOfAll}
 use Rattle.station_turns.specs.Pace.{is_skip, turns_made, IsPaced, begins, turns, halts}
-use Rattle.station_turns.proofs.Counting.{turn_more, turn_same}
+use Rattle.station_turns.proofs.CountsGrow.{turn_more, turn_same}
 use Rattle.replica_threads.specs.Ended.{IsActor, IsRun}
 use Rattle.replica_threads.proofs.Numbers.{one_each, few_in_all}
 

@@ -13,14 +13,14 @@ use Rattle.protocol_rules.specs.Group.{Group}
 use Rattle.history_rules.specs.Legal.{IsLegal}
 use Rattle.agreement.proofs.Lists.{some_same, none_some}
 use Rattle.own_histories.specs.Own.{IsOwnHistory}
-use Rattle.world_rules.specs.Scenarios.{setup_of}
+use Rattle.world_rules.specs.Scenarios.{setup_of, actors_in}
 use Rattle.world_rules.proofs.Fields.{group_is}
 use Rattle.stamps.specs.Seats.{Source, Drawer, IsWhole, IsEachOnce}
 use Rattle.world_history.specs.State.{BenchState}
 use Rattle.world_history.specs.KeptState.{KeptState}
-use Rattle.world_history.specs.Benches.{actors_in, lists_of, IsBenchOf, AreOfAll}
+use Rattle.world_history.specs.Benches.{lists_of, IsBenchOf, AreOfAll}
 use Rattle.station_turns.specs.Laws.{stamps_in, stamps_of}
-use Rattle.station_turns.proofs.Once.{drawn_once, run_is_legal}
+use Rattle.station_turns.proofs.DrawnOnce.{drawn_once, run_is_legal}
 use Rattle.station_turns.specs.Naming.{RunName}
 use Rattle.replica_threads.specs.Ended.{IsActor, IsRun, IsDone, RunsStampOnce, HistoriesAreLegal}
 use Rattle.replica_threads.proofs.Counted.{each_once_moved, placed, none_twice}

@@ -9,7 +9,7 @@ use Rattle.std.specs.declared.alloc.Global.{Global}
 use Rattle.std.proofs.lemmas.List.{length-map}
 use Rattle.play_words.specs.declared.input.Input.{Input}
 use Rattle.scenario_file.specs.Reading.{Contents}
-use Rattle.script_laws.specs.Accepted.{actors_in}
+use Rattle.world_rules.specs.Scenarios.{actors_in}
 use Rattle.stamps.specs.Seats.{Source, Drawer, new_seat}
 use Rattle.station_turns.specs.Pace.{fit_inputs}
 use Rattle.station_turns.specs.Naming.{RunName}

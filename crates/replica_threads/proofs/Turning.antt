@@ -8,8 +8,8 @@ use Rattle.message_types.specs.Spelling.{has_spelling}
 use Rattle.scenario_file.specs.Reading.{Contents}
 use Rattle.scenario_file.specs.Valid.{IsScenario}
 use Rattle.history_rules.specs.Setup.{Setup, stands}
-use Rattle.world_rules.specs.Scenarios.{setup_of}
-use Rattle.script_laws.specs.Accepted.{actors_in, is_there}
+use Rattle.world_rules.specs.Scenarios.{setup_of, actors_in}
+use Rattle.script_laws.specs.Accepted.{is_there}
 use Rattle.station_turns.specs.declared.held.Held.{Held}
 use Rattle.station_turns.specs.declared.held.Turned.{Turned}
 use Rattle.station_turns.specs.Turns.{Stationed, Turns, still_held}

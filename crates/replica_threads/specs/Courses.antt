@@ -8,7 +8,7 @@ use Rattle.scenario_file.specs.Valid.{IsScenario}
 use Rattle.script_lines.specs.declared.saying.Saying.{Saying}
 use Rattle.script_lines.specs.declared.script.Line.{Line}
 use Rattle.script_lines.specs.Given.{inputs_of}
-use Rattle.script_laws.specs.Accepted.{actors_in}
+use Rattle.world_rules.specs.Scenarios.{actors_in}
 use Rattle.stamps.specs.Seats.{Source, Drawer}
 use Rattle.inboxes.specs.declared.inbox.Inbox.{Inbox}
 use Rattle.station_turns.specs.Pace.{fit_inputs}

@@ -9,11 +9,11 @@ use Rattle.history_rules.specs.Keeping.{is_halted}
 use Rattle.history_rules.specs.Legal.{IsLegal}
 use Rattle.history_rules.specs.Counts.{merged}
 use Rattle.own_histories.specs.Own.{IsOwnHistory, HasEachStampOnce}
-use Rattle.world_rules.specs.Scenarios.{setup_of}
+use Rattle.world_rules.specs.Scenarios.{setup_of, actors_in}
 use Rattle.stamps.specs.Seats.{Drawer, IsEachOnce}
 use Rattle.world_history.specs.State.{BenchState}
 use Rattle.world_history.specs.KeptState.{KeptState, halted_in}
-use Rattle.world_history.specs.Benches.{actors_in, lists_of, IsBenchOf, AreOfAll}
+use Rattle.world_history.specs.Benches.{lists_of, IsBenchOf, AreOfAll}
 use Rattle.station_turns.specs.Laws.{stamps_in, stamps_of}
 use Rattle.station_turns.specs.Pace.{turns_made, IsPaced}
 use Rattle.station_turns.specs.Turns.{Stationed}

@@ -3,9 +3,8 @@ use Rattle.std.specs.Prelude.{◌≡◌, ◌⊎◌, ℕ, List, length, Option, S
 use Rattle.message_types.specs.Spelling.{has_spelling}
 use Rattle.scenario_file.specs.Reading.{Contents, contents}
 use Rattle.scenario_file.specs.Valid.{IsScenario}
-use Rattle.world_rules.specs.Scenarios.{setup_of}
+use Rattle.world_rules.specs.Scenarios.{setup_of, actors_in}
 use Rattle.world_history.specs.Signed.{ring_in}
-use Rattle.script_laws.specs.Accepted.{actors_in}
 use Rattle.station_turns.specs.declared.held.Held.{Held}
 use Rattle.station_turns.specs.Naming.{RunName}
 use Rattle.station_turns.specs.Checking.{held_where_standing}

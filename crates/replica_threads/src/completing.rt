@@ -1,8 +1,7 @@
 //! The turns that an actor lacks once all its hands have ended.
 ghost use Rattle.std.specs.Prelude.{◌≡◌, ◌⊎◌, ◌+◌, ◌<◌, true, false, IfOk, IfSome, OnOk};
 ghost use Rattle.history_rules.specs.Setup.{stands};
-ghost use Rattle.world_rules.specs.Scenarios.{setup_of};
-ghost use Rattle.script_laws.specs.Accepted.{actors_in};
+ghost use Rattle.world_rules.specs.Scenarios.{setup_of, actors_in};
 ghost use Rattle.world_history.specs.KeptState.{halted_in};
 ghost use Rattle.station_turns.specs.Pace.{turns_made};
 ghost use Rattle.replica_threads.specs.Hands.{IsShared, ArePassesOf};

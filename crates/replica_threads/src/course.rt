@@ -1,7 +1,7 @@
 ghost use Rattle.std.specs.Prelude.{◌≡◌, ◌≤◌};
 ghost use Rattle.scenario_file.specs.Reading.{contents};
 ghost use Rattle.scenario_file.specs.Valid.{IsScenario};
-ghost use Rattle.script_laws.specs.Accepted.{actors_in};
+ghost use Rattle.world_rules.specs.Scenarios.{actors_in};
 
 use scenario_file::Scenario;
 use std::alloc::Global;

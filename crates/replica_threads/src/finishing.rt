@@ -1,6 +1,6 @@
 //! The stations once all their turns are made.
 ghost use Rattle.std.specs.Prelude.{◌≡◌, ◌≤◌, ◌<◌, length, All, IfOk};
-ghost use Rattle.script_laws.specs.Accepted.{actors_in};
+ghost use Rattle.world_rules.specs.Scenarios.{actors_in};
 ghost use Rattle.replica_threads.specs.Ended.{HasEnded};
 ghost use Rattle.replica_threads.specs.Hands.{IsShared, ArePassesOf};
 

@@ -1,8 +1,7 @@
 //! One hand of an actor.
 ghost use Rattle.std.specs.Prelude.{◌≡◌, ◌<◌, true, IfOk, IfSome};
 ghost use Rattle.history_rules.specs.Setup.{stands};
-ghost use Rattle.world_rules.specs.Scenarios.{setup_of};
-ghost use Rattle.script_laws.specs.Accepted.{actors_in};
+ghost use Rattle.world_rules.specs.Scenarios.{setup_of, actors_in};
 ghost use Rattle.replica_threads.specs.Hands.{IsShared, ArePassesOf};
 ghost use Rattle.replica_threads.specs.Letters.{IsWellTurned};
 

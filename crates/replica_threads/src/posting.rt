@@ -6,9 +6,9 @@ ghost use Rattle.std.specs.List.{list_all};
 ghost use Rattle.message_types.specs.Spelling.{has_spelling};
 ghost use Rattle.scenario_file.specs.Reading.{contents, Contents};
 ghost use Rattle.scenario_file.specs.Valid.{IsScenario};
-ghost use Rattle.script_laws.specs.Accepted.{is_there, actors_in};
+ghost use Rattle.script_laws.specs.Accepted.{is_there};
 ghost use Rattle.history_rules.specs.Setup.{stands};
-ghost use Rattle.world_rules.specs.Scenarios.{setup_of};
+ghost use Rattle.world_rules.specs.Scenarios.{setup_of, actors_in};
 ghost use Rattle.replica_threads.specs.Hands.{ArePassesOf};
 ghost use Rattle.replica_threads.specs.Letters.{HaveSent, IsWellTurned, CanGo, most_frames, goes_to, letters_of, letters};
 

@@ -2,7 +2,7 @@
 ghost use Rattle.std.specs.Prelude.{◌≡◌, ◌≤◌, ◌+◌, false, length, map, All, IfOk};
 ghost use Rattle.scenario_file.specs.Reading.{contents};
 ghost use Rattle.scenario_file.specs.Valid.{IsScenario};
-ghost use Rattle.script_laws.specs.Accepted.{actors_in};
+ghost use Rattle.world_rules.specs.Scenarios.{actors_in};
 ghost use Rattle.replica_threads.specs.Ended.{HasEnded, IsRun};
 ghost use Rattle.replica_threads.specs.Courses.{AreFit, IsCourse, seats_made};
 

@@ -1,7 +1,7 @@
 //! The stations of a run before its first turn.
 ghost use Rattle.std.specs.Prelude.{◌≡◌, ◌+◌, ◌<◌, [], true, length, map, IfOk, OnOk};
 ghost use Rattle.std.specs.List.{slice_index_or};
-ghost use Rattle.script_laws.specs.Accepted.{actors_in};
+ghost use Rattle.world_rules.specs.Scenarios.{actors_in};
 ghost use Rattle.station_turns.specs.Pace.{fit_inputs};
 ghost use Rattle.replica_threads.specs.Courses.{AreFit, IsCourse, seats_made};
 

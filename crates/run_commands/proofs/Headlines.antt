@@ -11,7 +11,7 @@ use Rattle.scenario_file.specs.declared.refusal.ScenarioRefusal.{ScenarioRefusal
 use Rattle.scenario_file.specs.declared.refusal.ScenarioRefusal.TheVariants as scenario
 use Rattle.scenario_file.proofs.ValidLaws.{or_no_toml-valid}
 use Rattle.history_rules.specs.Events.{Entry}
-use Rattle.world_rules.proofs.Following.{headline_of_legal}
+use Rattle.world_rules.proofs.Headline.{headline_of_legal}
 use Rattle.script_grammar.specs.Names.{who_of}
 use Rattle.script_lines.specs.Scripts.{script_in}
 use Rattle.script_lines.specs.Sayings.{words_in}

@@ -13,10 +13,10 @@ use Rattle.scenario_file.specs.Reading.{Contents}
 use Rattle.history_rules.specs.Events.{Entry}
 use Rattle.history_rules.specs.Setup.{is_correct_master}
 use Rattle.history_rules.specs.Legal.{executions, executions_in}
-use Rattle.world_rules.specs.Scenarios.{setup_of, group_in, masters_in}
+use Rattle.world_rules.specs.Scenarios.{setup_of, group_in, masters_in, actors_in}
 use Rattle.world_rules.proofs.Fields.{group_is}
 use Rattle.world_history.specs.State.{BenchState, executed_if}
-use Rattle.world_history.specs.Benches.{actors_in, bench_in, unsigned, AreBenches}
+use Rattle.world_history.specs.Benches.{bench_in, unsigned, AreBenches}
 use Rattle.trend_archive.specs.declared.board.Vote.{Vote}
 use Rattle.trend_archive.specs.Boards.{Tally}
 use Rattle.run_questions.specs.TrendAnswers.{changes_of, correct_masters, counts_in, executed_by_more, greatest_reached}
@@ -26,7 +26,7 @@ use Rattle.run_questions.proofs.FilteredBoth.{filter_both}
 use Rattle.quorum_sets.proofs.Numbered.{voters_up_to}
 use Rattle.agreement.proofs.Places.{tails_same, heads_same}
 use Rattle.plain_lists.proofs.Lists.{map_map}
-use Rattle.world_history.proofs.ShownOf.{no_master, shown_passing}
+use Rattle.world_history.proofs.AuditAsks.{no_master, shown_passing}
 
 -- no client is a correct master
 masters_alone : (c : Contents) → voters (is_correct_master (setup_of c)) (actors_in c) ≡ correct_masters (setup_of c)

@@ -14,9 +14,9 @@ use Rattle.agreement.proofs.Lists.{some_same}
 use Rattle.protocol_rules.specs.Words.{first_of_list}
 use Rattle.scenario_file.specs.Reading.{Contents}
 use Rattle.history_rules.specs.Events.{Entry}
-use Rattle.world_rules.specs.Scenarios.{masters_in, setup_of}
+use Rattle.world_rules.specs.Scenarios.{masters_in, setup_of, actors_in}
 use Rattle.world_history.specs.State.{BenchState, certified_shown}
-use Rattle.world_history.specs.Benches.{actors_in, bench_in, unsigned, AreBenches}
+use Rattle.world_history.specs.Benches.{bench_in, unsigned, AreBenches}
 use Rattle.run_questions.specs.PartsText.{certified_by, first_certified}
 use Rattle.quorum_sets.proofs.Numbered.{numbered_at, length-numbered}
 

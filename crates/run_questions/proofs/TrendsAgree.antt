@@ -14,7 +14,7 @@ use Rattle.agreement.specs.Laws.{Begins}
 use Rattle.agreement.proofs.Lists.{any_from, any_in, in_filter, in_filter_from, in_map, in_map_from}
 use Rattle.world_rules.specs.Scenarios.{setup_of, masters_in}
 use Rattle.world_rules.proofs.Fields.{group_is}
-use Rattle.world_rules.proofs.Following.{headline_of_legal}
+use Rattle.world_rules.proofs.Headline.{headline_of_legal}
 use Rattle.trend_archive.specs.declared.answer.TrendAnswer.{TrendAnswer}
 use Rattle.trend_archive.specs.declared.answer.TrendAnswer.TheVariants as answer
 use Rattle.trend_archive.specs.declared.board.Vote.{Vote}

@@ -39,11 +39,11 @@ use Rattle.intruder_words.proofs.Learning.{read-cry}
 use Rattle.world_history.specs.State.{BenchState, setup_in, leaves_left, word_body, word_frame, spoken}
 use Rattle.script_laws.specs.Accepted.{is_intruded}
 use Rattle.run_scripts.specs.Making.{is_raw}
-use Rattle.world_history.proofs.Addressed.{few_masters}
+use Rattle.world_history.proofs.Addressees.{few_masters}
 use Rattle.run_scripts.proofs.UnforgedKnown.{fits_part}
 use Rattle.run_scripts.proofs.UnforgedWords.{SpelledAlike, word_kept}
 use Rattle.run_scripts.proofs.UnforgedParts.{digest_of_fields, IsHeard}
-use Rattle.world_history.proofs.Saying.{signature_short}
+use Rattle.world_history.proofs.SpokenWords.{signature_short}
 
 -- an intruded master isn't correct
 pub incorrect : (c : Contents) (master : ℕ) → is_intruded c master ≡ true → is_correct (setup_of c) master ≡ false

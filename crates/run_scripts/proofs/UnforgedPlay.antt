@@ -19,7 +19,7 @@ use Rattle.history_rules.specs.Setup.{Setup, is_correct, own}
 use Rattle.history_rules.specs.Legal.{Stands, IsLegal}
 use Rattle.history_rules.specs.Audit.{IsIn, HasSaid, parts_taken}
 use Rattle.audit_counts.proofs.Forged.{forged_counts}
-use Rattle.own_histories.proofs.Building.{last_or_before, nothing_stands}
+use Rattle.own_histories.proofs.EntryByEntry.{last_or_before, nothing_stands}
 use Rattle.agreement.proofs.Lists.{Each, each_none, none_in, in_left, in_first, in_cases, in_cons_cases, in_flat_map}
 use Rattle.agreement.proofs.Lists.{in_flat_map_from}
 use Rattle.world_rules.specs.Frames.{cried, overheard}
@@ -40,9 +40,9 @@ use Rattle.run_scripts.specs.Making.{after_cry, cries}
 use Rattle.run_scripts.specs.Making.{played, beginning}
 use Rattle.run_scripts.specs.Playing.{IsSound}
 use Rattle.run_scripts.specs.Laws.{AreNotRaw, PlayedIsUnforged}
-use Rattle.world_history.proofs.Addressed.{few_actors, few_masters}
-use Rattle.run_scripts.proofs.Keeping.{Keeps, TakesAs, Cries, with_event, after_is, after_cry_is, entry_is}
-use Rattle.run_scripts.proofs.Keeping.{next_passes, all_played, beginning_sound, beginning_kept}
+use Rattle.world_history.proofs.Addressees.{few_actors, few_masters}
+use Rattle.run_scripts.proofs.PlayKeeps.{Keeps, TakesAs, Cries, with_event, after_is, after_cry_is, entry_is}
+use Rattle.run_scripts.proofs.PlayKeeps.{next_passes, all_played, beginning_sound, beginning_kept}
 use Rattle.run_scripts.proofs.UnforgedParts.{HasDigest, IsBorne, IsHeard, IsHonest, borne_on, borne_whole, heard_on}
 use Rattle.run_scripts.proofs.UnforgedParts.{taken_borne, taken_heard}
 use Rattle.run_scripts.proofs.UnforgedSaid.{frame_borne}

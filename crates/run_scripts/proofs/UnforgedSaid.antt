@@ -22,7 +22,7 @@ use Rattle.agreement.proofs.Known.{learned_by, known_then, known_then_from}
 use Rattle.agreement.proofs.Spoken.{Due}
 use Rattle.agreement.proofs.Inside.{due_inside}
 use Rattle.agreement.proofs.Origin.{known_closed, said_due, learned_all, taken_known}
-use Rattle.own_histories.proofs.Growing.{intruded_say_nothing}
+use Rattle.own_histories.proofs.BenchLists.{intruded_say_nothing}
 use Rattle.world_rules.specs.Clients.{front_of, desk_of, proxy_says, screen_says}
 use Rattle.world_rules.specs.Scenarios.{setup_of, masters_in, proxies_in, client_in}
 use Rattle.world_rules.proofs.Fields.{setup_goes_by}

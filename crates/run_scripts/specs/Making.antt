@@ -12,7 +12,7 @@ use Rattle.scenario_file.specs.Reading.{Contents}
 use Rattle.history_rules.specs.Events.{Event, Took, Tick, Command, Field, Poll, Cry, Restart, Entry, is_restart}
 use Rattle.history_rules.specs.Setup.{own}
 use Rattle.world_rules.specs.Frames.{cried}
-use Rattle.world_rules.specs.Scenarios.{setup_of, masters_in}
+use Rattle.world_rules.specs.Scenarios.{setup_of, masters_in, actors_in}
 use Rattle.world_history.specs.State.{BenchState, entry_at, spoken}
 use Rattle.world_history.specs.Lists.{last_of}
 use Rattle.world_history.specs.KeptState.{halted_in, frames_kept}
@@ -28,7 +28,6 @@ use Rattle.run_scripts.specs.declared.mail.Post.{Post}
 use Rattle.run_scripts.specs.declared.mail.Delivery.{Delivery}
 use Rattle.run_scripts.specs.declared.answer.StepRefusal.{StepRefusal}
 use Rattle.run_scripts.specs.declared.answer.StepRefusal.TheVariants as stop
-use Rattle.script_laws.specs.Accepted.{actors_in}
 use Rattle.run_scripts.specs.Mail.{post_to, posts_from, sent, post_named, taking}
 
 -- what a play goes by: a scenario, and what its intruded masters are made to say

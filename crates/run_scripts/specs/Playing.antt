@@ -10,7 +10,7 @@ use Rattle.scenario_file.specs.Valid.{IsScenario}
 use Rattle.history_rules.specs.Events.{Entry}
 use Rattle.history_rules.specs.Setup.{Setup, stands, own}
 use Rattle.history_rules.specs.Legal.{IsLegal}
-use Rattle.world_rules.specs.Scenarios.{setup_of}
+use Rattle.world_rules.specs.Scenarios.{setup_of, actors_in}
 use Rattle.world_history.specs.Signed.{ring_in}
 use Rattle.world_history.specs.KeptState.{KeptState, first_state}
 use Rattle.world_entries.specs.declared.entry.Event.{Event as Happening}
@@ -27,7 +27,7 @@ use Rattle.run_scripts.specs.declared.mail.Delivery.{Delivery}
 use Rattle.run_scripts.specs.declared.mail.Mail.{Mail}
 use Rattle.run_scripts.specs.declared.playing.World.{World}
 use Rattle.run_scripts.specs.declared.playing.Playing.{Playing}
-use Rattle.script_laws.specs.Accepted.{actors_in, is_there, are_sayings_of}
+use Rattle.script_laws.specs.Accepted.{is_there, are_sayings_of}
 use Rattle.run_scripts.specs.Mail.{posted_by, sent, taking}
 use Rattle.run_scripts.specs.Making.{Given, Making, Going, bench_at, words_said, most_entries}
 

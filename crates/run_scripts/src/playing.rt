@@ -2,7 +2,8 @@
 ghost use Rattle.std.specs.Prelude.{◌≡◌, List, true, replicate, IfOk};
 ghost use Rattle.scenario_file.specs.Reading.{contents};
 ghost use Rattle.scenario_file.specs.Valid.{IsScenario};
-ghost use Rattle.script_laws.specs.Accepted.{are_sayings_of, actors_in};
+ghost use Rattle.script_laws.specs.Accepted.{are_sayings_of};
+ghost use Rattle.world_rules.specs.Scenarios.{actors_in};
 ghost use Rattle.run_scripts.specs.Making.{beginning};
 ghost use Rattle.script_lines.specs.declared.saying.Saying.{Saying as Said};
 ghost use Rattle.run_scripts.specs.Playing.{IsWorld, given_in, IsMaking, AreNew};

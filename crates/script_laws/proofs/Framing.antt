@@ -170,9 +170,6 @@ each_passes test read (part ∷ parts) xs one h =
     ap (list_all test) (sym is) ∙ and_from (test x) (list_all test rest) (one part x first)
     (each_passes test read parts rest one others)
 
-signers : List Ref → List ℕ
-signers refs = map (λ r. r.actor) refs
-
 rising_after : (cast : Cast) (among : Allowed) (text : List ℕ) (texts : List (List ℕ)) (r : Ref) (rest : List Ref) →
     actors_of cast < 2 ^ 64
     → actor_in cast (signer_in text) ≡ Ok r.actor → names_rise (map signer_in (text ∷ texts)) ≡ true →

@@ -1,23 +1,19 @@
 -- Which lines and words a play of a scenario can have: all whom they name are there, and each event is one of its
 -- actor's role. What is read for a scenario has no others. (This project's own.)
-use Rattle.std.specs.Prelude.{ℕ, ◌+◌, Bool, true, ◌&&◌, List, nat_lt}
+use Rattle.std.specs.Prelude.{ℕ, Bool, true, ◌&&◌, List, nat_lt}
 use Rattle.std.specs.List.{list_all}
 use Rattle.play_words.specs.declared.words.Ref.{Ref}
 use Rattle.play_words.specs.Accepted.{is_accepted}
 use Rattle.quorum_sets.specs.Masters.{has_master}
 use Rattle.scenario_file.specs.Reading.{Contents}
 use Rattle.history_rules.specs.Events.{Event, Command, Field, Poll, Restart}
-use Rattle.world_rules.specs.Scenarios.{group_in, masters_in, fits_in}
+use Rattle.world_rules.specs.Scenarios.{actors_in, masters_in, fits_in}
 use Rattle.script_lines.specs.declared.saying.Saying.{Saying}
 use Rattle.script_lines.specs.declared.script.Line.{Line}
 use Rattle.script_lines.specs.declared.step.Step.{Step}
 use Rattle.script_lines.specs.declared.step.Step.TheVariants as step
 use Rattle.script_lines.specs.declared.step.Ticking.{Ticking}
 use Rattle.script_lines.specs.declared.step.Ticking.TheVariants as ticking
-
--- how many actors a scenario has
-abbrev pub actors_in : Contents → ℕ
-actors_in c = (group_in c).n + (group_in c).clients
 
 abbrev pub is_there : Contents → ℕ → Bool
 is_there c actor = nat_lt actor (actors_in c)

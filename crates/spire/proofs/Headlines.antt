@@ -11,7 +11,7 @@ use Rattle.script_lines.specs.Sayings.{words_in}
 use Rattle.script_lines.specs.declared.script.Line.{Line}
 use Rattle.script_lines.specs.declared.saying.Saying.{Saying}
 use Rattle.scenario_file.specs.Valid.{IsScenario}
-use Rattle.world_rules.proofs.Following.{headline_of_legal}
+use Rattle.world_rules.proofs.Headline.{headline_of_legal}
 use Rattle.printed_run.specs.Printed.{text_of}
 use Rattle.replica_threads.specs.Ended.{HistoriesAreLegal}
 use Rattle.replica_threads.specs.Courses.{inputs_given}

@@ -28,12 +28,12 @@ use Rattle.station_turns.specs.Pace.{bench_after, due_as, due_next, Follows, Are
 use Rattle.station_turns.specs.Turns.{Stationed, IsSteady, CanAdd, IsAlive, HasSkipped, DrawsLast, DrawsOne, Draws}
 use Rattle.station_turns.specs.Turns.{Enters, IsCut, Adds, Turns, still_held, taking, event_next, held_back, kind_due}
 use Rattle.station_turns.specs.Turns.{given_or_tick, with_skips, TakesAt}
-use Rattle.station_turns.proofs.Counting.{turn_more}
-use Rattle.station_turns.proofs.Given.{given_outside, outside_no_skip, inside_no_skip}
-use Rattle.station_turns.proofs.Steady.{steady_bench}
-use Rattle.station_turns.proofs.Skipped.{skip_entries, skips_list, skips_length, skips_few, skips_world, skips_turns}
-use Rattle.station_turns.proofs.Skipped.{skips_inputs}
-use Rattle.world_history.proofs.KeptActing.{event_at}
+use Rattle.station_turns.proofs.CountsGrow.{turn_more}
+use Rattle.station_turns.proofs.InputGiven.{given_outside, outside_no_skip, inside_no_skip}
+use Rattle.station_turns.proofs.StateInOrder.{steady_bench}
+use Rattle.station_turns.proofs.SkipsOfTurn.{skip_entries, skips_list, skips_length, skips_few, skips_world, skips_turns}
+use Rattle.station_turns.proofs.SkipsOfTurn.{skips_inputs}
+use Rattle.world_history.proofs.KeptGrows.{event_at}
 
 -- which event is due, by its kind
 

@@ -12,7 +12,7 @@ use Rattle.history_rules.specs.Events.{Event, Took, Tick, Skip, Entry, is_restar
 use Rattle.history_rules.specs.Setup.{Setup}
 use Rattle.history_rules.specs.Legal.{TakesWell}
 use Rattle.world_rules.specs.Frames.{cried}
-use Rattle.script_laws.specs.Accepted.{actors_in}
+use Rattle.world_rules.specs.Scenarios.{actors_in}
 use Rattle.own_histories.specs.Own.{IsOwnHistory}
 use Rattle.stamps.specs.Seats.{Source, Drawer}
 use Rattle.world_history.specs.State.{BenchState, setup_in, entry_at, with_entry}

@@ -15,11 +15,11 @@ use Rattle.history_rules.specs.Counts.{merged}
 use Rattle.own_histories.specs.Own.{HasEachStampOnce}
 use Rattle.audit_counts.proofs.Merged.{merged_whole}
 use Rattle.protocol_rules.specs.Group.{Group}
-use Rattle.world_rules.specs.Scenarios.{setup_of, group_in}
+use Rattle.world_rules.specs.Scenarios.{setup_of, group_in, actors_in}
 use Rattle.world_rules.proofs.Fields.{group_is}
 use Rattle.world_history.specs.State.{BenchState}
 use Rattle.printed_run.specs.Printed.{text_of}
-use Rattle.world_history.specs.Benches.{actors_in, bench_in, benches_of, unsigned, AreBenches, lists_of}
+use Rattle.world_history.specs.Benches.{bench_in, benches_of, unsigned, AreBenches, lists_of}
 use Rattle.world_history.specs.KeptState.{KeptState}
 use Rattle.script_lines.specs.declared.saying.Saying.{Saying}
 use Rattle.run_scripts.specs.Making.{Given, bench_at, most_entries}

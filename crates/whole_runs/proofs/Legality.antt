@@ -9,15 +9,15 @@ use Rattle.history_rules.specs.Events.{Event, Entry}
 use Rattle.history_rules.specs.Setup.{Setup}
 use Rattle.history_rules.specs.Legal.{says, TakesWell, IsLegalEntry, IsLegal}
 use Rattle.world_rules.specs.Scenarios.{setup_of}
-use Rattle.own_histories.proofs.Building.{none_is_legal, one_more_is_legal}
+use Rattle.own_histories.proofs.EntryByEntry.{none_is_legal, one_more_is_legal}
 use Rattle.run_lines.specs.declared.entry_line.EntryLine.{EntryLine}
 use Rattle.run_lines.specs.Runs.{Reading, run_in}
 use Rattle.printed_run.specs.Printed.{cast_in}
 use Rattle.printed_history.specs.Histories.{is_running, are_kinds, entry_with, entry_by, entry_of_event, entry_from}
 use Rattle.printed_history.specs.Histories.{entries_from, event_from, standing_event, not_legal, history_of}
 use Rattle.printed_history.specs.Histories.{history_in}
-use Rattle.printed_history.proofs.Nexts.{MayCome, next_legal}
-use Rattle.printed_history.proofs.Taking.{taken_well}
+use Rattle.printed_history.proofs.NextEntry.{MayCome, next_legal}
+use Rattle.printed_history.proofs.EventTold.{taken_well}
 use Rattle.agreement.proofs.Lists.{some_same}
 
 same_ok : {X E : Type 0} {x y : X} → ◌≡◌ {A = Result X E} (Ok x) (Ok y) → x ≡ y

@@ -2,36 +2,36 @@
 -- replay of the longer list; how actors begin; what a bench shows; what an
 -- intruded master is made to say; the scenario's keys, leaves and charges, and to whom frames go.
 pub mod Answering
-pub mod Masters
-pub mod Clients
-pub mod Refusing
-pub mod Intruded
-pub mod Roles
-pub mod Joining
-pub mod Acting
-pub mod Stepping
-pub mod Starting
-pub mod Showing
-pub mod Saying
-pub mod Ringing
-pub mod Signing
+pub mod MasterEntry
+pub mod ClientEntry
+pub mod FramesRead
+pub mod IntrudedEntry
+pub mod RoleEntry
+pub mod SignedBodies
+pub mod ReplayGrows
+pub mod SeatEntry
+pub mod BenchAtFirst
+pub mod BenchShows
+pub mod SpokenWords
+pub mod ScenarioRing
+pub mod WordsSigned
 mod Numbered
-pub mod ShownOf
-pub mod Steps
-mod Placing
-mod Joined
-pub mod Ending
-pub mod KeptReplaying
-pub mod Calls
-pub mod KeptActing
-pub mod Rereading
-pub mod Together
-pub mod Beginning
+pub mod AuditAsks
+pub mod HistoryReplays
+mod EntriesByStamp
+mod MergedBenches
+pub mod LastEntry
+pub mod KeptBytesReplay
+pub mod KeeperInStep
+pub mod KeptGrows
+pub mod RestartReplays
+pub mod KeptInStep
+pub mod KeptAtFirst
 pub mod TakenOut
-pub mod Charging
-pub mod Leaving
+pub mod ScenarioCharges
+pub mod LeavesSuffice
 pub mod StandingFrames
-pub mod Handed
+pub mod MasterSpeaks
 pub mod Lists
-pub mod Addressed
-pub mod KeeperCalls
+pub mod Addressees
+pub mod CallsThatFail

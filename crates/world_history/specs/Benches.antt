@@ -1,17 +1,13 @@
 -- A history as the benches of all actors. (This project's own.)
-use Rattle.std.specs.Prelude.{◌≡◌, ℕ, ◌+◌, false, List, Some, map, slice_get}
+use Rattle.std.specs.Prelude.{◌≡◌, ℕ, false, List, Some, map, slice_get}
 use Rattle.std.specs.List.{flat_map}
 use Rattle.quorum_sets.specs.Masters.{numbers_below}
 use Rattle.scenario_file.specs.Reading.{Contents}
 use Rattle.history_rules.specs.Events.{Entry}
 use Rattle.history_rules.specs.Setup.{own}
 use Rattle.own_histories.specs.Own.{AreOwnHistories}
-use Rattle.world_rules.specs.Scenarios.{group_in, setup_of}
+use Rattle.world_rules.specs.Scenarios.{actors_in, setup_of}
 use Rattle.world_history.specs.State.{BenchState}
-
--- how many actors a scenario has, and their numbers
-abbrev pub actors_in : Contents → ℕ
-actors_in c = (group_in c).n + (group_in c).clients
 
 -- an actor's bench in a history: its list is the actor's own, and it spoke no word
 abbrev pub bench_in : Contents → List Entry → ℕ → BenchState

@@ -2,5 +2,5 @@ pub mod Fields
 pub mod Votes
 pub mod Signed
 pub mod Agreeing
-pub mod Following
+pub mod Headline
 pub mod Clients

@@ -34,6 +34,10 @@ group_in c = record {
   clients = proxies_in c + c.settings.screens;
 }
 
+-- how many actors a scenario has: its masters, then its clients
+abbrev pub actors_in : Contents → ℕ
+actors_in c = (group_in c).n + (group_in c).clients
+
 -- an actor's key
 unfoldable pub key_in : Contents → ℕ → Key
 key_in c actor = key_of c.settings.seed c.settings.heights actor

@@ -1,4 +1,4 @@
-use Rattle.bench_rules.proofs.Hearing.{few_ticks}
+use Rattle.bench_rules.proofs.HeardEvents.{few_ticks}
 use Rattle.bench_rules.proofs.laws.few_ticks.Goals as goal
 
 pub returns : goal.returns

@@ -1,4 +1,4 @@
-use Rattle.bench_rules.proofs.Hearing.{heard_next}
+use Rattle.bench_rules.proofs.HeardEvents.{heard_next}
 use Rattle.bench_rules.proofs.laws.heard_next.Goals as goal
 
 pub returns : goal.returns

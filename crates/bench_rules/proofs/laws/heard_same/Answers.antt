@@ -1,4 +1,4 @@
-use Rattle.bench_rules.proofs.Hearing.{heard_same}
+use Rattle.bench_rules.proofs.HeardEvents.{heard_same}
 use Rattle.bench_rules.proofs.laws.heard_same.Goals as goal
 
 pub returns : goal.returns

@@ -1,4 +1,4 @@
-use Rattle.bench_rules.proofs.Standing.{master_frames_stand}
+use Rattle.bench_rules.proofs.FramesStand.{master_frames_stand}
 use Rattle.bench_rules.proofs.laws.master_frames_stand.Goals as goal
 
 pub returns : goal.returns

@@ -1,4 +1,4 @@
-use Rattle.bench_rules.proofs.Hearing.{silent_says_nothing}
+use Rattle.bench_rules.proofs.HeardEvents.{silent_says_nothing}
 use Rattle.bench_rules.proofs.laws.silent_says_nothing.Goals as goal
 
 pub returns : goal.returns

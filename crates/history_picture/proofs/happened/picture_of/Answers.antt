@@ -4,7 +4,7 @@ use Rattle.std.proofs.Common.{ℕ, ◌<◌, ◌+◌, ◌^◌, ◌∷◌, [], len
 use Rattle.std.proofs.lemmas.List.{length-append}
 use Rattle.scenario_file.specs.Reading.{contents}
 use Rattle.world_entries.specs.Entries.{entry_of, event_of}
-use Rattle.world_history.proofs.Steps.{Comes, IsReady, next_comes, bench_there, bench_ready, benches_grow}
+use Rattle.world_history.proofs.HistoryReplays.{Comes, IsReady, next_comes, bench_there, bench_ready, benches_grow}
 use Rattle.history_picture.proofs.happened.picture_of.Goals as goal
 
 pub index_mut-bench-requires : goal.index_mut-bench-requires

@@ -1,4 +1,4 @@
-use Rattle.own_histories.proofs.Merging.{merged_is_legal, merged_has_own_lists}
+use Rattle.own_histories.proofs.MergedHistories.{merged_is_legal, merged_has_own_lists}
 use Rattle.own_histories.proofs.laws.merged_is_legal.Goals as goal
 
 pub returns : goal.returns

@@ -1,4 +1,4 @@
-use Rattle.own_histories.proofs.Growing.{none_is_bench_list}
+use Rattle.own_histories.proofs.BenchLists.{none_is_bench_list}
 use Rattle.own_histories.proofs.laws.none_is_bench_list.Goals as goal
 
 pub returns : goal.returns

@@ -1,4 +1,4 @@
-use Rattle.own_histories.proofs.Building.{none_is_legal, one_more_is_legal}
+use Rattle.own_histories.proofs.EntryByEntry.{none_is_legal, one_more_is_legal}
 use Rattle.own_histories.proofs.laws.one_more_is_legal.Goals as goal
 
 pub returns : goal.returns

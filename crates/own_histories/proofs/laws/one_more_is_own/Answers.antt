@@ -1,4 +1,4 @@
-use Rattle.own_histories.proofs.Building.{none_is_own, one_more_is_own}
+use Rattle.own_histories.proofs.EntryByEntry.{none_is_own, one_more_is_own}
 use Rattle.own_histories.proofs.laws.one_more_is_own.Goals as goal
 
 pub returns : goal.returns

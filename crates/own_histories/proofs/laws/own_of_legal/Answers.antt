@@ -1,4 +1,4 @@
-use Rattle.own_histories.proofs.Owning.{own_of_legal}
+use Rattle.own_histories.proofs.OwnEntries.{own_of_legal}
 use Rattle.own_histories.proofs.laws.own_of_legal.Goals as goal
 
 pub returns : goal.returns

@@ -5,7 +5,7 @@ use Rattle.std.specs.List.{list_all}
 use Rattle.history_rules.specs.Setup.{stands}
 use Rattle.world_entries.specs.Entries.{event_of, entry_of}
 use Rattle.world_history.specs.State.{setup_in}
-use Rattle.printed_history.proofs.Acted.{one_kept, last_added, event_made, last_posted}
+use Rattle.printed_history.proofs.LastFrames.{one_kept, last_added, event_made, last_posted}
 use Rattle.printed_history.proofs.acting.act_at.Goals as goal
 
 pub returns-clause-posted : goal.returns-clause-posted

@@ -1,6 +1,6 @@
 use Rattle.std.proofs.Common.{[]}
 use Rattle.world_history.specs.State.{setup_in}
-use Rattle.printed_history.proofs.Acted.{frames_there, none_seen}
+use Rattle.printed_history.proofs.LastFrames.{frames_there, none_seen}
 use Rattle.printed_history.proofs.acting.posted_at.Goals as goal
 
 pub unreachable-requires : goal.unreachable-requires

@@ -1,7 +1,7 @@
 -- Of the frame that the bytes spell, the check by the ring of keys tells whether it stands. Where no frame is spelled
 -- nothing was cried, so nothing stands either.
 use Rattle.world_history.proofs.Answering.{if_ok}
-use Rattle.printed_history.proofs.Framing.{one_found, none_read}
+use Rattle.printed_history.proofs.FramesFound.{one_found, none_read}
 use Rattle.printed_history.proofs.frames.standing.Goals as goal
 
 pub returns-in-Some : goal.returns-in-Some

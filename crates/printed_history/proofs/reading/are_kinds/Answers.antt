@@ -5,7 +5,7 @@ use Rattle.std.proofs.lemmas.List.{get_or_default}
 use Rattle.script_grammar.specs.declared.kinds.Kind.{Kind}
 use Rattle.script_grammar.specs.declared.kinds.Kind.TheVariants as kind
 use Rattle.script_grammar.specs.Kinds.{kind_number}
-use Rattle.printed_history.proofs.Telling.{all_kinds, other_length, other_kind, one_kind}
+use Rattle.printed_history.proofs.KindsTold.{all_kinds, other_length, other_kind, one_kind}
 use Rattle.printed_history.proofs.reading.are_kinds.Goals as goal
 
 pub returns-then-kinds-said : goal.returns-then-kinds-said

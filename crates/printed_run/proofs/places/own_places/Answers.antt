@@ -1,7 +1,7 @@
 -- The place of an entry is how many of its actor come before it, which is what that actor's count stands at. A
 -- count is never above the number of entries gone over, so it can't overflow.
 use Rattle.std.proofs.Common.{◌≤◌, arith}
-use Rattle.printed_run.proofs.Posting.{none_counted, count_small, one_placed, one_more}
+use Rattle.printed_run.proofs.FramesOfEntries.{none_counted, count_small, one_placed, one_more}
 use Rattle.printed_run.proofs.places.own_places.Goals as goal
 
 pub loop-entry-init : goal.loop-entry-init

@@ -2,7 +2,7 @@ use Rattle.std.proofs.Common.{◌≡◌, [], map, take}
 use Rattle.quorum_sets.specs.Masters.{numbers_below}
 use Rattle.world_entries.specs.Entries.{entry_of}
 use Rattle.printed_run.specs.Places.{places_from}
-use Rattle.printed_run.proofs.Posting.{count_of}
+use Rattle.printed_run.proofs.FramesOfEntries.{count_of}
 use Rattle.printed_run.proofs.places.own_places.Given as goal
 
 -- the places of the entries so far, and how many each actor has of them

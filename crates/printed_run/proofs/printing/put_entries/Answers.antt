@@ -3,8 +3,8 @@
 use Rattle.std.proofs.Common.{◌∙◌, arith}
 use Rattle.std.specs.Prelude.{string_bytes}
 use Rattle.scenario_file.specs.Reading.{contents}
-use Rattle.printed_run.proofs.Hands.{all_benched, at_hand}
-use Rattle.printed_run.proofs.Wholes.{entries_more, entries_all, no_entries}
+use Rattle.printed_run.proofs.WhatIsAtHand.{all_benched, at_hand}
+use Rattle.printed_run.proofs.WholeText.{entries_more, entries_all, no_entries}
 use Rattle.printed_run.proofs.printing.put_entries.Goals as goal
 
 pub own_places-requires : goal.own_places-requires

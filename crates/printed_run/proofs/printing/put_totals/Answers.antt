@@ -3,7 +3,7 @@
 use Rattle.std.proofs.Common.{refl}
 use Rattle.std.specs.Prelude.{string_bytes}
 use Rattle.scenario_file.specs.Reading.{contents}
-use Rattle.printed_run.proofs.Wholes.{totals_put}
+use Rattle.printed_run.proofs.WholeText.{totals_put}
 use Rattle.printed_run.proofs.printing.put_totals.Goals as goal
 
 pub returns : goal.returns

@@ -1,6 +1,6 @@
 use Rattle.std.proofs.Common.{◌∙◌}
 use Rattle.scenario_file.specs.Reading.{contents}
-use Rattle.world_history.proofs.ShownOf.{all_unsigned}
+use Rattle.world_history.proofs.AuditAsks.{all_unsigned}
 use Rattle.printed_run.proofs.printing.write_run.Goals as goal
 
 pub write_run_of-requires-clause-benches : goal.write_run_of-requires-clause-benches

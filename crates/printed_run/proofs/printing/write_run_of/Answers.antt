@@ -3,8 +3,8 @@
 use Rattle.std.proofs.Common.{List, ℕ, ◌++◌, ◌∙◌, ap}
 use Rattle.std.specs.Prelude.{string_bytes}
 use Rattle.scenario_file.specs.Reading.{contents}
-use Rattle.printed_run.proofs.Benches.{all_are, states_text}
-use Rattle.printed_run.proofs.Wholes.{text_put}
+use Rattle.printed_run.proofs.BenchesMakeText.{all_are, states_text}
+use Rattle.printed_run.proofs.WholeText.{text_put}
 use Rattle.printed_run.proofs.printing.write_run_of.Goals as goal
 
 pub put_states-requires-clause-benches : goal.put_states-requires-clause-benches

@@ -2,7 +2,7 @@ use Rattle.std.proofs.Common.{Some, option_copied, sym, ◌∙◌, ap}
 use Rattle.message_types.specs.declared.signed.Signed.{Signed}
 use Rattle.message_types.specs.declared.body.Body.{Body}
 use Rattle.printed_run.specs.Printed.{is_frame}
-use Rattle.printed_run.proofs.Cries.{same_frame}
+use Rattle.printed_run.proofs.SaidThere.{same_frame}
 use Rattle.printed_run.proofs.said.is_checked.Goals as goal
 
 pub returns-in-Some : goal.returns-in-Some

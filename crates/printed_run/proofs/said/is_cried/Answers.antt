@@ -1,7 +1,7 @@
 -- A cry has one frame at most, at place 0, and it is what its bytes spell. So it is this frame just where the
 -- bytes are read as the same one.
 use Rattle.std.proofs.Common.{arith}
-use Rattle.printed_run.proofs.Cries.{cry_spells, cry_spells_none}
+use Rattle.printed_run.proofs.SaidThere.{cry_spells, cry_spells_none}
 use Rattle.printed_run.proofs.said.is_cried.Goals as goal
 
 pub returns-in-Some : goal.returns-in-Some

@@ -3,7 +3,7 @@
 use Rattle.std.proofs.Common.{◌≡◌, ◌++◌, ◌∙◌, List, ℕ, OnOk, ap, sym, subst}
 use Rattle.std.specs.Prelude.{string_bytes}
 use Rattle.scenario_file.specs.Reading.{contents}
-use Rattle.printed_run.proofs.Showing.{master_put}
+use Rattle.printed_run.proofs.ShownLines.{master_put}
 use Rattle.history_rules.specs.Keeping.{is_halted}
 use Rattle.history_rules.specs.Events.{Entry}
 use Rattle.world_rules.specs.Scenarios.{setup_of}

@@ -4,7 +4,7 @@ use Rattle.std.proofs.Common.{◌≡◌, ◌∙◌, ℕ, List, length, ap, sym, 
 use Rattle.std.specs.Prelude.{IfOk}
 use Rattle.scenario_file.specs.Valid.{IsScenario}
 use Rattle.world_history.specs.Signed.{ring_in}
-use Rattle.script_laws.specs.Accepted.{actors_in}
+use Rattle.world_rules.specs.Scenarios.{actors_in}
 use Rattle.inboxes.specs.declared.inbox.Inbox.{Inbox}
 use Rattle.replica_threads.specs.declared.posted.Posted.{Posted}
 use Rattle.replica_threads.specs.Hands.{ArePassesOf}

@@ -2,7 +2,7 @@
 -- bears the actor's number.
 use Rattle.std.proofs.Common.{◌≡◌, ◌+◌, ◌<◌, true, refl, sym, ap, ◌∙◌, subst, arith}
 use Rattle.scenario_file.specs.Reading.{Contents}
-use Rattle.script_laws.specs.Accepted.{actors_in}
+use Rattle.world_rules.specs.Scenarios.{actors_in}
 use Rattle.stamps.specs.Seats.{Drawer}
 use Rattle.station_turns.specs.Pace.{fit_inputs}
 use Rattle.replica_threads.specs.Courses.{seats_made}

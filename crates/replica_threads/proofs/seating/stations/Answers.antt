@@ -3,7 +3,7 @@
 use Rattle.std.proofs.Common.{◌≡◌, ◌+◌, ap, ◌∙◌, length, sym, refl, arith, true≢false}
 use Rattle.std.specs.Vec.Iter.{into_iter_items}
 use Rattle.std.proofs.lemmas.List.{length_push}
-use Rattle.script_laws.specs.Accepted.{actors_in}
+use Rattle.world_rules.specs.Scenarios.{actors_in}
 use Rattle.replica_threads.proofs.Seats.{none_seated, next_there, next_inputs, next_fit, one_seated, all_seated}
 use Rattle.replica_threads.proofs.seating.stations.Goals as goal
 

@@ -8,8 +8,8 @@ use Rattle.scenario_file.specs.Reading.{contents}
 use Rattle.script_laws.specs.Accepted.{is_there}
 use Rattle.run_scripts.specs.Making.{most_entries}
 use Rattle.run_scripts.specs.Playing.{given_in}
-use Rattle.run_scripts.proofs.Acted.{place_there, its_world, its_running, its_role, its_stamps, it_takes}
-use Rattle.run_scripts.proofs.Acted.{its_list_short, they_stand, their_slots, act_done}
+use Rattle.run_scripts.proofs.EventPlayed.{place_there, its_world, its_running, its_role, its_stamps, it_takes}
+use Rattle.run_scripts.proofs.EventPlayed.{its_list_short, they_stand, their_slots, act_done}
 use Rattle.run_scripts.proofs.acting.act.Goals.{Start}
 use Rattle.run_scripts.proofs.acting.act.Goals as goal
 

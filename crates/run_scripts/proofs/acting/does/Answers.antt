@@ -9,8 +9,8 @@ use Rattle.scenario_file.specs.Reading.{contents}
 use Rattle.script_laws.specs.Accepted.{is_there}
 use Rattle.run_scripts.specs.Making.{does, most_entries}
 use Rattle.run_scripts.specs.Playing.{given_in}
-use Rattle.run_scripts.proofs.Going.{wants}
-use Rattle.run_scripts.proofs.Acted.{place_there, halted_goes, runs_on, full_goes, act_goes}
+use Rattle.run_scripts.proofs.DoneAndLeft.{wants}
+use Rattle.run_scripts.proofs.EventPlayed.{place_there, halted_goes, runs_on, full_goes, act_goes}
 use Rattle.run_scripts.proofs.acting.does.Goals.{Start}
 use Rattle.run_scripts.proofs.acting.does.Goals as goal
 

@@ -4,7 +4,7 @@ use Rattle.std.proofs.Common.{◌≡◌, get_or, arith}
 use Rattle.run_scripts.specs.Making.{most_entries}
 use Rattle.run_scripts.specs.Crying.{IsNextWord}
 use Rattle.run_scripts.specs.Playing.{given_in}
-use Rattle.run_scripts.proofs.Spoken.{said_there, no_word_goes, full_cry_goes, found_none_at, found_some_at}
+use Rattle.run_scripts.proofs.WordSaid.{said_there, no_word_goes, full_cry_goes, found_none_at, found_some_at}
 use Rattle.run_scripts.proofs.crying.cry.Goals.{In-Some}
 use Rattle.run_scripts.proofs.crying.cry.Goals as goal
 

@@ -4,7 +4,7 @@ use Rattle.std.proofs.Common.{arith}
 use Rattle.std.proofs.lemmas.Result.{err_from_is_err_and}
 use Rattle.run_scripts.specs.Making.{cries}
 use Rattle.run_scripts.specs.Playing.{given_in}
-use Rattle.run_scripts.proofs.Going.{times_starts, times_on, times_stops, times_ends}
+use Rattle.run_scripts.proofs.DoneAndLeft.{times_starts, times_on, times_stops, times_ends}
 use Rattle.run_scripts.proofs.crying.cry_times.Goals as goal
 
 pub loop-said-init : goal.loop-said-init

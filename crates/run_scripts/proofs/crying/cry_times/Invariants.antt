@@ -1,7 +1,7 @@
 use Rattle.std.proofs.Common.{◌-◌}
 use Rattle.run_scripts.specs.Making.{cries, times_over}
 use Rattle.run_scripts.specs.Playing.{given_in}
-use Rattle.run_scripts.proofs.Going.{Underway}
+use Rattle.run_scripts.proofs.DoneAndLeft.{Underway}
 use Rattle.run_scripts.proofs.crying.cry_times.Given as goal
 
 -- so many times are done, with the rest left

@@ -6,7 +6,7 @@ use Rattle.scenario_file.specs.Reading.{contents}
 use Rattle.history_rules.specs.Events.{Cry, Entry}
 use Rattle.world_history.specs.State.{BenchState, setup_in}
 use Rattle.world_history.specs.KeptState.{halted_in}
-use Rattle.run_scripts.proofs.Spoken.{spoke, cry_fits, none_said, some_said, cried_more}
+use Rattle.run_scripts.proofs.WordSaid.{spoke, cry_fits, none_said, some_said, cried_more}
 use Rattle.run_scripts.proofs.crying.cry_word.Goals as goal
 
 pub returns-in_default-clause-spoken : goal.returns-in_default-clause-spoken

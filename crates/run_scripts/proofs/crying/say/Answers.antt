@@ -10,11 +10,11 @@ use Rattle.history_rules.specs.Events.{Cry}
 use Rattle.world_rules.specs.Frames.{cried}
 use Rattle.run_scripts.specs.Making.{most_entries}
 use Rattle.run_scripts.specs.Playing.{given_in}
-use Rattle.run_scripts.proofs.Going.{wants}
-use Rattle.run_scripts.proofs.Acted.{place_there, its_world, its_stamps, its_list_short}
-use Rattle.run_scripts.proofs.Spoken.{intruded_there, its_master, it_is_intruded, it_runs, word_there, word_accepted}
-use Rattle.run_scripts.proofs.Spoken.{word_to, to_few, cried_slots, said_there, unsaid_goes, said_goes, posts_as}
-use Rattle.run_scripts.proofs.Spoken.{cried_as}
+use Rattle.run_scripts.proofs.DoneAndLeft.{wants}
+use Rattle.run_scripts.proofs.EventPlayed.{place_there, its_world, its_stamps, its_list_short}
+use Rattle.run_scripts.proofs.WordSaid.{intruded_there, its_master, it_is_intruded, it_runs, word_there, word_accepted}
+use Rattle.run_scripts.proofs.WordSaid.{word_to, to_few, cried_slots, said_there, unsaid_goes, said_goes, posts_as}
+use Rattle.run_scripts.proofs.WordSaid.{cried_as}
 use Rattle.run_scripts.proofs.crying.say.Goals as goal
 
 pub index_mut-kept-requires : goal.index_mut-kept-requires

@@ -1,4 +1,4 @@
-use Rattle.run_scripts.proofs.Legality.{played_is_legal}
+use Rattle.run_scripts.proofs.PlaysAreLegal.{played_is_legal}
 use Rattle.run_scripts.proofs.laws.played_is_legal.Goals as goal
 
 pub returns : goal.returns

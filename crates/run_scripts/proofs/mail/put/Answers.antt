@@ -3,8 +3,8 @@
 use Rattle.std.proofs.Common.{◌≡◌, arith, ap, length}
 use Rattle.std.proofs.lemmas.List.{length-map}
 use Rattle.run_scripts.specs.Playing.{slots_of}
-use Rattle.run_scripts.proofs.Mailing.{slot_there}
-use Rattle.run_scripts.proofs.Slotting.{slot_put, slot_written}
+use Rattle.run_scripts.proofs.MailGrows.{slot_there}
+use Rattle.run_scripts.proofs.SlotsKept.{slot_put, slot_written}
 use Rattle.run_scripts.proofs.mail.put.Goals as goal
 
 pub slot_at-requires-clause-actor : goal.slot_at-requires-clause-actor

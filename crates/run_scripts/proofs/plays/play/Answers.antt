@@ -5,8 +5,8 @@ use Rattle.std.proofs.lemmas.Result.{err_from_is_err_and}
 use Rattle.scenario_file.specs.Reading.{contents}
 use Rattle.run_scripts.specs.Making.{Given, beginning}
 use Rattle.run_scripts.specs.Playing.{given_in, PlaysTo}
-use Rattle.run_scripts.proofs.Played.{plays_wants, stops_too, play_done, given_same, begins, begins_playing}
-use Rattle.run_scripts.proofs.Played.{lines_accepted, play_told, told_as}
+use Rattle.run_scripts.proofs.LinesPlayed.{plays_wants, stops_too, play_done, given_same, begins, begins_playing}
+use Rattle.run_scripts.proofs.LinesPlayed.{lines_accepted, play_told, told_as}
 use Rattle.run_scripts.proofs.plays.play.Goals as goal
 
 pub play_lines-requires-clause-playing : goal.play_lines-requires-clause-playing

@@ -5,7 +5,7 @@ use Rattle.std.proofs.lemmas.List.{get_or_default}
 use Rattle.std.proofs.lemmas.Result.{err_from_is_err_and}
 use Rattle.scenario_file.specs.Reading.{contents}
 use Rattle.run_scripts.specs.Playing.{given_in}
-use Rattle.run_scripts.proofs.Played.{sets_out, line_accepted, plays_line, stops_at_line, plays_out}
+use Rattle.run_scripts.proofs.LinesPlayed.{sets_out, line_accepted, plays_line, stops_at_line, plays_out}
 use Rattle.run_scripts.proofs.plays.play_lines.Goals as goal
 
 pub loop-line-init : goal.loop-line-init

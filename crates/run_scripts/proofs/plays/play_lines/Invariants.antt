@@ -1,7 +1,7 @@
 use Rattle.std.proofs.Common.{drop}
 use Rattle.run_scripts.specs.Making.{played_from}
 use Rattle.run_scripts.specs.Playing.{given_in}
-use Rattle.run_scripts.proofs.Played.{OnTheWay}
+use Rattle.run_scripts.proofs.LinesPlayed.{OnTheWay}
 use Rattle.run_scripts.proofs.plays.play_lines.Given as goal
 
 -- the lines so far are played, with the rest left

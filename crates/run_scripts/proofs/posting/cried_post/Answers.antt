@@ -1,6 +1,6 @@
 use Rattle.scenario_file.specs.Reading.{contents}
 use Rattle.world_rules.specs.Scenarios.{setup_of}
-use Rattle.run_scripts.proofs.Holding.{post_made}
+use Rattle.run_scripts.proofs.FramesHeld.{post_made}
 use Rattle.run_scripts.proofs.posting.cried_post.Goals as goal
 
 pub returns : goal.returns

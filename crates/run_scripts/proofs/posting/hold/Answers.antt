@@ -1,5 +1,5 @@
 use Rattle.std.proofs.Common.{◌≡◌, arith}
-use Rattle.run_scripts.proofs.Holding.{held_some, held_none}
+use Rattle.run_scripts.proofs.FramesHeld.{held_some, held_none}
 use Rattle.run_scripts.proofs.posting.hold.Goals as goal
 
 pub returns-in_ok-from_standing-in-Ok : goal.returns-in_ok-from_standing-in-Ok

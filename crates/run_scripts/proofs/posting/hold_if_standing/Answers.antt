@@ -3,8 +3,8 @@
 use Rattle.std.proofs.Common.{refl, sym, ◌∙◌, arith}
 use Rattle.scenario_file.specs.Reading.{contents}
 use Rattle.world_rules.specs.Scenarios.{setup_of}
-use Rattle.world_history.proofs.Refusing.{found_some, found_none, stands_by}
-use Rattle.run_scripts.proofs.Holding.{held_some, held_fallen}
+use Rattle.world_history.proofs.FramesRead.{found_some, found_none, stands_by}
+use Rattle.run_scripts.proofs.FramesHeld.{held_some, held_fallen}
 use Rattle.run_scripts.proofs.posting.hold_if_standing.Goals as goal
 
 pub returns-in-Some : goal.returns-in-Some

@@ -9,7 +9,7 @@ use Rattle.scenario_file.specs.Reading.{contents}
 use Rattle.history_rules.specs.Setup.{stands}
 use Rattle.world_rules.specs.Scenarios.{setup_of}
 use Rattle.run_scripts.specs.Mail.{posts_from}
-use Rattle.run_scripts.proofs.Posted.{posts_start, posts_more, posts_end, first_stands}
+use Rattle.run_scripts.proofs.PostsMade.{posts_start, posts_more, posts_end, first_stands}
 use Rattle.run_scripts.proofs.posting.posts_of.Goals as goal
 
 pub loop-frame-init : goal.loop-frame-init

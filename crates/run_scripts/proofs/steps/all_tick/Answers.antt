@@ -8,9 +8,9 @@ use Rattle.scenario_file.specs.Reading.{contents}
 use Rattle.script_laws.specs.Accepted.{is_there}
 use Rattle.run_scripts.specs.Making.{all_tick, does}
 use Rattle.run_scripts.specs.Playing.{given_in}
-use Rattle.run_scripts.proofs.Going.{starts, list_on, list_stops, list_ends}
-use Rattle.run_scripts.proofs.Keeping.{may_tick}
-use Rattle.run_scripts.proofs.Stepped.{ticks_more, ticks_end}
+use Rattle.run_scripts.proofs.DoneAndLeft.{starts, list_on, list_stops, list_ends}
+use Rattle.run_scripts.proofs.PlayKeeps.{may_tick}
+use Rattle.run_scripts.proofs.PlaySteps.{ticks_more, ticks_end}
 use Rattle.plain_lists.proofs.Lists.{all_at}
 use Rattle.run_scripts.proofs.steps.all_tick.Goals as goal
 

@@ -1,7 +1,7 @@
 use Rattle.std.proofs.Common.{drop}
 use Rattle.run_scripts.specs.Making.{all_tick}
 use Rattle.run_scripts.specs.Playing.{given_in}
-use Rattle.run_scripts.proofs.Going.{Underway}
+use Rattle.run_scripts.proofs.DoneAndLeft.{Underway}
 use Rattle.run_scripts.proofs.steps.all_tick.Given as goal
 
 -- those that ticked are done, with the rest left

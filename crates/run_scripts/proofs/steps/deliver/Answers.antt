@@ -4,8 +4,8 @@ use Rattle.std.proofs.Common.{◌≡◌, refl}
 use Rattle.std.proofs.lemmas.Result.{err_from_is_err_and}
 use Rattle.world_entries.specs.Entries.{event_of}
 use Rattle.run_scripts.specs.Playing.{given_in}
-use Rattle.run_scripts.proofs.Going.{wants}
-use Rattle.run_scripts.proofs.Delivering.{cut_off, taken, due_may}
+use Rattle.run_scripts.proofs.DoneAndLeft.{wants}
+use Rattle.run_scripts.proofs.DueStays.{cut_off, taken, due_may}
 use Rattle.run_scripts.proofs.steps.deliver.Goals as goal
 
 pub returns-then-is_cut_off : goal.returns-then-is_cut_off

@@ -5,10 +5,10 @@ use Rattle.std.proofs.lemmas.Result.{err_from_is_err_and}
 use Rattle.scenario_file.specs.Reading.{contents}
 use Rattle.run_scripts.specs.Making.{deliver, deliver_all}
 use Rattle.run_scripts.specs.Playing.{given_in, is_due}
-use Rattle.run_scripts.proofs.Going.{starts, list_on, list_stops, list_ends}
+use Rattle.run_scripts.proofs.DoneAndLeft.{starts, list_on, list_stops, list_ends}
 use Rattle.run_scripts.proofs.Lists.{all_left}
-use Rattle.run_scripts.proofs.Delivering.{due_after}
-use Rattle.run_scripts.proofs.Stepped.{deliveries_more, deliveries_end}
+use Rattle.run_scripts.proofs.DueStays.{due_after}
+use Rattle.run_scripts.proofs.PlaySteps.{deliveries_more, deliveries_end}
 use Rattle.run_scripts.proofs.steps.deliver_all.Goals as goal
 
 pub loop-delivery-init : goal.loop-delivery-init

@@ -5,7 +5,7 @@ use Rattle.std.specs.List.{list_all}
 use Rattle.scenario_file.specs.Reading.{contents}
 use Rattle.run_scripts.specs.Making.{deliver_all}
 use Rattle.run_scripts.specs.Playing.{given_in, is_due}
-use Rattle.run_scripts.proofs.Going.{Underway}
+use Rattle.run_scripts.proofs.DoneAndLeft.{Underway}
 use Rattle.run_scripts.proofs.steps.deliver_all.Given as goal
 
 -- those delivered are done, with the rest left, and the rest is due

@@ -8,9 +8,9 @@ use Rattle.script_lines.specs.declared.step.Step.TheVariants as step
 use Rattle.script_laws.specs.Accepted.{is_there, is_named, is_step_of}
 use Rattle.run_scripts.specs.Making.{goes, other_than}
 use Rattle.run_scripts.specs.Playing.{given_in}
-use Rattle.run_scripts.proofs.Going.{wants}
-use Rattle.run_scripts.proofs.Delivering.{emptied_play}
-use Rattle.run_scripts.proofs.Lost.{lost_play, goes_by, accepted_as}
+use Rattle.run_scripts.proofs.DoneAndLeft.{wants}
+use Rattle.run_scripts.proofs.DueStays.{emptied_play}
+use Rattle.run_scripts.proofs.LostActors.{lost_play, goes_by, accepted_as}
 use Rattle.run_scripts.proofs.steps.goes.Goals as goal
 
 pub tick-requires-clause-there : goal.tick-requires-clause-there

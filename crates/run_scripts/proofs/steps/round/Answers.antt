@@ -5,7 +5,7 @@ use Rattle.std.specs.declared.vec.Vec.{Vec}
 use Rattle.std.specs.declared.alloc.Global.{Global}
 use Rattle.run_scripts.specs.declared.mail.Delivery.{Delivery}
 use Rattle.run_scripts.specs.Playing.{given_in}
-use Rattle.run_scripts.proofs.Delivering.{emptied_play, waiting_due, round_goes}
+use Rattle.run_scripts.proofs.DueStays.{emptied_play, waiting_due, round_goes}
 use Rattle.run_scripts.proofs.steps.round.Goals as goal
 
 pub deliver_all-requires-clause-playing : goal.deliver_all-requires-clause-playing

@@ -6,14 +6,14 @@ use Rattle.std.proofs.lemmas.Result.{err_from_is_err_and}
 use Rattle.scenario_file.specs.Reading.{contents}
 use Rattle.world_entries.specs.Entries.{event_of}
 use Rattle.history_rules.specs.Legal.{TakesWell}
-use Rattle.world_rules.specs.Scenarios.{setup_of}
-use Rattle.script_laws.specs.Accepted.{actors_in, may_do}
+use Rattle.world_rules.specs.Scenarios.{setup_of, actors_in}
+use Rattle.script_laws.specs.Accepted.{may_do}
 use Rattle.run_scripts.specs.Making.{Making, is_cry, has_halted}
 use Rattle.run_scripts.specs.Mail.{post_named}
 use Rattle.run_scripts.specs.Playing.{given_in, IsMaking}
-use Rattle.run_scripts.proofs.Acted.{place_there, runs_on}
-use Rattle.run_scripts.proofs.Taken.{halted_takes, name_few, name_there, name_kind, name_slot, not_found}
-use Rattle.run_scripts.proofs.Taken.{passed_over, named_may, named_taken, found_event}
+use Rattle.run_scripts.proofs.EventPlayed.{place_there, runs_on}
+use Rattle.run_scripts.proofs.FrameTaken.{halted_takes, name_few, name_there, name_kind, name_slot, not_found}
+use Rattle.run_scripts.proofs.FrameTaken.{passed_over, named_may, named_taken, found_event}
 use Rattle.run_scripts.proofs.steps.take.Goals.{After-named, Else-halted, In-Some}
 use Rattle.run_scripts.proofs.steps.take.Goals as goal
 

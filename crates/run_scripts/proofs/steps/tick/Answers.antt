@@ -7,8 +7,8 @@ use Rattle.scenario_file.specs.Reading.{contents}
 use Rattle.script_laws.specs.Accepted.{is_there}
 use Rattle.run_scripts.specs.Making.{Making, all_tick, times_over}
 use Rattle.run_scripts.specs.Playing.{given_in, IsMaking, Goes}
-use Rattle.run_scripts.proofs.Going.{wants}
-use Rattle.run_scripts.proofs.Keeping.{tickers_there}
+use Rattle.run_scripts.proofs.DoneAndLeft.{wants}
+use Rattle.run_scripts.proofs.PlayKeeps.{tickers_there}
 use Rattle.run_scripts.proofs.steps.tick.Goals as goal
 
 pub tick_times-requires-clause-there : goal.tick_times-requires-clause-there

@@ -1,7 +1,7 @@
 use Rattle.std.proofs.Common.{◌-◌}
 use Rattle.run_scripts.specs.Making.{all_tick, times_over}
 use Rattle.run_scripts.specs.Playing.{given_in}
-use Rattle.run_scripts.proofs.Going.{Underway}
+use Rattle.run_scripts.proofs.DoneAndLeft.{Underway}
 use Rattle.run_scripts.proofs.steps.tick_times.Given as goal
 
 -- so many times are done, with the rest left

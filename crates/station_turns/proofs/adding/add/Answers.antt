@@ -2,7 +2,7 @@
 -- one; where nothing is cried they are alone.
 use Rattle.std.proofs.Common.{sym, ◌∙◌}
 use Rattle.world_history.specs.State.{setup_in}
-use Rattle.station_turns.proofs.Posting.{all_spelled, own_stand}
+use Rattle.station_turns.proofs.EntryPosted.{all_spelled, own_stand}
 use Rattle.station_turns.proofs.adding.add.Goals as goal
 
 pub push_if-requires-clause-all : goal.push_if-requires-clause-all

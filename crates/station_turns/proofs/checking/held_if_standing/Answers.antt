@@ -1,8 +1,8 @@
 -- A frame is held where it was found to stand by the ring of keys, and that is just where it stands in each scenario
 -- with these keys. Else nothing is held.
 use Rattle.std.proofs.Common.{sym, ◌∙◌}
-use Rattle.world_history.proofs.Refusing.{found_some, found_none}
-use Rattle.station_turns.proofs.Checked.{held_well, held_fallen}
+use Rattle.world_history.proofs.FramesRead.{found_some, found_none}
+use Rattle.station_turns.proofs.FramesHeld.{held_well, held_fallen}
 use Rattle.station_turns.proofs.checking.held_if_standing.Goals as goal
 
 pub returns-in-Some : goal.returns-in-Some

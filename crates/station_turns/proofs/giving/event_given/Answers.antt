@@ -1,7 +1,7 @@
 use Rattle.std.proofs.Common.{◌≡◌, true, subst}
 use Rattle.play_words.specs.declared.input.Input.{Input}
 use Rattle.station_turns.specs.Pace.{fits_input}
-use Rattle.station_turns.proofs.Given.{speaker_intruded}
+use Rattle.station_turns.proofs.InputGiven.{speaker_intruded}
 use Rattle.station_turns.proofs.giving.event_given.Goals as goal
 
 pub say-requires-clause-intruded : goal.say-requires-clause-intruded

@@ -1,4 +1,4 @@
-use Rattle.station_turns.proofs.Once.{drawn_once, run_is_legal}
+use Rattle.station_turns.proofs.DrawnOnce.{drawn_once, run_is_legal}
 use Rattle.station_turns.proofs.laws.run_is_legal.Goals as goal
 
 pub returns : goal.returns

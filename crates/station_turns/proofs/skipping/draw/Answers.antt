@@ -3,9 +3,9 @@
 use Rattle.std.proofs.Common.{◌≡◌, ◌+◌, refl, sym, ◌∙◌, arith}
 use Rattle.std.proofs.lemmas.Bool.{true≢false}
 use Rattle.station_turns.specs.Turns.{Stationed, stationed}
-use Rattle.station_turns.proofs.Given.{skip_fits}
-use Rattle.station_turns.proofs.Skipped.{Drawn, drawn_more, drawn_world, ends_late, ends_cut, skips_on, seated_so}
-use Rattle.station_turns.proofs.Skipped.{kept_so}
+use Rattle.station_turns.proofs.InputGiven.{skip_fits}
+use Rattle.station_turns.proofs.SkipsOfTurn.{Drawn, drawn_more, drawn_world, ends_late, ends_cut, skips_on, seated_so}
+use Rattle.station_turns.proofs.SkipsOfTurn.{kept_so}
 use Rattle.station_turns.proofs.skipping.draw.Goals.{After-draw-stamp}
 use Rattle.station_turns.proofs.skipping.draw.Goals as goal
 

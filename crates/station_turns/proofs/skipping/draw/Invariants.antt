@@ -1,6 +1,6 @@
 use Rattle.std.proofs.Common.{◌≡◌}
 use Rattle.station_turns.specs.Turns.{stationed}
-use Rattle.station_turns.proofs.Skipped.{Skips}
+use Rattle.station_turns.proofs.SkipsOfTurn.{Skips}
 use Rattle.station_turns.proofs.skipping.draw.Given as goal
 
 -- so many skips were made, and nothing is counted for them

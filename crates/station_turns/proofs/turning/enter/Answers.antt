@@ -3,9 +3,9 @@
 use Rattle.std.proofs.Common.{refl}
 use Rattle.world_entries.specs.Entries.{event_of}
 use Rattle.station_turns.specs.Turns.{stationed}
-use Rattle.station_turns.proofs.Given.{inside_fits}
-use Rattle.station_turns.proofs.Skipped.{kept_so}
-use Rattle.station_turns.proofs.Entering.{inside_enters, inside_used}
+use Rattle.station_turns.proofs.InputGiven.{inside_fits}
+use Rattle.station_turns.proofs.SkipsOfTurn.{kept_so}
+use Rattle.station_turns.proofs.EntryAdded.{inside_enters, inside_used}
 use Rattle.station_turns.proofs.turning.enter.Goals as goal
 
 pub add-requires-clause-fits : goal.add-requires-clause-fits

@@ -5,9 +5,9 @@ use Rattle.std.specs.Prelude.{Some, None}
 use Rattle.history_rules.specs.Events.{Tick}
 use Rattle.world_entries.specs.Entries.{event_of}
 use Rattle.station_turns.specs.Turns.{stationed}
-use Rattle.station_turns.proofs.Given.{inside_fits}
-use Rattle.station_turns.proofs.Skipped.{kept_so}
-use Rattle.station_turns.proofs.Entering.{
+use Rattle.station_turns.proofs.InputGiven.{inside_fits}
+use Rattle.station_turns.proofs.SkipsOfTurn.{kept_so}
+use Rattle.station_turns.proofs.EntryAdded.{
   IsGiven,
   none_given,
   some_given,
@@ -16,7 +16,7 @@ use Rattle.station_turns.proofs.Entering.{
   input_enters,
   input_used,
 }
-use Rattle.station_turns.proofs.Entering.{named_cried, stand_before, unsaid_enters, unsaid_used}
+use Rattle.station_turns.proofs.EntryAdded.{named_cried, stand_before, unsaid_enters, unsaid_used}
 use Rattle.station_turns.proofs.turning.give.Goals.{In-Some, In_default}
 use Rattle.station_turns.proofs.turning.give.Goals as goal
 

@@ -3,7 +3,7 @@
 use Rattle.std.proofs.Common.{◌∙◌}
 use Rattle.scenario_file.specs.Reading.{contents}
 use Rattle.whole_runs.proofs.Answered.{gives_answer, gives_no_answer}
-use Rattle.world_history.proofs.ShownOf.{all_unsigned}
+use Rattle.world_history.proofs.AuditAsks.{all_unsigned}
 use Rattle.whole_runs.proofs.answering.answered_text.Goals as goal
 
 pub answer-requires-clause-benches : goal.answer-requires-clause-benches

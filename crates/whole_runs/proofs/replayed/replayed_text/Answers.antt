@@ -4,7 +4,7 @@ use Rattle.std.proofs.Common.{◌∙◌}
 use Rattle.scenario_file.specs.Reading.{contents}
 use Rattle.printed_history.specs.Reading.{told_history}
 use Rattle.whole_runs.proofs.Giving.{gives_replay, gives_no_history}
-use Rattle.world_history.proofs.ShownOf.{all_unsigned}
+use Rattle.world_history.proofs.AuditAsks.{all_unsigned}
 use Rattle.whole_runs.proofs.replayed.replayed_text.Goals as goal
 
 pub write_run_of-requires-clause-benches : goal.write_run_of-requires-clause-benches

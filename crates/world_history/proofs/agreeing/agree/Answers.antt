@@ -2,7 +2,7 @@
 -- agreement is told of the history.
 use Rattle.std.proofs.Common.{◌∙◌}
 use Rattle.scenario_file.specs.Reading.{contents}
-use Rattle.world_history.proofs.ShownOf.{all_unsigned}
+use Rattle.world_history.proofs.AuditAsks.{all_unsigned}
 use Rattle.world_history.proofs.agreeing.agree.Goals as goal
 
 pub returns-clause-relation : goal.returns-clause-relation

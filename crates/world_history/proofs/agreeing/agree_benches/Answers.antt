@@ -1,4 +1,4 @@
-use Rattle.world_history.proofs.ShownOf.{agree_by_benches, agree_by_headline}
+use Rattle.world_history.proofs.AuditAsks.{agree_by_benches, agree_by_headline}
 use Rattle.world_history.proofs.agreeing.agree_benches.Goals as goal
 
 pub returns-clause-relation : goal.returns-clause-relation

@@ -5,7 +5,7 @@ use Rattle.message_types.specs.declared.signed.Signed.{Signed}
 use Rattle.message_types.specs.declared.body.Body.{Body}
 use Rattle.history_rules.specs.Events.{Took, Tick}
 use Rattle.world_entries.specs.Entries.{event_of}
-use Rattle.world_history.proofs.Masters.{both_on_ok, answered_by}
+use Rattle.world_history.proofs.MasterEntry.{both_on_ok, answered_by}
 use Rattle.world_history.proofs.at_master.answer_at_master.Goals as goal
 
 pub returns-in-Took-clause-answered : goal.returns-in-Took-clause-answered

@@ -3,7 +3,7 @@
 use Rattle.std.proofs.Common.{◌<◌, ◌++◌, ◌∷◌, List, [], length, min, sym, ◌∙◌, ap, arith}
 use Rattle.message_types.specs.declared.signed.Signed.{Signed}
 use Rattle.message_types.specs.declared.body.Body.{Body}
-use Rattle.world_history.proofs.Joining.{frames_more, frames_whole}
+use Rattle.world_history.proofs.SignedBodies.{frames_more, frames_whole}
 use Rattle.world_history.proofs.frames.join.Goals as goal
 
 pub loop-place-init : goal.loop-place-init

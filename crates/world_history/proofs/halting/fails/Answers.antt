@@ -3,7 +3,7 @@
 use Rattle.std.proofs.Common.{◌&&◌, nat_le, sym, ◌∙◌, ap}
 use Rattle.std.specs.List.{list_any}
 use Rattle.scenario_file.specs.Reading.{contents}
-use Rattle.world_history.proofs.KeeperCalls.{failing_found, none_fails}
+use Rattle.world_history.proofs.CallsThatFail.{failing_found, none_fails}
 use Rattle.world_history.proofs.halting.fails.Goals as goal
 
 pub returns-in-Some : goal.returns-in-Some

@@ -2,7 +2,7 @@
 -- fails no frames are given, though the bench has the entry.
 use Rattle.std.proofs.Common.{true, false}
 use Rattle.world_entries.specs.Entries.{event_of}
-use Rattle.world_history.proofs.KeptActing.{last_counts, kept_added, fits_added}
+use Rattle.world_history.proofs.KeptGrows.{last_counts, kept_added, fits_added}
 use Rattle.world_history.proofs.kept_actor.act_and_keep.Goals as goal
 
 pub keep_last-requires : goal.keep_last-requires

@@ -4,7 +4,7 @@ use Rattle.std.specs.Prelude.{Option}
 use Rattle.outside.specs.Keepers.{Binder}
 use Rattle.world_entries.specs.Entries.{event_of}
 use Rattle.world_history.specs.KeptState.{Keeps}
-use Rattle.world_history.proofs.Together.{none_frames}
+use Rattle.world_history.proofs.KeptInStep.{none_frames}
 use Rattle.world_history.proofs.kept_actor.add.Goals as goal
 
 pub returns-in_default-clause-frames : goal.returns-in_default-clause-frames

@@ -7,7 +7,7 @@ use Rattle.outside.specs.Keepers.{Binder}
 use Rattle.quorum_sets.specs.Masters.{has_master}
 use Rattle.scenario_file.specs.Reading.{contents}
 use Rattle.world_rules.specs.Scenarios.{masters_in}
-use Rattle.world_history.proofs.Beginning.{begins_with_none, begins_with_some, not_intruded, no_master, is_listed}
+use Rattle.world_history.proofs.KeptAtFirst.{begins_with_none, begins_with_some, not_intruded, no_master, is_listed}
 use Rattle.world_history.proofs.kept_actor.begin.Goals as goal
 use Rattle.world_history.proofs.kept_actor.begin.Goals.{else-actor-scenario-via-then-actor-scenario+else-has}
 use Rattle.world_history.proofs.kept_actor.begin.Goals.{else-actor-scenario-via-else-actor-scenario}

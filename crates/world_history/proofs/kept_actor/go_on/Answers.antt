@@ -2,7 +2,7 @@
 -- again, or failed and the actor is halted there.
 use Rattle.std.proofs.Common.{IfOk}
 use Rattle.world_entries.specs.Entries.{event_of}
-use Rattle.world_history.proofs.KeptActing.{IsDone, correct_count, went_on_result}
+use Rattle.world_history.proofs.KeptGrows.{IsDone, correct_count, went_on_result}
 use Rattle.world_history.proofs.Answering.{if_ok}
 use Rattle.world_history.proofs.kept_actor.go_on.Goals.{After-act_and_keep}
 use Rattle.world_history.proofs.kept_actor.go_on.Goals as goal

@@ -2,7 +2,7 @@
 -- counted the call and the fault, and holds what it held before.
 use Rattle.std.proofs.Common.{true, false}
 use Rattle.world_history.specs.Lists.{last_of}
-use Rattle.world_history.proofs.KeptActing.{appended_last}
+use Rattle.world_history.proofs.KeptGrows.{appended_last}
 use Rattle.world_history.proofs.kept_actor.keep_last.Goals as goal
 
 pub returns-in-Ok-clause-kept : goal.returns-in-Ok-clause-kept

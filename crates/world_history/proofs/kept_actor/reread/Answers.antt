@@ -3,7 +3,7 @@
 use Rattle.std.proofs.Common.{ap}
 use Rattle.outside.specs.Keepers.{lists_of}
 use Rattle.scenario_file.specs.Reading.{contents}
-use Rattle.world_history.proofs.Rereading.{
+use Rattle.world_history.proofs.RestartReplays.{
   IsReread,
   actor_there,
   are_kept,

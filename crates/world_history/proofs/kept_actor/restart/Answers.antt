@@ -3,8 +3,8 @@
 use Rattle.std.specs.Prelude.{None, Some}
 use Rattle.scenario_file.specs.Reading.{contents}
 use Rattle.history_rules.specs.Events.{Restart}
-use Rattle.world_history.proofs.KeptActing.{IsDone}
-use Rattle.world_history.proofs.Rereading.{IsReread, is_reread, restart_can_come, ends_unread, ends_unkept, ends_well}
+use Rattle.world_history.proofs.KeptGrows.{IsDone}
+use Rattle.world_history.proofs.RestartReplays.{IsReread, is_reread, restart_can_come, ends_unread, ends_unkept, ends_well}
 use Rattle.world_history.proofs.kept_actor.restart.Goals.{In-Some-said, In_default-said, In_ok-act, Start}
 use Rattle.world_history.proofs.kept_actor.restart.Goals as goal
 

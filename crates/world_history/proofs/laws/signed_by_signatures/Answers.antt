@@ -1,4 +1,4 @@
-use Rattle.world_history.proofs.Leaving.{signatures_for_all, signed_by_signatures}
+use Rattle.world_history.proofs.LeavesSuffice.{signatures_for_all, signed_by_signatures}
 use Rattle.world_history.proofs.laws.signed_by_signatures.Goals as goal
 
 pub returns-clause-all : goal.returns-clause-all

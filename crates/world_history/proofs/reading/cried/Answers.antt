@@ -3,7 +3,7 @@
 use Rattle.std.proofs.Common.{arith, refl, sym, ◌∙◌, ap}
 use Rattle.message_forms.proofs.Spells.{IsBytes-from}
 use Rattle.world_history.specs.Reading.{is_want_of_form}
-use Rattle.world_history.proofs.Refusing.{cried_read, nothing_cried, same_refusal}
+use Rattle.world_history.proofs.FramesRead.{cried_read, nothing_cried, same_refusal}
 use Rattle.world_history.proofs.reading.cried.Goals as goal
 
 pub returns-in-Ok-clause-found : goal.returns-in-Ok-clause-found

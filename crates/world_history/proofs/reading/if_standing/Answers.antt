@@ -1,7 +1,7 @@
 -- The frame is given where the check by the ring of keys passes, and that is just where it stands.
 use Rattle.std.proofs.Common.{refl, sym, ap, ◌∙◌}
 use Rattle.world_history.specs.Reading.{is_want_of_check}
-use Rattle.world_history.proofs.Refusing.{passed_found, refused_not_found, same_refusal}
+use Rattle.world_history.proofs.FramesRead.{passed_found, refused_not_found, same_refusal}
 use Rattle.world_history.proofs.reading.if_standing.Goals as goal
 
 pub returns-in-Ok : goal.returns-in-Ok

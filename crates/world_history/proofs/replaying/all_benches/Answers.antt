@@ -2,7 +2,7 @@
 -- all are there.
 use Rattle.std.proofs.Common.{arith}
 use Rattle.scenario_file.specs.Reading.{contents}
-use Rattle.world_history.proofs.Steps.{actor_below, none_begun, one_begun, all_begun}
+use Rattle.world_history.proofs.HistoryReplays.{actor_below, none_begun, one_begun, all_begun}
 use Rattle.world_history.proofs.replaying.all_benches.Goals as goal
 
 pub loop-actor-init : goal.loop-actor-init

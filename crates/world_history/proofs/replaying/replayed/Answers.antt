@@ -3,8 +3,8 @@
 use Rattle.std.proofs.Common.{◌<◌, ◌^◌, length, refl, ap, arith}
 use Rattle.scenario_file.specs.Reading.{contents}
 use Rattle.world_entries.specs.Entries.{entry_of, event_of}
-use Rattle.world_history.proofs.Steps.{Comes, IsReady, next_comes, all_replayed, bench_there, bench_ready}
-use Rattle.world_history.proofs.Steps.{benches_grow}
+use Rattle.world_history.proofs.HistoryReplays.{Comes, IsReady, next_comes, all_replayed, bench_there, bench_ready}
+use Rattle.world_history.proofs.HistoryReplays.{benches_grow}
 use Rattle.world_history.proofs.replaying.replayed.Goals.{After-index_mut, In_ok-event}
 use Rattle.world_history.proofs.replaying.replayed.Goals as goal
 

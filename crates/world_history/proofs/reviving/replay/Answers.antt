@@ -6,8 +6,8 @@ use Rattle.outside.specs.Keepers.{lists_of}
 use Rattle.scenario_file.specs.Reading.{contents}
 use Rattle.history_rules.specs.Setup.{stands}
 use Rattle.world_rules.specs.Scenarios.{setup_of}
-use Rattle.world_history.proofs.KeptReplaying.{item_at, low_in, high_in, next_comes, did_next, frames_next, did_nothing}
-use Rattle.world_history.proofs.KeptReplaying.{frames_none, stand_next, did_all, frames_all}
+use Rattle.world_history.proofs.KeptBytesReplay.{item_at, low_in, high_in, next_comes, did_next, frames_next, did_nothing}
+use Rattle.world_history.proofs.KeptBytesReplay.{frames_none, stand_next, did_all, frames_all}
 use Rattle.world_history.proofs.reviving.replay.Goals as goal
 
 pub loop-bytes-init : goal.loop-bytes-init

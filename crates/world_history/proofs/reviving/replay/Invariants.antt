@@ -6,7 +6,7 @@ use Rattle.outside.specs.Keepers.{lists_of}
 use Rattle.scenario_file.specs.Reading.{contents}
 use Rattle.history_rules.specs.Setup.{stands}
 use Rattle.world_rules.specs.Scenarios.{setup_of}
-use Rattle.world_history.proofs.KeptReplaying.{DidSoFar, FramesSoFar}
+use Rattle.world_history.proofs.KeptBytesReplay.{DidSoFar, FramesSoFar}
 use Rattle.world_history.proofs.reviving.replay.Given as goal
 
 abbrev pub invariant-loop-bytes : goal.invariant-loop-bytes

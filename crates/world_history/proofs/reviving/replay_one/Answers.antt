@@ -4,7 +4,7 @@ use Rattle.std.proofs.Common.{◌∙◌, ap}
 use Rattle.world_entries.specs.Entries.{event_of}
 use Rattle.bench_rules.specs.Lists.{frames_after}
 use Rattle.world_history.specs.State.{setup_in}
-use Rattle.world_history.proofs.KeptReplaying.{next_kept, can_act, read_is, replayed_one}
+use Rattle.world_history.proofs.KeptBytesReplay.{next_kept, can_act, read_is, replayed_one}
 use Rattle.world_history.proofs.Answering.{on_ok, if_ok}
 use Rattle.world_history.proofs.reviving.replay_one.Goals as goal
 

@@ -2,8 +2,8 @@
 -- in the order of the numbers are the ring.
 use Rattle.std.proofs.Common.{◌+◌}
 use Rattle.scenario_file.specs.Reading.{contents}
-use Rattle.world_history.proofs.Starting.{levels_given, heights_given}
-use Rattle.world_history.proofs.Ringing.{clients_are, actors_are_few, ring_told}
+use Rattle.world_history.proofs.BenchAtFirst.{levels_given, heights_given}
+use Rattle.world_history.proofs.ScenarioRing.{clients_are, actors_are_few, ring_told}
 use Rattle.world_history.proofs.ring.ring_of.Goals as goal
 
 pub ring_of-requires-clause-few : goal.ring_of-requires-clause-few

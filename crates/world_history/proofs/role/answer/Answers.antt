@@ -4,10 +4,10 @@ use Rattle.std.proofs.Common.{subst}
 use Rattle.world_entries.specs.Entries.{event_of}
 use Rattle.world_history.specs.declared.role.Role.{Role}
 use Rattle.world_history.specs.Roles.{IsRole}
-use Rattle.world_history.proofs.Masters.{master_said, master_ready}
-use Rattle.world_history.proofs.Intruded.{intruded_said, intruded_ready}
-use Rattle.world_history.proofs.Clients.{proxy_said, screen_said, proxy_ready, screen_ready, proxy_correct}
-use Rattle.world_history.proofs.Clients.{screen_correct}
+use Rattle.world_history.proofs.MasterEntry.{master_said, master_ready}
+use Rattle.world_history.proofs.IntrudedEntry.{intruded_said, intruded_ready}
+use Rattle.world_history.proofs.ClientEntry.{proxy_said, screen_said, proxy_ready, screen_ready, proxy_correct}
+use Rattle.world_history.proofs.ClientEntry.{screen_correct}
 use Rattle.world_history.proofs.Answering.{if_ok, on_ok, both_on_ok}
 use Rattle.world_history.proofs.role.answer.Goals as goal
 

@@ -4,7 +4,7 @@ use Rattle.std.proofs.Common.{subst}
 use Rattle.world_entries.specs.Entries.{event_of}
 use Rattle.world_history.specs.declared.role.Role.{Role}
 use Rattle.world_history.specs.Roles.{IsReady}
-use Rattle.world_history.proofs.Masters.{three_on_ok, master_closed}
+use Rattle.world_history.proofs.MasterEntry.{three_on_ok, master_closed}
 use Rattle.world_history.proofs.role.close.Goals as goal
 
 pub returns-in-Master : goal.returns-in-Master

@@ -1,6 +1,6 @@
 -- A client whose number is below that of the devices begins as its device's proxy, and any other as a screen.
 use Rattle.std.proofs.Common.{arith}
-use Rattle.world_history.proofs.Starting.{scenario_proxy_begins, scenario_screen_begins}
+use Rattle.world_history.proofs.BenchAtFirst.{scenario_proxy_begins, scenario_screen_begins}
 use Rattle.world_history.proofs.start.begin_client.Goals as goal
 
 pub make-requires : goal.make-requires

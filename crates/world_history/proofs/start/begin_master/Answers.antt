@@ -3,7 +3,7 @@
 use Rattle.std.proofs.Common.{◌<◌, sym, ◌∙◌, arith}
 use Rattle.scenario_file.specs.Reading.{contents}
 use Rattle.world_rules.specs.Scenarios.{masters_in}
-use Rattle.world_history.proofs.Starting.{intruded_begins, master_begins, masters_are}
+use Rattle.world_history.proofs.BenchAtFirst.{intruded_begins, master_begins, masters_are}
 use Rattle.world_history.proofs.start.begin_master.Goals as goal
 
 pub returns-then-has : goal.returns-then-has

@@ -3,8 +3,8 @@
 use Rattle.std.proofs.Common.{◌≡◌, ◌+◌, ◌^◌, ◌<◌, ◌≤◌, true, false, length, get_or, set, refl, sym, ◌∙◌, arith}
 use Rattle.world_entries.specs.Entries.{event_of, entry_of}
 use Rattle.printed_history.specs.Reading.{contents_in, world_in}
-use Rattle.printed_history.proofs.Nexts.{CanAct, bench_there, calls_there, calls_counted, can_act, has_more}
-use Rattle.printed_history.proofs.Nexts.{kinds_told, came, other_kinds}
+use Rattle.printed_history.proofs.NextEntry.{CanAct, bench_there, calls_there, calls_counted, can_act, has_more}
+use Rattle.printed_history.proofs.NextEntry.{kinds_told, came, other_kinds}
 use Rattle.printed_history.proofs.reading.SoFar.act.Goals as goal
 
 pub index_mut-bench-requires : goal.index_mut-bench-requires

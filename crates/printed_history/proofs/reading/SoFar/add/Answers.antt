@@ -2,7 +2,7 @@
 -- these tests is the definition's, and then its event decides.
 use Rattle.std.proofs.Common.{sym, ◌∙◌}
 use Rattle.printed_history.specs.Reading.{world_in}
-use Rattle.printed_history.proofs.Nexts.{no_actor, no_turn, runs_in_turn, adds_in_turn}
+use Rattle.printed_history.proofs.NextEntry.{no_actor, no_turn, runs_in_turn, adds_in_turn}
 use Rattle.printed_history.proofs.reading.SoFar.add.Goals as goal
 
 pub returns-in_default : goal.returns-in_default

@@ -4,8 +4,8 @@ use Rattle.std.proofs.Common.{◌<◌, length, sym, ◌∙◌, ap, arith}
 use Rattle.world_entries.specs.Entries.{event_of}
 use Rattle.printed_history.specs.Histories.{standing_event, event_from}
 use Rattle.printed_history.specs.Reading.{world_in, event_found}
-use Rattle.printed_history.proofs.Nexts.{bench_there, fits_there, no_event, no_role_there, adds_event}
-use Rattle.printed_history.proofs.Taking.{taken_well}
+use Rattle.printed_history.proofs.NextEntry.{bench_there, fits_there, no_event, no_role_there, adds_event}
+use Rattle.printed_history.proofs.EventTold.{taken_well}
 use Rattle.printed_history.proofs.reading.SoFar.add_event.Goals as goal
 
 pub returns-in_default : goal.returns-in_default

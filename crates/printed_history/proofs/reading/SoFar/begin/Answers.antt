@@ -1,6 +1,6 @@
 use Rattle.std.proofs.Common.{◌≡◌, length, refl, arith}
 use Rattle.scenario_file.specs.Reading.{contents}
-use Rattle.printed_history.proofs.Begins.{begins}
+use Rattle.printed_history.proofs.FirstAtHand.{begins}
 use Rattle.printed_history.proofs.reading.SoFar.begin.Goals as goal
 
 pub returns : goal.returns

@@ -3,7 +3,7 @@
 use Rattle.std.proofs.Common.{refl, sym, ◌∙◌, ap}
 use Rattle.run_lines.specs.declared.event_line.EventLine.TheVariants as line
 use Rattle.world_entries.specs.declared.entry.Event.TheVariants as kept
-use Rattle.printed_history.proofs.Taking.{plain_event, found_so}
+use Rattle.printed_history.proofs.EventTold.{plain_event, found_so}
 use Rattle.printed_history.proofs.reading.SoFar.event.Goals as goal
 
 pub returns-in-Said : goal.returns-in-Said

@@ -2,7 +2,7 @@
 -- isn't there has no count and never runs.
 use Rattle.std.proofs.Common.{List, ℕ, sym, ◌∙◌, ap}
 use Rattle.std.specs.Prelude.{slice_get}
-use Rattle.printed_history.proofs.Nexts.{runs_by, none_runs}
+use Rattle.printed_history.proofs.NextEntry.{runs_by, none_runs}
 use Rattle.printed_history.proofs.Places.{found_at, missing_at}
 use Rattle.printed_history.proofs.reading.SoFar.is_running.Goals as goal
 

@@ -1,7 +1,7 @@
 -- What is posted at a stamp and place is the frame said there, if it stands. Where no such entry or place is
 -- posted nothing was said there that could be taken.
 use Rattle.std.proofs.Common.{sym}
-use Rattle.printed_history.proofs.Taking.{said_never, said_elsewhere, said_so}
+use Rattle.printed_history.proofs.EventTold.{said_never, said_elsewhere, said_so}
 use Rattle.printed_history.proofs.reading.SoFar.said.Goals as goal
 
 pub returns-in_default : goal.returns-in_default

@@ -2,7 +2,7 @@
 -- entry yet there is nothing to take it from.
 use Rattle.std.proofs.Common.{◌-◌, None, Some, sym, ◌∙◌, ap, arith}
 use Rattle.std.specs.Option.{option_to_list}
-use Rattle.printed_history.proofs.Taking.{told_nothing, told_so}
+use Rattle.printed_history.proofs.EventTold.{told_nothing, told_so}
 use Rattle.printed_history.proofs.reading.SoFar.told.Goals as goal
 
 pub returns-then-entries-eq0 : goal.returns-then-entries-eq0

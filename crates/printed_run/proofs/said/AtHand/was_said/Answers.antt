@@ -6,9 +6,9 @@ use Rattle.scenario_file.specs.Reading.{contents}
 use Rattle.world_entries.specs.Entries.{entry_of}
 use Rattle.world_entries.specs.declared.entry.Event.TheVariants as kept
 use Rattle.world_rules.specs.Scenarios.{setup_of}
-use Rattle.printed_run.proofs.Cries.{kept_there, kept_found, kept_missing, none_kept, none_said, silent_event}
-use Rattle.printed_run.proofs.Cries.{cry_answered}
-use Rattle.printed_run.proofs.Hands.{actor_there, place_there, frame_posted}
+use Rattle.printed_run.proofs.SaidThere.{kept_there, kept_found, kept_missing, none_kept, none_said, silent_event}
+use Rattle.printed_run.proofs.SaidThere.{cry_answered}
+use Rattle.printed_run.proofs.WhatIsAtHand.{actor_there, place_there, frame_posted}
 use Rattle.printed_run.proofs.said.AtHand.was_said.Goals.{In-Some}
 use Rattle.printed_run.proofs.said.AtHand.was_said.Goals as goal
 

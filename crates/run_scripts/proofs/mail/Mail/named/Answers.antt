@@ -1,4 +1,4 @@
-use Rattle.run_scripts.proofs.Slotting.{named_there, none_named}
+use Rattle.run_scripts.proofs.SlotsKept.{named_there, none_named}
 use Rattle.run_scripts.proofs.mail.Mail.named.Goals as goal
 
 pub returns-then-which-eq0 : goal.returns-then-which-eq0

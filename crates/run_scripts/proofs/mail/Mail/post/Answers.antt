@@ -2,7 +2,7 @@
 -- of one frame more each turn, as each sender has its slots.
 use Rattle.std.proofs.Common.{◌≡◌, ℕ, refl, ◌∙◌, sym, subst, true, arith}
 use Rattle.run_scripts.specs.Playing.{has_slot}
-use Rattle.run_scripts.proofs.Mailing.{mail_starts, mail_more, mail_all}
+use Rattle.run_scripts.proofs.MailGrows.{mail_starts, mail_more, mail_all}
 use Rattle.plain_lists.proofs.Lists.{all_at}
 use Rattle.run_scripts.proofs.mail.Mail.post.Goals as goal
 

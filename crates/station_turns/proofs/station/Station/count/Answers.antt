@@ -1,7 +1,7 @@
 -- A station that hasn't given up is what its live part is, whose count is that of the turns in its list and within
 -- those of its run.
 use Rattle.station_turns.specs.Turns.{stationed}
-use Rattle.station_turns.proofs.Seen.{count_seen, most_seen}
+use Rattle.station_turns.proofs.StationSeen.{count_seen, most_seen}
 use Rattle.station_turns.proofs.station.Station.count.Goals as goal
 
 pub returns-clause-made : goal.returns-clause-made

@@ -1,5 +1,5 @@
 use Rattle.station_turns.specs.Turns.{stationed}
-use Rattle.station_turns.proofs.Seen.{halt_seen}
+use Rattle.station_turns.proofs.StationSeen.{halt_seen}
 use Rattle.station_turns.proofs.station.Station.halted.Goals as goal
 
 pub returns : goal.returns

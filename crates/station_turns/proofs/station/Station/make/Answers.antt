@@ -1,5 +1,5 @@
 use Rattle.scenario_file.specs.Reading.{contents}
-use Rattle.station_turns.proofs.Seen.{begins_station}
+use Rattle.station_turns.proofs.StationSeen.{begins_station}
 use Rattle.station_turns.proofs.station.Station.make.Goals as goal
 
 pub invariant_of-result : goal.invariant_of-result

@@ -1,6 +1,6 @@
 -- A station that hasn't given up is what its live part is, which is alive and belongs to the run.
 use Rattle.station_turns.specs.Turns.{stationed}
-use Rattle.station_turns.proofs.Seen.{lives_seen}
+use Rattle.station_turns.proofs.StationSeen.{lives_seen}
 use Rattle.station_turns.proofs.station.Station.parted.Goals as goal
 
 pub returns-clause-alive : goal.returns-clause-alive

@@ -3,8 +3,8 @@
 use Rattle.std.proofs.Common.{sym, ◌∙◌, ap}
 use Rattle.std.proofs.lemmas.Bool.{true≢false}
 use Rattle.station_turns.specs.Turns.{Stationed, stationed}
-use Rattle.station_turns.proofs.Seen.{asked_running, asked_left, asked_stands, turned_seen, of_turned, stand_seen}
-use Rattle.station_turns.proofs.Told.{there_told, made_told}
+use Rattle.station_turns.proofs.StationSeen.{asked_running, asked_left, asked_stands, turned_seen, of_turned, stand_seen}
+use Rattle.station_turns.proofs.WordTold.{there_told, made_told}
 use Rattle.station_turns.proofs.station.Station.turn.Goals as goal
 
 pub turn-requires-clause-alive : goal.turn-requires-clause-alive

@@ -2,8 +2,8 @@
 -- other bench tells nothing.
 use Rattle.std.proofs.Common.{refl, ◌∙◌}
 use Rattle.world_history.specs.declared.role.Role.TheVariants as role
-use Rattle.world_history.proofs.Showing.{role_of, spent_is, none_of_spent, executed_told, none_executed}
-use Rattle.world_history.proofs.Showing.{other_than_master}
+use Rattle.world_history.proofs.BenchShows.{role_of, spent_is, none_of_spent, executed_told, none_executed}
+use Rattle.world_history.proofs.BenchShows.{other_than_master}
 use Rattle.world_history.proofs.audited.BenchExecutes.executions.Goals as goal
 
 pub returns-then-self : goal.returns-then-self

@@ -6,7 +6,7 @@ use Rattle.std.specs.List.{list_all}
 use Rattle.history_rules.specs.Setup.{stands}
 use Rattle.world_entries.specs.Entries.{event_of}
 use Rattle.world_history.specs.State.{BenchState, setup_in}
-use Rattle.world_history.proofs.Stepping.{entry_added, frames_seen}
+use Rattle.world_history.proofs.SeatEntry.{entry_added, frames_seen}
 use Rattle.world_history.proofs.bench.Bench.act.Goals as goal
 
 pub add-requires-clause-seated : goal.add-requires-clause-seated

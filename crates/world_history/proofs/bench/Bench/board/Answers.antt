@@ -2,7 +2,7 @@
 -- and any other actor none.
 use Rattle.std.proofs.Common.{refl}
 use Rattle.world_history.specs.declared.role.Role.TheVariants as role
-use Rattle.world_history.proofs.Showing.{role_of, board_told, no_board, other_than_screen}
+use Rattle.world_history.proofs.BenchShows.{role_of, board_told, no_board, other_than_screen}
 use Rattle.world_history.proofs.bench.Bench.board.Goals as goal
 
 pub returns-in-Screen : goal.returns-in-Screen

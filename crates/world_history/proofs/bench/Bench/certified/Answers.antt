@@ -3,7 +3,7 @@
 use Rattle.std.proofs.Common.{refl}
 use Rattle.std.specs.Option.{option_copied}
 use Rattle.world_history.specs.declared.role.Role.TheVariants as role
-use Rattle.world_history.proofs.Showing.{role_of, certified_told, none_certified, other_than_master}
+use Rattle.world_history.proofs.BenchShows.{role_of, certified_told, none_certified, other_than_master}
 use Rattle.world_history.proofs.bench.Bench.certified.Goals as goal
 
 pub returns-in-Master : goal.returns-in-Master

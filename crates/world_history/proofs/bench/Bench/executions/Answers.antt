@@ -2,7 +2,7 @@
 -- list, and any other actor none.
 use Rattle.std.proofs.Common.{refl}
 use Rattle.world_history.specs.declared.role.Role.TheVariants as role
-use Rattle.world_history.proofs.Showing.{role_of, executions_told, no_executions, other_than_master}
+use Rattle.world_history.proofs.BenchShows.{role_of, executions_told, no_executions, other_than_master}
 use Rattle.world_history.proofs.bench.Bench.executions.Goals as goal
 
 pub returns-in-Master : goal.returns-in-Master

@@ -1,5 +1,5 @@
 use Rattle.world_entries.specs.Entries.{event_of}
-use Rattle.world_history.proofs.Showing.{fits_told}
+use Rattle.world_history.proofs.BenchShows.{fits_told}
 use Rattle.world_history.proofs.bench.Bench.fits.Goals as goal
 
 pub returns : goal.returns

@@ -1,4 +1,4 @@
-use Rattle.world_history.proofs.Saying.{intruded_told}
+use Rattle.world_history.proofs.SpokenWords.{intruded_told}
 use Rattle.world_history.proofs.bench.Bench.is_intruded.Goals as goal
 
 pub returns-then-self-scenario : goal.returns-then-self-scenario

@@ -1,4 +1,4 @@
-use Rattle.world_history.proofs.Showing.{left_told}
+use Rattle.world_history.proofs.BenchShows.{left_told}
 use Rattle.world_history.proofs.bench.Bench.left.Goals as goal
 
 pub returns : goal.returns

@@ -2,7 +2,7 @@
 -- list, and any other actor 0.
 use Rattle.std.proofs.Common.{refl}
 use Rattle.world_history.specs.declared.role.Role.TheVariants as role
-use Rattle.world_history.proofs.Showing.{role_of, view_told, no_view, other_than_master}
+use Rattle.world_history.proofs.BenchShows.{role_of, view_told, no_view, other_than_master}
 use Rattle.world_history.proofs.bench.Bench.view.Goals as goal
 
 pub returns-in-Master : goal.returns-in-Master

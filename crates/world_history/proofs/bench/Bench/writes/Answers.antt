@@ -2,7 +2,7 @@
 -- and any other actor none.
 use Rattle.std.proofs.Common.{refl}
 use Rattle.world_history.specs.declared.role.Role.TheVariants as role
-use Rattle.world_history.proofs.Showing.{role_of, writes_told, no_writes, other_than_proxy}
+use Rattle.world_history.proofs.BenchShows.{role_of, writes_told, no_writes, other_than_proxy}
 use Rattle.world_history.proofs.bench.Bench.writes.Goals as goal
 
 pub returns-in-Proxy : goal.returns-in-Proxy

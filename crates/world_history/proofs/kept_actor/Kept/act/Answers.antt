@@ -8,8 +8,8 @@ use Rattle.history_rules.specs.Setup.{stands}
 use Rattle.world_entries.specs.Entries.{event_of}
 use Rattle.world_history.specs.State.{setup_in, with_entry}
 use Rattle.world_history.specs.KeptState.{KeptState, Keeps, frames_kept, posted}
-use Rattle.world_history.proofs.KeptActing.{CanCome}
-use Rattle.world_history.proofs.Together.{goes_on, seen_come, posted_or, noted}
+use Rattle.world_history.proofs.KeptGrows.{CanCome}
+use Rattle.world_history.proofs.KeptInStep.{goes_on, seen_come, posted_or, noted}
 use Rattle.world_history.proofs.kept_actor.Kept.act.Goals.{Else-self}
 use Rattle.world_history.proofs.kept_actor.Kept.act.Goals as goal
 

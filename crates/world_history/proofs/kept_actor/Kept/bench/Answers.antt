@@ -1,4 +1,4 @@
-use Rattle.world_history.proofs.Together.{keeps_seen}
+use Rattle.world_history.proofs.KeptInStep.{keeps_seen}
 use Rattle.world_history.proofs.kept_actor.Kept.bench.Goals as goal
 
 pub returns-clause-keeps : goal.returns-clause-keeps

@@ -1,4 +1,4 @@
-use Rattle.world_history.proofs.Together.{halt_seen}
+use Rattle.world_history.proofs.KeptInStep.{halt_seen}
 use Rattle.world_history.proofs.kept_actor.Kept.halted.Goals as goal
 
 pub returns : goal.returns

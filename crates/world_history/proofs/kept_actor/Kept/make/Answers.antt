@@ -1,7 +1,7 @@
 -- A bench without entries and a keeper before its first call are those of one actor: they belong together, and are its
 -- first state.
 use Rattle.scenario_file.specs.Reading.{contents}
-use Rattle.world_history.proofs.Beginning.{begins_together, begun_state}
+use Rattle.world_history.proofs.KeptAtFirst.{begins_together, begun_state}
 use Rattle.world_history.proofs.kept_actor.Kept.make.Goals as goal
 
 pub invariant_of-result : goal.invariant_of-result

@@ -4,7 +4,7 @@ use Rattle.std.proofs.Common.{sym, ◌∙◌, ap}
 use Rattle.std.proofs.lemmas.Bool.{true≢false}
 use Rattle.world_history.specs.State.{spoken, after_word}
 use Rattle.world_history.specs.KeptState.{KeptState}
-use Rattle.world_history.proofs.Together.{IsIntruded, seen_intruded, keeps_word}
+use Rattle.world_history.proofs.KeptInStep.{IsIntruded, seen_intruded, keeps_word}
 use Rattle.world_history.proofs.kept_actor.Kept.speak.Goals.{Else-self}
 use Rattle.world_history.proofs.kept_actor.Kept.speak.Goals as goal
 

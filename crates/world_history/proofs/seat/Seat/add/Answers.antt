@@ -13,13 +13,13 @@ use Rattle.world_history.specs.declared.seat.Seat.{Seat}
 use Rattle.checked_frames.specs.Entries.{group_size, groups_for}
 use Rattle.world_rules.specs.Scenarios.{setup_of, shares_leaves, key_in}
 use Rattle.bench_rules.specs.Lists.{frames_after}
-use Rattle.world_history.proofs.Leaving.{leaves_are_few}
+use Rattle.world_history.proofs.LeavesSuffice.{leaves_are_few}
 use Rattle.message_types.specs.declared.body.Body.{Body}
 use Rattle.world_history.specs.Roles.{Comes, IsReady}
 use Rattle.world_history.specs.Seats.{IsSeated, world_in, list_in, entry_of_seat}
-use Rattle.world_history.proofs.Roles.{can_answer}
-use Rattle.world_history.proofs.Acting.{comes_next, room_left, said_can_be_signed, leaves_there, frames_made}
-use Rattle.world_history.proofs.Acting.{made_stand, made_all_stand, seated_next}
+use Rattle.world_history.proofs.RoleEntry.{can_answer}
+use Rattle.world_history.proofs.ReplayGrows.{comes_next, room_left, said_can_be_signed, leaves_there, frames_made}
+use Rattle.world_history.proofs.ReplayGrows.{made_stand, made_all_stand, seated_next}
 use Rattle.world_history.proofs.seat.Seat.add.Goals.{In_ok-bodies, In_ok-frames, In_ok-push-2}
 use Rattle.world_history.proofs.seat.Seat.add.Goals as goal
 

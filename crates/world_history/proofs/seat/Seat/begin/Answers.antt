@@ -3,7 +3,7 @@
 use Rattle.std.proofs.Common.{map, ap, refl}
 use Rattle.scenario_file.specs.Reading.{contents}
 use Rattle.world_entries.specs.Entries.{entry_of}
-use Rattle.world_history.proofs.Starting.{levels_given, heights_given, key_given, leaves_given, begins_seated}
+use Rattle.world_history.proofs.BenchAtFirst.{levels_given, heights_given, key_given, leaves_given, begins_seated}
 use Rattle.world_history.proofs.seat.Seat.begin.Goals as goal
 
 pub actor_key-requires-clause-levels : goal.actor_key-requires-clause-levels

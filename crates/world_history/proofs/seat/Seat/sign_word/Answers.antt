@@ -5,8 +5,8 @@ use Rattle.message_types.specs.Texts.{frame_text}
 use Rattle.message_types.specs.Spelling.{has_spelling}
 use Rattle.world_history.specs.Seats.{state_of}
 use Rattle.world_history.specs.State.{word_frame}
-use Rattle.world_history.proofs.Saying.{one_fits, leaf_there, few_words, frame_is, one_frame, first_frame}
-use Rattle.world_history.proofs.Saying.{frame_spelled, seated_with_word}
+use Rattle.world_history.proofs.SpokenWords.{one_fits, leaf_there, few_words, frame_is, one_frame, first_frame}
+use Rattle.world_history.proofs.SpokenWords.{frame_spelled, seated_with_word}
 use Rattle.world_history.proofs.seat.Seat.sign_word.Goals as goal
 
 pub sign_all-requires-clause-fit : goal.sign_all-requires-clause-fit

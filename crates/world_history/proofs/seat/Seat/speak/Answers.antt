@@ -2,8 +2,8 @@
 -- signed, and else nothing is said and nothing used.
 use Rattle.std.proofs.Common.{sym, ◌∙◌}
 use Rattle.world_history.specs.Seats.{state_of}
-use Rattle.world_history.proofs.Saying.{raw_spoken, raw_uses_none, has_leaf, none_spoken, body_spoken, uses_none}
-use Rattle.world_history.proofs.Saying.{uses_one}
+use Rattle.world_history.proofs.SpokenWords.{raw_spoken, raw_uses_none, has_leaf, none_spoken, body_spoken, uses_none}
+use Rattle.world_history.proofs.SpokenWords.{uses_one}
 use Rattle.world_history.proofs.seat.Seat.speak.Goals as goal
 
 pub returns-in-Raw-clause-spoken : goal.returns-in-Raw-clause-spoken

@@ -2,7 +2,7 @@
 -- Without a leaf left to sign it there is none.
 use Rattle.std.proofs.lemmas.Result.{IfOk-weaker}
 use Rattle.world_history.specs.Seats.{world_in, list_in}
-use Rattle.world_history.proofs.Saying.{other_role, no_leaf, body_is}
+use Rattle.world_history.proofs.SpokenWords.{other_role, no_leaf, body_is}
 use Rattle.world_history.proofs.seat.Seat.word_body.Goals as goal
 
 pub unreachable-requires : goal.unreachable-requires
