@@ -26,6 +26,21 @@ pub record Call : Type 0 where
   pub put_before : Option (List ℕ)
   pub put_after : Option (List ℕ)
 
+-- A call by its words, by what the files hold and count as faults before and after it, and by the output's count of
+-- faults and what was put to it, each before and after.
+abbrev pub call_of : List (List ℕ) → (List ℕ → Option (List ℕ)) → (List ℕ → ℕ) → (List ℕ → ℕ) → ℕ → ℕ →
+    Option (List ℕ) → Option (List ℕ) → Call
+call_of words held faults_before faults_after out_faults_before out_faults_after put_before put_after = record {
+  words = words;
+  held = held;
+  faults_before = faults_before;
+  faults_after = faults_after;
+  out_faults_before = out_faults_before;
+  out_faults_after = out_faults_after;
+  put_before = put_before;
+  put_after = put_after;
+}
+
 -- a content that is the file's, where the file tells what it holds
 abbrev pub IsContent : Option (List ℕ) → List ℕ → Type 0
 IsContent None content = Unit {0}

@@ -8,10 +8,10 @@ use Rattle.command_ends.specs.Steps.Step.{Load, Gives, Refuses}
 use Rattle.command_ends.specs.Calls.{Call, PutsNothing, most_bytes}
 use Rattle.command_ends.specs.Ended.{ErrorSink}
 
--- What comes next is one step.
-abbrev pub IsCertain : (List (List ℕ) → List (List ℕ) → Step → Type 0) → Type 0
-IsCertain next = (words contents : List (List ℕ)) (one other : Step) → next words contents one →
-    next words contents other → one ≡ other
+-- the same step, or another text
+abbrev pub IsAlike : Step → Step → Type 0
+IsAlike (Gives one) (Gives other) = Unit {0}
+IsAlike one other = one ≡ other
 
 -- Each file that is due tells what it holds, isn't too long, and was loaded without a fault: these are their contents.
 abbrev pub Lies : (List (List ℕ) → Step → Type 0) → Call → List (List ℕ) → List (List ℕ) → Type 0
@@ -40,6 +40,9 @@ pub data IsDueOrWant (call : Call) (err : ErrorSink) (status : ℕ) (last : Step
   due : IsDue call err status last → IsDueOrWant call err status last
   memory : status ≡ 7 → IsDueOrWant call err status last
 
--- Where nothing is in its way, a call ends with what its words and its files come to, or for want of memory.
+-- Where nothing is in its way, a call ends with what its words and its files may come to, or for want of memory: with a
+-- text where there is to be one, else with the refusal that is due. Where only one step may come, that is the end.
 abbrev pub Completes : (List (List ℕ) → List (List ℕ) → Step → Type 0) → Call → ErrorSink → ℕ → Type 0
-Completes next call err status = (last : Step) → IsUntroubled next call last → IsDueOrWant call err status last
+Completes next call err status =
+    (last : Step) (free : IsUntroubled next call last) → (end : Step) × IsAlike last end
+    × next call.words free.contents end × IsDueOrWant call err status end

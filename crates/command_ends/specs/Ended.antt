@@ -18,6 +18,15 @@ pub record ErrorSink : Type 0 where
   pub put_before : Option (List ℕ)
   pub put_after : Option (List ℕ)
 
+-- the same by its count of faults and by what was put to it, each before and after
+abbrev pub sink_of : ℕ → ℕ → Option (List ℕ) → Option (List ℕ) → ErrorSink
+sink_of faults_before faults_after put_before put_after = record {
+  faults_before = faults_before;
+  faults_after = faults_after;
+  put_before = put_before;
+  put_after = put_after;
+}
+
 -- A refusal's whole line was put and no fault came, or a beginning of it where the error output failed, or the status
 -- tells of want of memory.
 pub data Told (refused : Refusal) (err : ErrorSink) (status : ℕ) : Type 0 where

@@ -1,8 +1,8 @@
 //! A call of the program: its words make a text, which is put.
 ghost use Rattle.std.specs.Prelude.{◌≡◌, map, string_bytes};
-ghost use Rattle.command_ends.specs.Calls.{CauseOf, PutsInMemory, FaultsOfFiles, FaultsOfOut};
+ghost use Rattle.command_ends.specs.Calls.{call_of, CauseOf, PutsInMemory, FaultsOfFiles, FaultsOfOut};
 ghost use Rattle.command_ends.specs.Loaded.{PutCause};
-ghost use Rattle.command_ends.specs.Ended.{Ends};
+ghost use Rattle.command_ends.specs.Ended.{sink_of, Ends};
 
 use crate::output::put_text;
 use crate::refusal::Refusal;
@@ -48,8 +48,8 @@ pub fn end_call<C: Commands, F: Files, O: Sink, E: Sink>(
 ) -> u8
     requires { C.ready commands.now }
     ensures { Ends C.next
-        record { words = map string_bytes words.now; held = F.held files.old; faults_before = F.faults files.old; faults_after = F.faults files.new; out_faults_before = O.faults out.old; out_faults_after = O.faults out.new; put_before = O.told out.old; put_after = O.told out.new }
-        record { faults_before = E.faults err.old; faults_after = E.faults err.new; put_before = E.told err.old; put_after = E.told err.new }
+        (call_of (map string_bytes words.now) (F.held files.old) (F.faults files.old) (F.faults files.new) (O.faults out.old) (O.faults out.new) (O.told out.old) (O.told out.new))
+        (sink_of (E.faults err.old) (E.faults err.new) (E.told err.old) (E.told err.new))
         result }
 {
     match run(alloc, commands, words, files, out) {
@@ -66,8 +66,8 @@ fn run<C: Commands, F: Files, O: Sink>(
     out: &mut O,
 ) -> Result<(), Refusal>
     requires { C.ready commands.now }
-    ensures cause { CauseOf C.next record { words = map string_bytes words.now; held = F.held files.old; faults_before = F.faults files.old; faults_after = F.faults files.new; out_faults_before = O.faults out.old; out_faults_after = O.faults out.new; put_before = O.told out.old; put_after = O.told out.new } result }
-    ensures memory { PutsInMemory C.next record { words = map string_bytes words.now; held = F.held files.old; faults_before = F.faults files.old; faults_after = F.faults files.new; out_faults_before = O.faults out.old; out_faults_after = O.faults out.new; put_before = O.told out.old; put_after = O.told out.new } result }
+    ensures cause { CauseOf C.next (call_of (map string_bytes words.now) (F.held files.old) (F.faults files.old) (F.faults files.new) (O.faults out.old) (O.faults out.new) (O.told out.old) (O.told out.new)) result }
+    ensures memory { PutsInMemory C.next (call_of (map string_bytes words.now) (F.held files.old) (F.faults files.old) (F.faults files.new) (O.faults out.old) (O.faults out.new) (O.told out.old) (O.told out.new)) result }
     ensures file_faults { FaultsOfFiles result (F.faults files.old) (F.faults files.new) }
     ensures out_faults { FaultsOfOut result (O.faults out.old) (O.faults out.new) }
 {

@@ -1,4 +1,4 @@
-ghost use Rattle.command_ends.specs.Ended.{Told, refusal_without};
+ghost use Rattle.command_ends.specs.Ended.{sink_of, Told, refusal_without};
 
 use crate::refusal::Refusal;
 use crate::report::report;
@@ -19,7 +19,7 @@ pub enum WordsRefusal {
 /// Ends a program that has no words as `spire` would: with status 2 as for words that aren't a command, with 7 for want of
 /// memory, the line of either put to `err`.
 pub fn spire_without_words<E: Sink>(alloc: Global, why: WordsRefusal, err: &mut E) -> u8
-    ensures { Told (refusal_without why) record { faults_before = E.faults err.old; faults_after = E.faults err.new; put_before = E.told err.old; put_after = E.told err.new } result }
+    ensures { Told (refusal_without why) (sink_of (E.faults err.old) (E.faults err.new) (E.told err.old) (E.told err.new)) result }
 {
     match why {
         WordsRefusal::NotText => report(alloc, &Refusal::Usage, err),

@@ -1,7 +1,7 @@
 ghost use Rattle.std.specs.Prelude.{◌≡◌, ◌≤◌, ◌++◌, IfOk, string_bytes, codes};
 ghost use Rattle.command_ends.specs.Output.{PutsBeginning};
 ghost use Rattle.command_ends.specs.Refusals.{status_of, line_text, fault_line, line_fault_name, no_answer_text, scenario_fault_text};
-ghost use Rattle.command_ends.specs.Ended.{Told, ErrorSink};
+ghost use Rattle.command_ends.specs.Ended.{sink_of, Told, ErrorSink};
 
 use crate::refusal::{LineFault, NoAnswer, Refusal, ScenarioFault};
 use outside::{PutAnswer, Sink};
@@ -10,7 +10,7 @@ use std::alloc::{AllocError, Global};
 
 /// Puts a refusal's line, and gives the status.
 pub fn report<E: Sink>(alloc: Global, refusal: &Refusal, err: &mut E) -> u8
-    ensures told { Told refusal.now record { faults_before = E.faults err.old; faults_after = E.faults err.new; put_before = E.told err.old; put_after = E.told err.new } result }
+    ensures told { Told refusal.now (sink_of (E.faults err.old) (E.faults err.new) (E.told err.old) (E.told err.new)) result }
 {
     match line_of(alloc, refusal) {
         Ok(line) => match err.put(line.as_bytes()) {

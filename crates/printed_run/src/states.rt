@@ -6,11 +6,10 @@ ghost use Rattle.scenario_file.specs.Valid.{IsScenario};
 ghost use Rattle.world_rules.specs.Scenarios.{masters_in};
 ghost use Rattle.printed_run.specs.Printed.{master_lines, client_lines, bench_lines, IsOf};
 
-use crate::halting::is_halted;
 use plain_lists::Want;
 use run_lines::{put_intruded, put_master, put_proxy, put_screen};
 use scenario_file::Scenario;
-use world_history::Bench;
+use world_history::{Bench, is_halted};
 
 /// Appends what each actor came to, in the order of their numbers.
 pub(crate) fn put_states(

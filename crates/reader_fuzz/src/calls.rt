@@ -2,9 +2,11 @@
 use anyhow::{Context, Result};
 use made_inputs::calls::{SEPARATOR, first_word};
 use outside::{MemoryFiles, MemorySink};
+use run_program::call::spire;
 use sha2::{Digest, Sha256};
 use std::alloc::Global;
-use whole_runs::call::spire;
+use std::sync::Wait;
+use std::thread::Threads;
 
 const COMMANDS: [&str; 10] = [
     "play", "run", "replay", "make", "keys", "verify", "parts", "rebuild", "blame", "trend",
@@ -20,12 +22,17 @@ struct Ending {
     line: Vec<u8>,
 }
 
-fn run(alloc: Global, words: &str, files: [&[u8]; 3]) -> Result<Ending> {
+fn run<R: Threads + Wait + Sync>(
+    rt: &R,
+    alloc: Global,
+    words: &str,
+    files: [&[u8]; 3],
+) -> Result<Ending> {
     let words = words_of(alloc, words)?;
     let mut files = memory_files(alloc, files)?;
     let mut out = MemorySink::make(alloc, Vec::new(alloc));
     let mut err = MemorySink::make(alloc, Vec::new(alloc));
-    let status = spire(alloc, words.as_slice(), &mut files, &mut out, &mut err);
+    let status = spire(rt, alloc, words.as_slice(), &mut files, &mut out, &mut err);
     ended(alloc, status, out.bytes(), err.bytes())
 }
 
@@ -54,8 +61,14 @@ fn memory_files(alloc: Global, contents: [&[u8]; 3]) -> Result<MemoryFiles> {
 }
 
 /// The text of a play without words of intruded masters.
-pub fn played(alloc: Global, scenario: &str, script: &str) -> Result<String> {
+pub fn played<R: Threads + Wait + Sync>(
+    rt: &R,
+    alloc: Global,
+    scenario: &str,
+    script: &str,
+) -> Result<String> {
     let ending = run(
+        rt,
         alloc,
         "play a b c",
         [scenario.as_bytes(), script.as_bytes(), b""],
@@ -66,14 +79,14 @@ pub fn played(alloc: Global, scenario: &str, script: &str) -> Result<String> {
 /// What the program ends a call with. The answer begins with the command, the status and, of a file's or a history's refusal,
 /// the file and the fault, in one word; then comes what else the refusal says, or the digest of the text. Words that are no text
 /// are `untold`.
-pub fn answer(alloc: Global, input: &[u8]) -> Result<String> {
+pub fn answer<R: Threads + Wait + Sync>(rt: &R, alloc: Global, input: &[u8]) -> Result<String> {
     let (words, rest) = cut(input);
     let (first, rest) = cut(rest);
     let (second, third) = cut(rest);
     let Ok(words) = std::str::from_utf8(words) else {
         return Ok(String::from_str(alloc, "untold")?);
     };
-    let ending = run(alloc, words, [first, second, third])?;
+    let ending = run(rt, alloc, words, [first, second, third])?;
     told(alloc, command_of(words), &ending)
 }
 

@@ -19,6 +19,8 @@ use readers::Reader;
 use room::Room;
 use std::env;
 use std::rt::Env;
+use std::sync::Wait;
+use std::thread::Threads;
 
 /// From which seed to make how many inputs.
 #[derive(Clone, Copy)]
@@ -28,11 +30,16 @@ struct Inputs {
 }
 
 // Prints each input with its answer.
-fn show<R: AllocGlobal + Print>(rt: &R, room: &Room, reader: Reader, inputs: Inputs) -> Result<()> {
+fn show<R: AllocGlobal + Print + Threads + Wait + Sync>(
+    rt: &R,
+    room: &Room,
+    reader: Reader,
+    inputs: Inputs,
+) -> Result<()> {
     for number in 0..inputs.count {
         let mut draws = Draws::of_input(inputs.seed, number);
         let input = reader.input(room, &mut draws)?;
-        let answer = reader.answer(room, &input)?;
+        let answer = reader.answer(rt, room, &input)?;
         let input = hex::encode(rt.alloc(), &input)?;
         let answer = hex::encode(rt.alloc(), answer.as_bytes())?;
         println!(rt; "{input} {answer}")?;
@@ -41,7 +48,7 @@ fn show<R: AllocGlobal + Print>(rt: &R, room: &Room, reader: Reader, inputs: Inp
 }
 
 // Prints how often there was which answer.
-fn count<R: AllocGlobal + Print>(
+fn count<R: AllocGlobal + Print + Threads + Wait + Sync>(
     rt: &R,
     room: &Room,
     reader: Reader,
@@ -51,13 +58,13 @@ fn count<R: AllocGlobal + Print>(
     for number in 0..inputs.count {
         let mut draws = Draws::of_input(inputs.seed, number);
         let input = reader.input(room, &mut draws)?;
-        let answer = reader.answer(room, &input)?;
+        let answer = reader.answer(rt, room, &input)?;
         counts.add(answer.as_str())?;
     }
     counts.print(rt, reader.word())
 }
 
-fn run<R: Env + AllocGlobal + Print>(rt: &R) -> Result<()> {
+fn run<R: Env + AllocGlobal + Print + Threads + Wait + Sync>(rt: &R) -> Result<()> {
     let mut words = env::args(rt)?.skip(1);
     let word = words.next().context("a reader")?;
     let seed = words.next().context("a seed")?;
@@ -68,7 +75,7 @@ fn run<R: Env + AllocGlobal + Print>(rt: &R) -> Result<()> {
         seed,
         count: number,
     };
-    let room = Room::make(rt.alloc())?;
+    let room = Room::make(rt, rt.alloc())?;
     if word.as_str() == "all" {
         for reader in Reader::ALL {
             count(rt, &room, reader, inputs)?;

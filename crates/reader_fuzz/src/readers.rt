@@ -6,6 +6,8 @@ use made_inputs::draws::Draws;
 use made_inputs::entries::entry;
 use made_inputs::mutations::change;
 use made_inputs::{modbus, texts};
+use std::sync::Wait;
+use std::thread::Threads;
 
 /// A reader of bytes that others may have written.
 #[derive(Clone, Copy)]
@@ -95,7 +97,12 @@ impl Reader {
     }
 
     /// What the reader answers: `ok`, or the fault and where it is.
-    pub fn answer(self, room: &Room, input: &[u8]) -> Result<String> {
+    pub fn answer<R: Threads + Wait + Sync>(
+        self,
+        rt: &R,
+        room: &Room,
+        input: &[u8],
+    ) -> Result<String> {
         let alloc = room.alloc;
         match self {
             Reader::Frame => answers::frame_answer(alloc, input),
@@ -109,7 +116,7 @@ impl Reader {
             Reader::Sayings => answers::sayings_answer(alloc, input),
             Reader::History => answers::history_answer(alloc, input),
             Reader::Parts => answers::parts_answer(alloc, input),
-            Reader::Call => calls::answer(alloc, input),
+            Reader::Call => calls::answer(rt, alloc, input),
         }
     }
 }

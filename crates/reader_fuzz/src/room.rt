@@ -9,6 +9,8 @@ use made_inputs::keys::{Keys, public_keys};
 use made_inputs::plant::{alarms, points};
 use point_table::Points;
 use std::alloc::Global;
+use std::sync::Wait;
+use std::thread::Threads;
 
 /// Four masters, of which m3 is intruded, one screen, and a device with a feeder's current and two coils.
 pub fn scenario_text() -> &'static str {
@@ -54,7 +56,7 @@ impl Drop for Room {
 }
 
 impl Room {
-    pub fn make(alloc: Global) -> Result<Room> {
+    pub fn make<R: Threads + Wait + Sync>(rt: &R, alloc: Global) -> Result<Room> {
         Ok(Room {
             alloc,
             ring: public_keys(alloc)?,
@@ -63,7 +65,7 @@ impl Room {
             unsigned: Frames::unsigned(alloc)?,
             signed: Frames::signed(alloc)?,
             keys: Keys::make(alloc)?,
-            entries: entries(alloc)?,
+            entries: entries(rt, alloc)?,
         })
     }
 
@@ -78,8 +80,8 @@ impl Room {
     }
 }
 
-fn entries(alloc: Global) -> Result<String> {
-    let text = played(alloc, SCENARIO, SCRIPT)?;
+fn entries<R: Threads + Wait + Sync>(rt: &R, alloc: Global) -> Result<String> {
+    let text = played(rt, alloc, SCENARIO, SCRIPT)?;
     let (_, history) = text.as_str().split_once("\nhistory ").context("a history")?;
     let (_, entries) = history.split_once('\n').context("its entries")?;
     Ok(String::from_str(alloc, entries)?)

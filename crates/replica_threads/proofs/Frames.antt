@@ -12,7 +12,7 @@ use Rattle.history_rules.specs.Setup.{stands}
 use Rattle.world_rules.specs.Scenarios.{setup_of, actors_in}
 use Rattle.world_rules.specs.Frames.{addressees}
 use Rattle.script_laws.specs.Accepted.{is_there}
-use Rattle.world_history.proofs.Addressees.{addressees_there}
+use Rattle.world_history.proofs.Addressed.{addressees_there}
 use Rattle.station_turns.specs.declared.held.Turned.{Turned}
 use Rattle.inboxes.specs.declared.pass.InboxPass.{InboxPass}
 use Rattle.replica_threads.specs.declared.posted.Posted.{Posted}

@@ -19,7 +19,7 @@ use Rattle.own_histories.specs.Own.{IsOwnHistory, HasEachStampOnce}
 use Rattle.world_rules.specs.Scenarios.{setup_of, actors_in}
 use Rattle.world_rules.proofs.Fields.{group_is}
 use Rattle.world_history.specs.State.{BenchState}
-use Rattle.world_history.proofs.Addressees.{few_actors}
+use Rattle.world_history.proofs.Addressed.{few_actors}
 use Rattle.world_history.specs.Benches.{lists_of, AreOfAll}
 use Rattle.station_turns.specs.Pace.{is_skip, turns_made, IsPaced, begins, turns, halts}
 use Rattle.station_turns.proofs.CountsGrow.{turn_more, turn_same}

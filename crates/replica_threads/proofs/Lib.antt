@@ -1,9 +1,9 @@
 mod Numbers
 mod Seats
 mod Passes
-mod Lengths
+pub mod Lengths
 mod Fitting
-mod Texts
+mod Given
 mod Ends
 mod Threads
 mod ActorsCross

@@ -23,7 +23,7 @@ use Rattle.command_ends.specs.declared.refusal.Refusal.{Refusal}
 use Rattle.command_ends.specs.declared.refusal.Refusal.TheVariants as refusal
 use Rattle.run_commands.specs.declared.questions.Question.{Question}
 use Rattle.run_commands.specs.Posed.{posed}
-use Rattle.run_commands.specs.Readers.{Readers, Keeps, NoRequest, request_refusal}
+use Rattle.run_commands.specs.Readers.{Readers, KeepsRules, NoRequest, request_refusal}
 use Rattle.run_commands.specs.Reading.{accepted, scenario_at, scenario_refusal, with_scenario, with_history}
 use Rattle.run_commands.specs.Reading.{with_answer, with_pieces}
 use Rattle.run_commands.specs.Course.{QuestionCourse, RebuildCourse, CommandStep, AskedStep, NextStep}
@@ -127,7 +127,7 @@ abbrev ComesLast : Readers → Call → Question → Step → Type 0
 ComesLast r call asked step = (c : Contents) × (history : List Entry) × Spells r call asked c history
     × (step ≡ with_answer r c history asked)
 
-question-whole : (r : Readers) → Keeps r → (call : Call) (scenario name : List ℕ) (asked : Question)
+question-whole : (r : Readers) → KeepsRules r → (call : Call) (scenario name : List ℕ) (asked : Question)
     → option_and_then posed (wanted_in call.words) ≡ Some (scenario, name, asked)
     → (a b first second : List ℕ) (step : Step) → IsContent (call.held a) first → IsContent (call.held b) second
     → Load a ≡ Load scenario → Load b ≡ with_scenario first (λ c. Load name)
@@ -158,7 +158,7 @@ question-whole r laws call scenario name asked named a b first second step at_a 
       two.2,
     )
 
-question-run : (r : Readers) → Keeps r → (call : Call) (scenario name : List ℕ) (asked : Question) (step : Step)
+question-run : (r : Readers) → KeepsRules r → (call : Call) (scenario name : List ℕ) (asked : Question) (step : Step)
     → option_and_then posed (wanted_in call.words) ≡ Some (scenario, name, asked) → is_last step ≡ true
     → (contents : List (List ℕ)) → Loaded (NextStep r call.words) call.held [] contents →
     NextStep r call.words contents step → ComesLast r call asked step
@@ -202,7 +202,7 @@ of-asked : (o : Option (List ℕ × List ℕ × Question)) (asked : Question) �
 of-asked None asked is = none asked is
 of-asked (Some p) asked is = (p.0, p.1, ap (λ (q : Question). Some (p.0, p.1, q)) (same_Some p.2 asked is))
 
-by-text : (r : Readers) → Keeps r → (call : Call) (text : List ℕ) →
+by-text : (r : Readers) → KeepsRules r → (call : Call) (text : List ℕ) →
     Comes (NextStep r call.words) call.held [] (Gives text)
     → call.put_after ≡ with_piece call.put_before text → (asked : Question) → asked_by call.words ≡ Some asked →
     Answered r call asked
@@ -218,7 +218,7 @@ by-text r laws call text comes put asked is =
       put = put;
     }
 
-by-lack : (r : Readers) → Keeps r → (call : Call) (err : ErrorSink) (status : ℕ) (why : NoAnswer)
+by-lack : (r : Readers) → KeepsRules r → (call : Call) (err : ErrorSink) (status : ℕ) (why : NoAnswer)
     → Comes (NextStep r call.words) call.held [] (Refuses (refusal.NoAnswer why)) → PutsNothing call →
     Told (refusal.NoAnswer why) err status
     → (asked : Question) → asked_by call.words ≡ Some asked → Unanswered r call err status asked
@@ -264,7 +264,7 @@ not-nine status zero nine = absurd (omega arith)
 abbrev CausedAndTold : Readers → Call → ErrorSink → ℕ → Refusal → Type 0
 CausedAndTold r call err status why = CauseOf (NextStep r) call (Err why) × Told why err status
 
-keeps-by : (r : Readers) → Keeps r → (call : Call) (err : ErrorSink) (status : ℕ) (result : Result (Unit {0}) Refusal)
+keeps-by : (r : Readers) → KeepsRules r → (call : Call) (err : ErrorSink) (status : ℕ) (result : Result (Unit {0}) Refusal)
     → CauseOf (NextStep r) call result → Finishes result err status → KeepsAnswers r call err status
 keeps-by r laws call err status (Ok done) cause finish = record {
   answers = λ zero asked is. by-text r laws call cause.0 cause.1 cause.2 asked is;
@@ -280,7 +280,7 @@ keeps-by r laws call err status (Err why) cause finish = record {
 }
 
 -- Each question that ends well is answered, and each with status 9 has no answer.
-pub answers : (r : Readers) → Keeps r → (call : Call) (err : ErrorSink) (status : ℕ) →
+pub answers : (r : Readers) → KeepsRules r → (call : Call) (err : ErrorSink) (status : ℕ) →
     Ends (NextStep r) call err status → KeepsAnswers r call err status
 answers r laws call err status ends = keeps-by r laws call err status ends.result ends.cause ends.finish
 

@@ -1,4 +1,4 @@
--- Why the headline holds of a play or a replay that ends well.
+-- Why the headline holds of a play, a replay or a run in threads that ends well.
 use Rattle.std.proofs.Common.{◌≡◌, ◌<◌, ℕ, Bool, true, false, List, [], ◌∷◌, Option, None, Some, Result, Ok, Err}
 use Rattle.std.proofs.Common.{refl, sym, ◌∙◌, ap, subst, arith, true≢false}
 use Rattle.std.specs.Prelude.{if◌then◌else◌}
@@ -27,10 +27,11 @@ use Rattle.command_ends.specs.Ended.{ErrorSink, Ends, Finishes, Told}
 use Rattle.command_ends.specs.declared.refusal.LineFault.{LineFault}
 use Rattle.command_ends.specs.declared.refusal.Refusal.{Refusal}
 use Rattle.command_ends.specs.declared.refusal.Refusal.TheVariants as refusal
-use Rattle.run_commands.specs.Readers.{Readers, Keeps}
+use Rattle.run_commands.specs.Readers.{Readers, KeepsRules, are_in_range}
 use Rattle.run_commands.specs.Reading.{accepted, scenario_at, scenario_refusal, script_refusal, words_refusal}
 use Rattle.run_commands.specs.Reading.{with_scenario, with_script}
 use Rattle.run_commands.specs.Course.{CommandStep, AskedStep, NextStep, play_step, replay_step}
+use Rattle.run_commands.specs.Course.{Accepted, RunCourse, RunEnds, RunStep}
 use Rattle.run_commands.specs.Headline.{IsRun, Headline, KeepsHeadline, asks_for_run}
 use Rattle.command_ends.proofs.Completes.{file_of, is_text, text_in}
 
@@ -95,7 +96,7 @@ due-third due first second name c lines one two is =
     is ∙ ap (λ a. accepted scenario_refusal a (λ (d : Contents). with_script d second (λ ls. Load due))) one
     ∙ ap (λ a. accepted script_refusal a (λ (ls : List Line). Load due)) two
 
-play-whole : (r : Readers) → Keeps r → (call : Call) (scenario script words text first second third : List ℕ)
+play-whole : (r : Readers) → KeepsRules r → (call : Call) (scenario script words text first second third : List ℕ)
     → wanted_in call.words ≡ Some (play scenario script words) → (a b d : List ℕ) → IsContent (call.held a) first →
     IsContent (call.held b) second → IsContent (call.held d) third
     → Load a ≡ play_step r scenario script words [] → Load b ≡ play_step r scenario script words (first ∷ []) →
@@ -129,7 +130,7 @@ play-whole r laws call scenario script words text first second third asked a b d
       agreed = headline_of_legal c history valid legal;
     }
 
-play-run : (r : Readers) → Keeps r → (call : Call) (scenario script words text : List ℕ) →
+play-run : (r : Readers) → KeepsRules r → (call : Call) (scenario script words text : List ℕ) →
     wanted_in call.words ≡ Some (play scenario script words)
     → (contents : List (List ℕ)) → Loaded (NextStep r call.words) call.held [] contents →
     NextStep r call.words contents (Gives text)
@@ -157,7 +158,7 @@ play-run r laws call scenario script words text asked (first ∷ second ∷ thir
 
 -- ---- A replay.
 
-replay-whole : (r : Readers) → Keeps r → (call : Call) (scenario spelt text first second : List ℕ)
+replay-whole : (r : Readers) → KeepsRules r → (call : Call) (scenario spelt text first second : List ℕ)
     → wanted_in call.words ≡ Some (replay scenario spelt) → (a b : List ℕ) → IsContent (call.held a) first →
     IsContent (call.held b) second
     → Load a ≡ replay_step r scenario spelt [] → Load b ≡ replay_step r scenario spelt (first ∷ [])
@@ -182,7 +183,7 @@ replay-whole r laws call scenario spelt text first second asked a b at_a at_b du
       agreed = headline_of_legal c history valid legal;
     }
 
-replay-run : (r : Readers) → Keeps r → (call : Call) (scenario spelt text : List ℕ) →
+replay-run : (r : Readers) → KeepsRules r → (call : Call) (scenario spelt text : List ℕ) →
     wanted_in call.words ≡ Some (replay scenario spelt)
     → (contents : List (List ℕ)) → Loaded (NextStep r call.words) call.held [] contents →
     NextStep r call.words contents (Gives text)
@@ -202,11 +203,98 @@ replay-run r laws call scenario spelt text asked (first ∷ second ∷ more) loa
 
 -- ---- Both.
 
--- words that ask for neither
+-- ---- A run in threads.
+
+-- where a text may come of an answer, there was a value
+text-after : {A E : Type 0} (refuse : E → Refusal) (answer : Result A E) (After : A → Step → Type 0) (text : List ℕ) →
+    Accepted refuse answer After (Gives text)
+    → (value : A) × (answer ≡ Ok value) × After value (Gives text)
+text-after refuse (Ok value) After text gives = (value, refl, gives)
+text-after refuse (Err e) After text gives = absurd (true≢false (ap is_text gives))
+
+as-run : (r : Readers) (in-range : Bool) (scenario script words : List ℕ) (turns : ℕ) (contents : List (List ℕ))
+    (step : Step) → is_refusal step ≡ false
+    → RunStep r in-range scenario script words turns contents step →
+    RunCourse r scenario script words turns contents step
+as-run r true scenario script words turns contents step other next = next
+as-run r false scenario script words turns contents step other next =
+    absurd (true≢false (sym (ap is_refusal next) ∙ other))
+
+run-whole : (r : Readers) → KeepsRules r → (call : Call) (scenario script words : List ℕ) (hands turns : ℕ)
+    (text first second third : List ℕ)
+    → wanted_in call.words ≡ Some (run scenario script words hands turns)
+    → (a b d : List ℕ) → IsContent (call.held a) first → IsContent (call.held b) second → IsContent (call.held d) third
+    → RunCourse r scenario script words turns [] (Load a)
+    → RunCourse r scenario script words turns (first ∷ []) (Load b)
+    → RunCourse r scenario script words turns (first ∷ second ∷ []) (Load d)
+    → RunCourse r scenario script words turns (first ∷ second ∷ third ∷ []) (Gives text)
+    → call.put_after ≡ with_piece call.put_before text → Headline r call
+run-whole r laws call scenario script words hands turns text first second third asked a b d at_a at_b
+    at_d due_a due_b due_d is put =
+    let one = text-after scenario_refusal (scenario_at first)
+    (λ c. Accepted script_refusal (script_in (who_of c) second)
+    (λ ls. Accepted words_refusal (words_in (who_of c) third) (RunEnds r turns c ls))) text is in
+    let c : Contents = one.0 in
+    let two = text-after script_refusal (script_in (who_of c) second)
+    (λ ls. Accepted words_refusal (words_in (who_of c) third) (RunEnds r turns c ls)) text one.2 in
+    let lines : List Line = two.0 in
+    let three = text-after words_refusal (words_in (who_of c) third) (RunEnds r turns c lines) text two.2 in
+    let sayings : List Saying = three.0 in
+    let gives : RunEnds r turns c lines sayings (Gives text) = three.2 in
+    let history : List Entry = gives.0 in
+    let valid : IsScenario c = scenario-valid first c one.1 in
+    let legal = laws.run_legal c lines sayings turns history gives.1 in
+    record {
+      scenario = c;
+      history = history;
+      run = IsRun.runs scenario script words hands turns asked first second third
+          (same-file call.held a scenario first due_a at_a)
+          (same-file call.held b script second (due-second script first b c one.1 due_b) at_b)
+          (same-file call.held d words third (due-third words first second d c lines one.1 two.1 due_d) at_d)
+          lines sayings one.1 two.1 three.1 gives.1;
+      legal = legal;
+      put = put ∙ ap (λ (s : Step). with_piece call.put_before (text_in s)) gives.2;
+      agreed = headline_of_legal c history valid legal;
+    }
+
+next-run : (r : Readers) (words : List (List ℕ)) (scenario script spoken : List ℕ) (hands turns : ℕ)
+    (contents : List (List ℕ)) (step : Step) → wanted_in words ≡ Some (run scenario script spoken hands turns)
+    → is_refusal step ≡ false → NextStep r words contents step → RunCourse r scenario script spoken turns contents step
+next-run r words scenario script spoken hands turns contents step asked other next =
+    as-run r (are_in_range hands turns) scenario script spoken turns contents step other
+    (next-command r words (run scenario script spoken hands turns) contents step asked other next)
+
+run-run : (r : Readers) → KeepsRules r → (call : Call) (scenario script words : List ℕ) (hands turns : ℕ)
+    (text : List ℕ) → wanted_in call.words ≡ Some (run scenario script words hands turns)
+    → (contents : List (List ℕ)) → Loaded (NextStep r call.words) call.held [] contents →
+    NextStep r call.words contents (Gives text)
+    → call.put_after ≡ with_piece call.put_before text → Headline r call
+run-run r laws call scenario script words hands turns text asked [] loaded next put =
+    absurd (no-text scenario text
+    (next-run r call.words scenario script words hands turns [] (Gives text) asked refl next))
+run-run r laws call scenario script words hands turns text asked (first ∷ []) loaded next put =
+    let one = accepted-gives scenario_refusal (scenario_at first) (λ c. Load script) text
+    (next-run r call.words scenario script words hands turns (first ∷ []) (Gives text) asked refl next) in
+    absurd (no-text script text one.2)
+run-run r laws call scenario script words hands turns text asked (first ∷ second ∷ []) loaded next put =
+    let one = accepted-gives scenario_refusal (scenario_at first) (λ c. with_script c second (λ lines. Load words)) text
+    (next-run r call.words scenario script words hands turns (first ∷ second ∷ []) (Gives text) asked refl next) in
+    let two = accepted-gives script_refusal (script_in (who_of one.0) second) (λ lines. Load words) text one.2 in
+    absurd (no-text words text two.2)
+run-run r laws call scenario script words hands turns text asked (first ∷ second ∷ third ∷ more) loaded next put =
+    let course = next-run r call.words scenario script words hands turns in
+    run-whole r laws call scenario script words hands turns text first second third asked
+    loaded.0 loaded.4.0 loaded.4.4.0 loaded.2 loaded.4.2 loaded.4.4.2
+    (course [] (Load loaded.0) asked refl loaded.1)
+    (course (first ∷ []) (Load loaded.4.0) asked refl loaded.4.1)
+    (course (first ∷ second ∷ []) (Load loaded.4.4.0) asked refl loaded.4.4.1)
+    (course (first ∷ second ∷ third ∷ more) (Gives text) asked refl next) put
+
+-- words that ask for none of these
 not-asked : false ≡ true → {A : Type 0} → A
 not-asked is = absurd (true≢false (sym is))
 
-by-wanted : (r : Readers) → Keeps r → (call : Call) (text : List ℕ) (o : Option Wanted) → wanted_in call.words ≡ o →
+by-wanted : (r : Readers) → KeepsRules r → (call : Call) (text : List ℕ) (o : Option Wanted) → wanted_in call.words ≡ o →
     asks_for_run o ≡ true
     → (contents : List (List ℕ)) → Loaded (NextStep r call.words) call.held [] contents →
     NextStep r call.words contents (Gives text)
@@ -220,7 +308,7 @@ by-wanted r laws call text (Some (make number)) asked asks contents loaded next 
 by-wanted r laws call text (Some (keys scenario)) asked asks contents loaded next put = not-asked asks
 by-wanted r laws call text (Some (verify public message sig)) asked asks contents loaded next put = not-asked asks
 by-wanted r laws call text (Some (run scenario script words hands turns)) asked asks contents loaded next put =
-    not-asked asks
+    run-run r laws call scenario script words hands turns text asked contents loaded next put
 by-wanted r laws call text (Some (parts scenario history originator number)) asked asks contents loaded next put =
     not-asked asks
 by-wanted r laws call text (Some (rebuild scenario pieces)) asked asks contents loaded next put = not-asked asks
@@ -247,13 +335,13 @@ refused-not-well why err status zero (Told.whole is none line) = let some = stat
 refused-not-well why err status zero (Told.begun is risen put) = let some = status-some why in absurd (omega arith)
 refused-not-well why err status zero (Told.memory is put) = absurd (omega arith)
 
-by-result : (r : Readers) → Keeps r → (call : Call) (err : ErrorSink) (status : ℕ) (result : Result (Unit {0}) Refusal)
+by-result : (r : Readers) → KeepsRules r → (call : Call) (err : ErrorSink) (status : ℕ) (result : Result (Unit {0}) Refusal)
     → CauseOf (NextStep r) call result → Finishes result err status → KeepsHeadline r call status
 by-result r laws call err status (Ok done) cause finish zero asks =
     by-wanted r laws call cause.0 (wanted_in call.words) refl asks cause.1.0 cause.1.1 cause.1.2 cause.2
 by-result r laws call err status (Err why) cause finish zero asks = absurd (refused-not-well why err status zero finish)
 
--- The headline holds of each play and each replay that ends well.
-pub headline : (r : Readers) → Keeps r → (call : Call) (err : ErrorSink) (status : ℕ) →
+-- The headline holds of each play, each replay and each run in threads that ends well.
+pub headline : (r : Readers) → KeepsRules r → (call : Call) (err : ErrorSink) (status : ℕ) →
     Ends (NextStep r) call err status → KeepsHeadline r call status
 headline r laws call err status ends = by-result r laws call err status ends.result ends.cause ends.finish

@@ -14,7 +14,7 @@ use Rattle.command_ends.specs.Calls.{TextCause}
 use Rattle.command_ends.specs.declared.refusal.LineFault.{LineFault}
 use Rattle.command_ends.specs.declared.refusal.Refusal.{Refusal}
 use Rattle.command_ends.specs.declared.refusal.Refusal.TheVariants as refusal
-use Rattle.made_runs.specs.Script.{made_script}
+use Rattle.run_commands.specs.MadeScript.{made_script}
 use Rattle.run_commands.specs.Readers.{Readers, PlayGives, ReplayGives}
 use Rattle.run_commands.specs.Reading.{accepted, with_scenario, with_script, with_words, with_play, with_history}
 use Rattle.run_commands.specs.Course.{play_step, made_history, VerifyStep, CommandStep, AskedStep, NextStep}

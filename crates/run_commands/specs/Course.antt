@@ -1,21 +1,28 @@
 -- What each command does, step by step. (This project's own.)
-use Rattle.std.specs.Prelude.{◌≡◌, ◌⊎◌, ℕ, Bool, true, false, List, [], ◌∷◌, Option, None, Some}
+use Rattle.std.specs.Prelude.{◌≡◌, ◌⊎◌, ℕ, Bool, true, false, List, [], ◌∷◌, Option, None, Some, Result, Ok, Err}
 use Rattle.scenario_file.specs.Reading.{Contents}
 use Rattle.history_rules.specs.Events.{Entry}
+use Rattle.script_grammar.specs.Names.{who_of}
+use Rattle.script_lines.specs.Scripts.{script_in}
+use Rattle.script_lines.specs.Sayings.{words_in}
+use Rattle.script_lines.specs.declared.script.Line.{Line}
+use Rattle.script_lines.specs.declared.saying.Saying.{Saying}
 use Rattle.hash_signatures.specs.Verification.{Verifies}
 use Rattle.command_words.specs.Wanted.{Wanted, play, run, replay, make, keys, verify, parts, rebuild, blame, trend}
 use Rattle.command_words.specs.Wanted.{is_command, wanted_in}
-use Rattle.made_runs.specs.Scenario.{made_scenario}
-use Rattle.made_runs.specs.Script.{made_script}
-use Rattle.made_runs.specs.Summary.{summary}
-use Rattle.key_commands.specs.Keys.{keys_text}
-use Rattle.key_commands.specs.Verifying.{public_in, verified_text}
+use Rattle.run_commands.specs.MadeScenario.{made_scenario}
+use Rattle.run_commands.specs.MadeScript.{made_script}
+use Rattle.run_commands.specs.Summary.{summary}
+use Rattle.run_commands.specs.Keys.{keys_text}
+use Rattle.run_commands.specs.Verifying.{public_in, verified_text}
 use Rattle.command_ends.specs.Steps.{Step}
 use Rattle.command_ends.specs.Steps.Step.{Load, Gives, Refuses}
+use Rattle.command_ends.specs.declared.refusal.Refusal.{Refusal}
 use Rattle.command_ends.specs.declared.refusal.Refusal.TheVariants as refusal
 use Rattle.run_commands.specs.declared.questions.Question.{Question}
 use Rattle.run_commands.specs.declared.questions.Question.TheVariants as question
-use Rattle.run_commands.specs.Readers.{Readers}
+use Rattle.run_commands.specs.Readers.{Readers, are_in_range}
+use Rattle.run_commands.specs.Reading.{scenario_at, scenario_refusal, script_refusal, words_refusal}
 use Rattle.run_commands.specs.Reading.{with_scenario, with_script, with_words, with_play, with_history, with_answer}
 use Rattle.run_commands.specs.Reading.{with_pieces}
 
@@ -27,6 +34,29 @@ play_step r scenario script words (a ∷ b ∷ []) = with_scenario a (λ c. with
 play_step r scenario script words (a ∷ b ∷ d ∷ more) =
     with_scenario a (λ c. with_script c b (λ lines. with_words c d (λ sayings.
     with_play r c lines sayings (λ history. Gives (r.text_of c history)))))
+
+-- after an answer one of the steps that may come for its value, or the refusal of its fault
+abbrev pub Accepted : {A E : Type 0} → (E → Refusal) → Result A E → (A → Step → Type 0) → Step → Type 0
+Accepted refuse (Ok value) After step = After value step
+Accepted refuse (Err e) After step = step ≡ Refuses (refuse e)
+
+-- the text of the history of a run in threads, whichever one the threads make
+abbrev pub RunEnds : Readers → ℕ → Contents → List Line → List Saying → Step → Type 0
+RunEnds r turns c lines sayings step =
+    (history : List Entry) × r.may_run c lines sayings turns history × (step ≡ Gives (r.text_of c history))
+
+-- The files of a run in threads are loaded and refused as those of a play are. What comes of them is the text of a run.
+abbrev pub RunCourse : Readers → List ℕ → List ℕ → List ℕ → ℕ → List (List ℕ) → Step → Type 0
+RunCourse r scenario script words turns (a ∷ b ∷ d ∷ more) step =
+    Accepted scenario_refusal (scenario_at a)
+    (λ c. Accepted script_refusal (script_in (who_of c) b)
+    (λ lines. Accepted words_refusal (words_in (who_of c) d) (RunEnds r turns c lines))) step
+RunCourse r scenario script words turns contents step = step ≡ play_step r scenario script words contents
+
+-- other numbers of hands or turns are no command
+abbrev pub RunStep : Readers → Bool → List ℕ → List ℕ → List ℕ → ℕ → List (List ℕ) → Step → Type 0
+RunStep r true scenario script words turns contents step = RunCourse r scenario script words turns contents step
+RunStep r false scenario script words turns contents step = step ≡ Refuses refusal.Usage
 
 -- those of a replay are the scenario and the history
 abbrev pub replay_step : Readers → List ℕ → List ℕ → List (List ℕ) → Step
@@ -84,15 +114,16 @@ rebuild_step r scenario pieces (a ∷ b ∷ more) = with_scenario a (λ c. with_
 abbrev pub RebuildCourse : Readers → List ℕ → List ℕ → List (List ℕ) → Step → Type 0
 RebuildCourse r scenario pieces contents step = step ≡ rebuild_step r scenario pieces contents
 
--- What comes next in a command, after the contents of the files loaded so far. Runs in threads are `spire`'s
--- matter, and are refused here.
+-- What may come next in a command, after the contents of the files loaded so far: of a run in threads one of several
+-- texts, else one step.
 abbrev pub CommandStep : Readers → Wanted → List (List ℕ) → Step → Type 0
 CommandStep r (play scenario script words) contents step = step ≡ play_step r scenario script words contents
 CommandStep r (replay scenario history) contents step = step ≡ replay_step r scenario history contents
 CommandStep r (make number) contents step = step ≡ make_step r number
 CommandStep r (keys scenario) contents step = KeysCourse scenario contents step
 CommandStep r (verify public message sig) contents step = VerifyCourse (public_in public) message sig contents step
-CommandStep r (run scenario script words hands turns) contents step = step ≡ Refuses refusal.Usage
+CommandStep r (run scenario script words hands turns) contents step =
+    RunStep r (are_in_range hands turns) scenario script words turns contents step
 CommandStep r (parts scenario history originator number) contents step =
     QuestionCourse r scenario history (question.Parts originator number) contents step
 CommandStep r (rebuild scenario pieces) contents step = RebuildCourse r scenario pieces contents step

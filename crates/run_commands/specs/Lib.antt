@@ -1,3 +1,8 @@
+pub mod MadeScenario
+pub mod MadeScript
+pub mod Summary
+pub mod Keys
+pub mod Verifying
 pub mod Posed
 pub mod Readers
 pub mod Reading
@@ -6,3 +11,4 @@ pub mod Opened
 pub mod Made
 pub mod Headline
 pub mod Answered
+pub mod Keeps

@@ -3,7 +3,7 @@ use Rattle.std.specs.Prelude.{◌≡◌, ℕ, List, Result, Ok, Err}
 use Rattle.std.specs.declared.vec.Vec.{Vec}
 use Rattle.std.specs.declared.alloc.Global.{Global}
 use Rattle.hash_signatures.specs.Verification.{Verifies}
-use Rattle.key_commands.specs.Verifying.{verified_text}
+use Rattle.run_commands.specs.Verifying.{verified_text}
 use Rattle.scenario_file.specs.Reading.{Contents}
 use Rattle.history_rules.specs.Events.{Entry}
 use Rattle.command_ends.specs.Steps.{Step}

@@ -1,5 +1,5 @@
 -- What plays and printed runs are, by the names of their definitions.
-use Rattle.std.specs.Prelude.{◌≡◌, ℕ, Bool, true, false, not, List, Result, Ok, Err}
+use Rattle.std.specs.Prelude.{◌≡◌, ◌&&◌, ℕ, Bool, true, false, not, nat_le, List, Result, Ok, Err}
 use Rattle.std.specs.List.{list_all}
 use Rattle.std.specs.declared.vec.Vec.{Vec}
 use Rattle.std.specs.declared.alloc.Global.{Global}
@@ -30,10 +30,11 @@ pub data NoRequest : Type 0 where
   NoText : NoRequest
 
 -- The one history of a script and words, the history that a text spells, and the text of a history; or the first fault
--- with its number. Then what a question over a history is answered with, and the request that lines of parts rebuild,
--- as text; or why there is none.
-pub record Readers : Type 0 where
+-- with its number. Which histories a run in threads of a script and words may make, for so many turns. Then what a
+-- question over a history is answered with, and the request that lines of parts rebuild, as text; or why there is none.
+pub record Readers : Type 1 where
   pub played : Contents → List Line → List Saying → Result (List Entry) (LineFault × ℕ)
+  pub may_run : Contents → List Line → List Saying → ℕ → List Entry → Type 0
   pub history_in : Contents → List ℕ → Result (List Entry) (LineFault × ℕ)
   pub text_of : Contents → List Entry → List ℕ
   pub answered : Contents → List Entry → Question → Result (List ℕ) NoAnswer
@@ -54,15 +55,21 @@ IsScriptOf c lines = (bytes : List ℕ) × (script_in (who_of c) bytes ≡ Ok li
 abbrev pub AreWordsOf : Contents → List Saying → Type 0
 AreWordsOf c sayings = (bytes : List ℕ) × (words_in (who_of c) bytes ≡ Ok sayings)
 
--- What holds of these: a history played from files is legal, and without raw words nothing in it is forged; a history
--- that a text spells is legal.
-pub record Keeps (r : Readers) : Type 0 where
+-- an actor of a run in threads has 1 to 4 hands, and makes 1 to 4,000 turns
+abbrev pub are_in_range : ℕ → ℕ → Bool
+are_in_range hands turns = (nat_le 1 hands && nat_le hands 4) && (nat_le 1 turns && nat_le turns 4000)
+
+-- What holds of these: a history played from files is legal, and without raw words nothing in it is forged; a history of
+-- a run in threads is legal, and so is one that a text spells.
+pub record KeepsRules (r : Readers) : Type 0 where
   pub played_legal : (c : Contents) (lines : List Line) (sayings : List Saying) (history : List Entry) → IsScenario c
       → IsScriptOf c lines → AreWordsOf c sayings → r.played c lines sayings ≡ Ok history
       → IsLegal (setup_of c) history
   pub played_unforged : (c : Contents) (lines : List Line) (sayings : List Saying) (history : List Entry) → IsScenario c
       → IsScriptOf c lines → AreWordsOf c sayings → r.played c lines sayings ≡ Ok history
       → AreNotRaw sayings → forged (setup_of c) history ≡ 0
+  pub run_legal : (c : Contents) (lines : List Line) (sayings : List Saying) (turns : ℕ) (history : List Entry) →
+      r.may_run c lines sayings turns history → IsLegal (setup_of c) history
   pub read_legal : (c : Contents) (text : List ℕ) (history : List Entry) → IsScenario c →
       r.history_in c text ≡ Ok history
       → IsLegal (setup_of c) history
@@ -74,6 +81,13 @@ PlayGives r c lines sayings (Ok text) = (history : List Entry) × (r.played c li
 PlayGives r c lines sayings (Err (refusal.Script fault line)) = r.played c lines sayings ≡ Err (fault, line)
 PlayGives r c lines sayings (Err refusal.Memory) = Unit {0}
 PlayGives r c lines sayings (Err _) = ⊥
+
+-- the text of one of the histories that a run in threads may make, unless memory ran out
+abbrev pub RunGives : Readers → Contents → List Line → List Saying → ℕ → Result (Vec ℕ Global) Refusal → Type 0
+RunGives r c lines sayings turns (Ok text) = (history : List Entry) × r.may_run c lines sayings turns history
+    × (text.items ≡ r.text_of c history)
+RunGives r c lines sayings turns (Err refusal.Memory) = Unit {0}
+RunGives r c lines sayings turns (Err _) = ⊥
 
 -- the text of a history that is read, or why it isn't one
 abbrev pub ReplayGives : Readers → Contents → List ℕ → Result (Vec ℕ Global) Refusal → Type 0

@@ -4,10 +4,12 @@ ghost use Rattle.scenario_file.specs.Valid.{IsScenario};
 ghost use Rattle.run_commands.specs.Course.{made_run, make_step};
 ghost use Rattle.run_commands.specs.Made.{Makes, MakesRun};
 
+use crate::made_scenarios::made_scenario;
+use crate::made_scripts::made_script;
 use crate::opening::{read_scenario, read_script, read_words};
 use crate::runs::Runs;
+use crate::summary_lines::summary;
 use command_ends::Refusal;
-use made_runs::{made_scenario, made_script, summary};
 use scenario_file::Scenario;
 use std::alloc::Global;
 

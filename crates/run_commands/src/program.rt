@@ -9,6 +9,7 @@ use crate::made::make;
 use crate::questions::posed;
 use crate::runs::Runs;
 use crate::scripted::{keys, play, replay};
+use crate::threaded::{RunWords, run};
 use crate::verifying::verify;
 use command_ends::Refusal;
 use command_ends::call::Commands;
@@ -16,18 +17,16 @@ use command_words::{Asked, WordsAnswer, read_words};
 use outside::Files;
 use std::alloc::Global;
 
-/// The program's commands, over plays, replays and what is asked over them.
+/// The program's commands, over plays, runs in threads, replays and what is asked over them.
 #[derive(Drop)]
 pub struct Program<R: Runs + Drop> {
     pub runs: R,
 }
 
 impl<R: Runs + Drop> Commands for Program<R> {
-    ghost use Rattle.std.specs.Prelude.{⊤};
-
     ghost next = { NextStep R.readers };
 
-    ghost ready = { λ _. ⊤ };
+    ghost ready = { λ program. R.ready program.runs };
 
     fn text<F: Files>(
         &self,
@@ -50,6 +49,7 @@ fn command_text<R: Runs, F: Files>(
     asked: Asked<'_>,
     files: &mut F,
 ) -> Result<Vec<u8>, Refusal>
+    requires { R.ready runs.now }
     ensures file_faults { FaultsOfFiles result (F.faults files.old) (F.faults files.new) }
     ensures cause { TextCause (CommandStep R.readers (wanted asked.entry)) (F.held files.old) (F.faults files.old) (F.faults files.new) [] result }
 {
@@ -57,18 +57,19 @@ fn command_text<R: Runs, F: Files>(
         Some((scenario, history, question)) => {
             answer(alloc, runs, scenario, history, question, files)
         }
-        None => run_text(alloc, runs, asked, files),
+        None => unposed_text(alloc, runs, asked, files),
     }
 }
 
 // The text of a command that asks no question.
-fn run_text<R: Runs, F: Files>(
+fn unposed_text<R: Runs, F: Files>(
     alloc: Global,
     runs: &R,
     asked: Asked<'_>,
     files: &mut F,
 ) -> Result<Vec<u8>, Refusal>
-    requires { posed (wanted asked) ≡ None }
+    requires ready { R.ready runs.now }
+    requires none { posed (wanted asked) ≡ None }
     ensures file_faults { FaultsOfFiles result (F.faults files.old) (F.faults files.new) }
     ensures cause { TextCause (CommandStep R.readers (wanted asked.entry)) (F.held files.old) (F.faults files.old) (F.faults files.new) [] result }
 {
@@ -87,7 +88,24 @@ fn run_text<R: Runs, F: Files>(
             signature,
         } => verify(alloc, public, message, signature, files),
         Asked::Rebuild { scenario, pieces } => rebuild(alloc, runs, scenario, pieces, files),
-        // Runs in threads are the matter of `spire`.
+        Asked::Run {
+            scenario,
+            script,
+            words,
+            hands,
+            turns,
+        } => run(
+            alloc,
+            runs,
+            RunWords {
+                scenario,
+                script,
+                words,
+                hands,
+                turns,
+            },
+            files,
+        ),
         _ => Err(Refusal::Usage),
     }
 }

@@ -4,15 +4,19 @@ use scenario_file::Scenario;
 use script_lines::{Script, Words};
 use std::alloc::Global;
 
-/// Plays, replays and what is asked over them, as texts.
+/// Plays, runs in threads, replays and what is asked over them, as texts. The commands stand over this, so that their causes, ends
+/// and texts are proved without any history's crate.
 pub trait Runs {
-    ghost use Rattle.std.specs.Prelude.{ℕ};
+    ghost use Rattle.std.specs.Prelude.{◌≡◌, true};
     ghost use Rattle.scenario_file.specs.Reading.{contents};
     ghost use Rattle.scenario_file.specs.Valid.{IsScenario};
-    ghost use Rattle.run_commands.specs.Readers.{Readers, Keeps, IsScriptOf, AreWordsOf, PlayGives, ReplayGives, AnswerGives, RebuildGives};
+    ghost use Rattle.run_commands.specs.Readers.{Readers, KeepsRules, IsScriptOf, AreWordsOf, PlayGives, RunGives, ReplayGives, AnswerGives, RebuildGives, are_in_range};
 
     // The definitions that the texts go by.
     ghost readers: { Readers };
+
+    // What has to hold for runs in threads: that threads may share what is held.
+    ghost ready: { Self → Type 0 };
 
     /// The text of the play of a script and words, or the line of the script at which it stops.
     fn play_text(
@@ -26,6 +30,24 @@ pub trait Runs {
         requires script { IsScriptOf (contents scenario.now) script.now }
         requires words { AreWordsOf (contents scenario.now) words.now }
         ensures { PlayGives readers (contents scenario.now) script.now words.now result };
+
+    /// The text of a run in threads of a script and words: each master has so many hands (1 to 4) and each other actor one, and
+    /// each makes so many turns (1 to 4,000).
+    fn run_text(
+        &self,
+        alloc: Global,
+        scenario: &Scenario,
+        script: &Script,
+        words: &Words,
+        hands: u32,
+        turns: u32,
+    ) -> Result<Vec<u8>, Refusal>
+        requires ready { ready self.now }
+        requires valid { IsScenario (contents scenario.now) }
+        requires script { IsScriptOf (contents scenario.now) script.now }
+        requires words { AreWordsOf (contents scenario.now) words.now }
+        requires range { are_in_range hands turns ≡ true }
+        ensures { RunGives readers (contents scenario.now) script.now words.now turns result };
 
     /// The text of the history that a printed text spells, or why it spells none.
     fn replay_text(
@@ -60,5 +82,5 @@ pub trait Runs {
 
     /// What holds of the definitions. It does nothing.
     fn keep_rules(&self)
-        ensures { Keeps readers };
+        ensures { KeepsRules readers };
 }

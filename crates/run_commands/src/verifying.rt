@@ -1,11 +1,11 @@
 ghost use Rattle.std.specs.Prelude.{◌≡◌, ℕ, List, [], ◌∷◌};
 ghost use Rattle.command_ends.specs.Calls.{TextCause, FaultsOfFiles};
-ghost use Rattle.key_commands.specs.Verifying.{public_in};
+ghost use Rattle.run_commands.specs.Verifying.{public_in};
 ghost use Rattle.run_commands.specs.Course.{VerifyCourse, VerifyStep};
 ghost use Rattle.run_commands.specs.Made.{VerifyMakes};
 
+use crate::verdicts::{VerifyAnswer, read_public, verify_text};
 use command_ends::{Refusal, load};
-use key_commands::{VerifyAnswer, read_public, verify_text};
 use outside::Files;
 use std::alloc::Global;
 

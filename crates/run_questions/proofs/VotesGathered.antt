@@ -33,7 +33,7 @@ refusal_by count no_point zero_first bad far =
     (cond (zero_first || bad) (Some answer.BadRange) (cond far (Some (answer.NotReached count)) None))
 
 -- a question that isn't refused
-record IsAnswered (points count p first last : ℕ) : Type 0 where
+pub record IsAnswered (points count p first last : ℕ) : Type 0 where
   pub there : p < points
   pub some : 1 ≤ first
   pub range : first ≤ last

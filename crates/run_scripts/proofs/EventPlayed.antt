@@ -28,8 +28,8 @@ use Rattle.run_scripts.specs.Making.{Given, Making, Going, is_cry, is_full, has_
 use Rattle.run_scripts.specs.Making.{stamp_said, posts_at, after, does}
 use Rattle.run_scripts.specs.Playing.{IsMaking, IsPlaying, IsMail, IsKeptAt, Goes, slots_of, slot_at, has_slot}
 use Rattle.run_scripts.specs.Playing.{new_posts}
-use Rattle.world_history.proofs.Addressees.{few_actors}
-use Rattle.run_scripts.proofs.Kinds.{kinds_are_few}
+use Rattle.world_history.proofs.Addressed.{few_actors}
+use Rattle.run_scripts.proofs.KindsAreFew.{kinds_are_few}
 use Rattle.run_scripts.proofs.SoundStays.{stamps_below}
 use Rattle.run_scripts.proofs.EventAdds.{sound_after, acted}
 use Rattle.run_scripts.proofs.PlaySteps.{halted_does, full_does, acts_does}

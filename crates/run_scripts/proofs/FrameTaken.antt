@@ -20,7 +20,7 @@ use Rattle.run_scripts.specs.declared.playing.Playing.{Playing}
 use Rattle.run_scripts.specs.Mail.{post_named, taking}
 use Rattle.run_scripts.specs.Making.{Given, Making, Going, is_cry, has_halted, does, takes, takes_held}
 use Rattle.run_scripts.specs.Playing.{IsMaking, IsPlaying, Goes, FoundAs, slot_at}
-use Rattle.world_history.proofs.Addressees.{few_actors}
+use Rattle.world_history.proofs.Addressed.{few_actors}
 use Rattle.run_scripts.proofs.PlayKeeps.{named_is_well, may_take, takes_well}
 use Rattle.run_scripts.proofs.EventPlayed.{kept_here}
 

@@ -4,7 +4,7 @@
 pub mod Lists
 pub mod DoneAndLeft
 pub mod SlotsKept
-pub mod Kinds
+pub mod KindsAreFew
 pub mod SoundStays
 pub mod EventAdds
 pub mod UnforgedPosts

@@ -8,6 +8,7 @@ use Rattle.std.proofs.lemmas.List.{map_push}
 use Rattle.quorum_sets.specs.Masters.{numbers_below}
 use Rattle.quorum_sets.proofs.Numbered.{below_one_more}
 use Rattle.plain_lists.proofs.Lists.{left_more}
+use Rattle.world_history.proofs.Lists.{all_join}
 
 pub all_flat : {X Y : Type 0} (f : Y → Bool) (g : X → List Y) (xs : List X) →
     list_all (λ x. list_all f (g x)) xs ≡ true → list_all f (flat_map g xs) ≡ true

@@ -15,6 +15,7 @@ use Rattle.run_scripts.specs.Making.{Given, is_raw, bench_at, beginning}
 use Rattle.run_scripts.specs.Playing.{IsMaking, IsMail, IsKeptAt, IsSaidTo}
 use Rattle.run_scripts.proofs.PlayKeeps.{beginning_sound}
 use Rattle.quorum_sets.proofs.Numbered.{length-numbers_below}
+use Rattle.world_history.proofs.Lists.{number_at}
 
 take_none : {X : Type 0} (xs : List X) → take 0 xs ≡ []
 take_none [] = refl

@@ -37,7 +37,7 @@ use Rattle.run_scripts.specs.Making.{posts_at, after}
 use Rattle.run_scripts.specs.Playing.{IsSound, is_held_well, is_posted_well, is_due}
 use Rattle.world_history.proofs.Lists.{all_join}
 use Rattle.run_scripts.proofs.Lists.{all_flat}
-use Rattle.world_history.proofs.Addressees.{addressees_there}
+use Rattle.world_history.proofs.Addressed.{addressees_there}
 use Rattle.history_rules.proofs.Entries.{all_from}
 use Rattle.plain_lists.proofs.Lists.{all_weaker, all_at_place}
 use Rattle.agreement.proofs.Places.{stands_in}

@@ -39,7 +39,7 @@ use Rattle.intruder_words.proofs.Learning.{read-cry}
 use Rattle.world_history.specs.State.{BenchState, setup_in, leaves_left, word_body, word_frame, spoken}
 use Rattle.script_laws.specs.Accepted.{is_intruded}
 use Rattle.run_scripts.specs.Making.{is_raw}
-use Rattle.world_history.proofs.Addressees.{few_masters}
+use Rattle.world_history.proofs.Addressed.{few_masters}
 use Rattle.run_scripts.proofs.UnforgedKnown.{fits_part}
 use Rattle.run_scripts.proofs.UnforgedWords.{SpelledAlike, word_kept}
 use Rattle.run_scripts.proofs.UnforgedParts.{digest_of_fields, IsHeard}

@@ -40,7 +40,7 @@ use Rattle.run_scripts.specs.Making.{after_cry, cries}
 use Rattle.run_scripts.specs.Making.{played, beginning}
 use Rattle.run_scripts.specs.Playing.{IsSound}
 use Rattle.run_scripts.specs.Laws.{AreNotRaw, PlayedIsUnforged}
-use Rattle.world_history.proofs.Addressees.{few_actors, few_masters}
+use Rattle.world_history.proofs.Addressed.{few_actors, few_masters}
 use Rattle.run_scripts.proofs.PlayKeeps.{Keeps, TakesAs, Cries, with_event, after_is, after_cry_is, entry_is}
 use Rattle.run_scripts.proofs.PlayKeeps.{next_passes, all_played, beginning_sound, beginning_kept}
 use Rattle.run_scripts.proofs.UnforgedParts.{HasDigest, IsBorne, IsHeard, IsHonest, borne_on, borne_whole, heard_on}

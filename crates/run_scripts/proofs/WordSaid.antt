@@ -36,8 +36,8 @@ use Rattle.run_scripts.specs.Making.{Given, Making, Going, most_entries, bench_a
 use Rattle.run_scripts.specs.Making.{cries, cries_bytes}
 use Rattle.run_scripts.specs.Playing.{IsMaking, IsPlaying, IsMail, IsKeptAt, Goes, slots_of, has_slot, new_posts}
 use Rattle.run_scripts.specs.Crying.{IsNextWord, HasCried}
-use Rattle.world_history.proofs.Addressees.{few_actors}
-use Rattle.run_scripts.proofs.Kinds.{kinds_are_few}
+use Rattle.world_history.proofs.Addressed.{few_actors}
+use Rattle.run_scripts.proofs.KindsAreFew.{kinds_are_few}
 use Rattle.run_scripts.proofs.EventAdds.{may_cry, runs, sound_after_cry}
 use Rattle.run_scripts.proofs.EventPlayed.{of_bench, kept_here, its_running, one_has_slot}
 use Rattle.run_scripts.proofs.CryAdds.{next_is, no_next, full_cry, cry_is, cry_acted}

@@ -1,7 +1,1 @@
-mod Ends
-mod Alike
-mod Files
-mod Asked
-mod Headlines
-mod Whole
 mod MadeHeights

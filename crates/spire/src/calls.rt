@@ -1,9 +1,10 @@
 //! Calls of the program over files in memory.
-use crate::named_files::{File, call_failing, files_of};
-use outside::MemoryFiles;
+use crate::named_files::{File, call_failing};
 use std::alloc::Global;
 use std::process::Abort;
+use std::sync::Wait;
 use std::test::Fail;
+use std::thread::Threads;
 
 /// What each scenario begins with: masters 0 to 3.
 const BEGINNING: &str =
@@ -89,13 +90,6 @@ fn scenario_of(alloc: Global, keys: &str) -> Result<String, Fail> {
     Ok(scenario)
 }
 
-/// The files of a call, where no load fails.
-pub(crate) fn files_given(alloc: Global, given: Given<'_>) -> Result<MemoryFiles, Fail> {
-    let scenario = scenario_of(alloc, given.keys)?;
-    let files = given.files(scenario.as_str());
-    files_of(alloc, &files, 0)
-}
-
 fn text_of(alloc: Global, bytes: &[u8]) -> Result<String, Fail> {
     match std::str::from_utf8(bytes) {
         Ok(text) => Ok(String::from_str(alloc, text)?),
@@ -104,19 +98,15 @@ fn text_of(alloc: Global, bytes: &[u8]) -> Result<String, Fail> {
 }
 
 /// What a call with this status, line and text ends in.
-pub(crate) fn ending_of(
-    alloc: Global,
-    status: u8,
-    line: &[u8],
-    text: &[u8],
-) -> Result<Ending, Fail> {
+fn ending_of(alloc: Global, status: u8, line: &[u8], text: &[u8]) -> Result<Ending, Fail> {
     let line = text_of(alloc, line)?;
     let text = text_of(alloc, text)?;
     Ok(Ending { status, line, text })
 }
 
 /// Runs a command over these files, where some calls fail.
-pub(crate) fn ended(
+pub(crate) fn ended<R: Threads + Wait + Sync>(
+    rt: &R,
     alloc: Global,
     command: &str,
     given: Given<'_>,
@@ -124,7 +114,7 @@ pub(crate) fn ended(
 ) -> Result<Ending, Fail> {
     let scenario = scenario_of(alloc, given.keys)?;
     let files = given.files(scenario.as_str());
-    let called = call_failing(alloc, command, &files, failing)?;
+    let called = call_failing(rt, alloc, command, &files, failing)?;
     ending_of(alloc, called.status, &called.line, &called.put)
 }
 
@@ -149,14 +139,25 @@ impl Ending {
 }
 
 /// The text of a command that is seen through.
-pub(crate) fn text_by(alloc: Global, command: &str, given: Given<'_>) -> Result<String, Fail> {
-    let ending = ended(alloc, command, given, NONE_FAILS)?;
+pub(crate) fn text_by<R: Threads + Wait + Sync>(
+    rt: &R,
+    alloc: Global,
+    command: &str,
+    given: Given<'_>,
+) -> Result<String, Fail> {
+    let ending = ended(rt, alloc, command, given, NONE_FAILS)?;
     ending.whole()
 }
 
 /// The text of a play of a scenario with these other keys.
-pub(crate) fn played(alloc: Global, keys: &str, script: &str, words: &str) -> Result<String, Fail> {
-    text_by(alloc, PLAY, Given::play(keys, script, words))
+pub(crate) fn played<R: Threads + Wait + Sync>(
+    rt: &R,
+    alloc: Global,
+    keys: &str,
+    script: &str,
+    words: &str,
+) -> Result<String, Fail> {
+    text_by(rt, alloc, PLAY, Given::play(keys, script, words))
 }
 
 /// How often a line stands in a text.
@@ -165,14 +166,14 @@ pub(crate) fn count_of(text: &str, line: &str) -> usize {
 }
 
 /// Plays, and wants a text that begins with this head and in which each of these lines stands so often.
-pub(crate) fn shows(
-    rt: &impl Abort,
+pub(crate) fn shows<R: Threads + Wait + Sync + Abort>(
+    rt: &R,
     alloc: Global,
     given: Given<'_>,
     head: &str,
     lines: &[(&str, usize)],
 ) -> Result<(), Fail> {
-    let text = text_by(alloc, PLAY, given)?;
+    let text = text_by(rt, alloc, PLAY, given)?;
     assert!(rt; text.as_str().starts_with(head));
     for (line, count) in lines {
         assert_eq!(rt; count_of(text.as_str(), line), *count, "{line}");

@@ -1,7 +1,9 @@
 //! Files, the output and the error output that fail, one call after another.
 use crate::calls::{Failing, Given, PLAY, ended, text_by};
 use std::alloc::Global;
+use std::sync::Wait;
 use std::test::Fail;
+use std::thread::Threads;
 
 /// A plant with an alarm and an interlock. Few hashes make the keys.
 const PLANT: &str = "levels = [5]
@@ -84,10 +86,10 @@ fn failing(load: u64, put: u64, line: u64) -> Failing {
 /// The text goes in pieces of 512 bytes, and nothing is put after the first that fails.
 #[test]
 fn each_failing_put_leaves_the_pieces_before_it(rt: HostRuntime) -> Result<(), Fail> {
-    let whole = text_by(rt.alloc(), PLAY, GIVEN)?;
+    let whole = text_by(&rt, rt.alloc(), PLAY, GIVEN)?;
     assert_eq!(rt; whole.as_str().len(), 7403);
     for before in 0..15u64 {
-        let ending = ended(rt.alloc(), PLAY, GIVEN, failing(0, before + 1, 0))?;
+        let ending = ended(&rt, rt.alloc(), PLAY, GIVEN, failing(0, before + 1, 0))?;
         assert_eq!(rt; ending.status, 6);
         assert_eq!(rt; ending.line.as_str(), "spire: output fault\n");
         assert_eq!(rt; ending.text.as_str().len() as u64, 512 * before);
@@ -97,20 +99,25 @@ fn each_failing_put_leaves_the_pieces_before_it(rt: HostRuntime) -> Result<(), F
 }
 
 /// The line of a command of which a load fails, and which puts nothing.
-fn fault_of(alloc: Global, command: &str, load: u64) -> Result<String, Fail> {
-    let ending = ended(alloc, command, GIVEN, failing(load, 0, 0))?;
+fn fault_of<R: Threads + Wait + Sync>(
+    rt: &R,
+    alloc: Global,
+    command: &str,
+    load: u64,
+) -> Result<String, Fail> {
+    let ending = ended(rt, alloc, command, GIVEN, failing(load, 0, 0))?;
     ending.refused(3)
 }
 
 #[test]
 fn each_failing_load_is_named(rt: HostRuntime) -> Result<(), Fail> {
-    let line = fault_of(rt.alloc(), PLAY, 1)?;
+    let line = fault_of(&rt, rt.alloc(), PLAY, 1)?;
     assert_eq!(rt; line.as_str(), "spire: file scenario fault\n");
-    let line = fault_of(rt.alloc(), PLAY, 2)?;
+    let line = fault_of(&rt, rt.alloc(), PLAY, 2)?;
     assert_eq!(rt; line.as_str(), "spire: file script fault\n");
-    let line = fault_of(rt.alloc(), PLAY, 3)?;
+    let line = fault_of(&rt, rt.alloc(), PLAY, 3)?;
     assert_eq!(rt; line.as_str(), "spire: file words fault\n");
-    let line = fault_of(rt.alloc(), "replay scenario history", 2)?;
+    let line = fault_of(&rt, rt.alloc(), "replay scenario history", 2)?;
     assert_eq!(rt; line.as_str(), "spire: file history fault\n");
     Ok(())
 }
@@ -118,13 +125,13 @@ fn each_failing_load_is_named(rt: HostRuntime) -> Result<(), Fail> {
 /// The status is the same where its line can't be told.
 #[test]
 fn a_failing_error_output_changes_no_status(rt: HostRuntime) -> Result<(), Fail> {
-    let ending = ended(rt.alloc(), PLAY, GIVEN, failing(1, 0, 1))?;
+    let ending = ended(&rt, rt.alloc(), PLAY, GIVEN, failing(1, 0, 1))?;
     assert_eq!(rt; ending.status, 3);
     assert!(rt; ending.line.is_empty());
-    let ending = ended(rt.alloc(), PLAY, GIVEN, failing(0, 1, 1))?;
+    let ending = ended(&rt, rt.alloc(), PLAY, GIVEN, failing(0, 1, 1))?;
     assert_eq!(rt; ending.status, 6);
-    let whole = text_by(rt.alloc(), PLAY, GIVEN)?;
-    let ending = ended(rt.alloc(), PLAY, GIVEN, failing(0, 0, 1))?;
+    let whole = text_by(&rt, rt.alloc(), PLAY, GIVEN)?;
+    let ending = ended(&rt, rt.alloc(), PLAY, GIVEN, failing(0, 0, 1))?;
     assert_eq!(rt; ending.status, 0);
     assert!(rt; ending.text.as_str() == whole.as_str());
     Ok(())

@@ -1,4 +1,4 @@
-use made_runs::{made_scenario, made_script, summary};
+use run_commands::{made_scenario, made_script, summary};
 use std::test::Fail;
 
 #[test]

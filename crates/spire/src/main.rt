@@ -1,8 +1,6 @@
 //! The program: runs the command that its words are, over real files and standard output.
 #![tactic(auto)]
 
-mod asking;
-pub mod call;
 #[cfg(test)]
 mod calls;
 #[cfg(test)]
@@ -27,14 +25,12 @@ mod rebuilt_parts;
 mod refused;
 #[cfg(test)]
 mod replayed;
-mod running;
 #[cfg(test)]
 mod runs;
-mod thread_runs;
 
-use crate::call::spire;
 use command_ends::no_words::{WordsRefusal, spire_without_words};
 use outside::{RealErr, RealFiles, RealOut};
+use run_program::call::spire;
 use std::process::ExitCode;
 use std::{env, io};
 

@@ -1,9 +1,11 @@
 //! Calls of the program over files in memory.
 use crate::calls::{Failing, NONE_FAILS, words_of};
 use outside::{MemoryFiles, MemorySink};
+use run_program::call::spire;
 use std::alloc::Global;
+use std::sync::Wait;
 use std::test::Fail;
-use whole_runs::call::spire;
+use std::thread::Threads;
 
 /// What a call ends in: its status, the line on the error output, and what was put to the output.
 #[derive(Drop)]
@@ -23,11 +25,7 @@ fn in_memory(alloc: Global, file: &File<'_>) -> Result<(String, Vec<u8>), Fail> 
 }
 
 /// These files, where one load fails (0: none).
-pub(crate) fn files_of(
-    alloc: Global,
-    files: &[File<'_>],
-    failing: u64,
-) -> Result<MemoryFiles, Fail> {
+fn files_of(alloc: Global, files: &[File<'_>], failing: u64) -> Result<MemoryFiles, Fail> {
     let mut listed = Vec::new(alloc);
     for file in files {
         listed.push(in_memory(alloc, file)?)?;
@@ -47,7 +45,8 @@ fn ending_of(alloc: Global, status: u8, line: &[u8], put: &[u8]) -> Result<Endin
 }
 
 /// Runs a command over files, where some calls fail.
-pub(crate) fn call_failing(
+pub(crate) fn call_failing<R: Threads + Wait + Sync>(
+    rt: &R,
     alloc: Global,
     line: &str,
     files: &[File<'_>],
@@ -57,23 +56,30 @@ pub(crate) fn call_failing(
     let mut files = files_of(alloc, files, failing.load)?;
     let mut out = sink_of(alloc, failing.put)?;
     let mut err = sink_of(alloc, failing.line)?;
-    let status = spire(alloc, words.as_slice(), &mut files, &mut out, &mut err);
+    let status = spire(rt, alloc, words.as_slice(), &mut files, &mut out, &mut err);
     ending_of(alloc, status, err.bytes(), out.bytes())
 }
 
 /// Runs a command over files.
-pub(crate) fn call(alloc: Global, line: &str, files: &[File<'_>]) -> Result<Ending, Fail> {
-    call_failing(alloc, line, files, NONE_FAILS)
+pub(crate) fn call<R: Threads + Wait + Sync>(
+    rt: &R,
+    alloc: Global,
+    line: &str,
+    files: &[File<'_>],
+) -> Result<Ending, Fail> {
+    call_failing(rt, alloc, line, files, NONE_FAILS)
 }
 
 /// The text of a play.
-pub(crate) fn play(
+pub(crate) fn play<R: Threads + Wait + Sync>(
+    rt: &R,
     alloc: Global,
     scenario: &str,
     script: &str,
     words: &str,
 ) -> Result<Vec<u8>, Fail> {
     let played = call(
+        rt,
         alloc,
         "play scenario script words",
         &[

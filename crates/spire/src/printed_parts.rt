@@ -1,7 +1,6 @@
 //! The text of parts of a request.
 use run_questions::parts::{PartsRefusal, parts_text};
 use scenario_file::Scenario;
-use std::process::Abort;
 use std::test::Fail;
 
 #[test]

@@ -1,7 +1,9 @@
 use crate::named_files::{File, call, play};
 use std::alloc::Global;
 use std::process::Abort;
+use std::sync::Wait;
 use std::test::Fail;
+use std::thread::Threads;
 
 /// Four masters and a screen. Each has 32 one-time keys.
 const SCENARIO: &str =
@@ -23,35 +25,35 @@ const FEW: &[u8] =
     b"digest 5307c0b0ae6aacdcf5076254f1ff92f98e7d8fce3c1c9479bd37fe10d735561a\nm1 19 00010001030000000000\nm2 19 00010002060000000001\n";
 
 /// Wants a command that is seen through to put this.
-fn puts(
-    rt: &impl Abort,
+fn puts<R: Threads + Wait + Sync + Abort>(
+    rt: &R,
     alloc: Global,
     line: &str,
     files: &[File<'_>],
     put: &[u8],
 ) -> Result<(), Fail> {
-    let ending = call(alloc, line, files)?;
+    let ending = call(rt, alloc, line, files)?;
     assert_eq!(rt; ending.status, 0, "{line}");
     assert_eq!(rt; ending.put.as_slice(), put, "{line}");
     Ok(())
 }
 
 /// The status of a command that tells this line.
-fn told(
-    rt: &impl Abort,
+fn told<R: Threads + Wait + Sync + Abort>(
+    rt: &R,
     alloc: Global,
     line: &str,
     files: &[File<'_>],
     wanted: &[u8],
 ) -> Result<u8, Fail> {
-    let ending = call(alloc, line, files)?;
+    let ending = call(rt, alloc, line, files)?;
     assert_eq!(rt; ending.line.as_slice(), wanted, "{line}");
     Ok(ending.status)
 }
 
 #[test]
 fn the_parts_of_a_certified_request_are_printed(rt: HostRuntime) -> Result<(), Fail> {
-    let text = play(rt.alloc(), SCENARIO, SCRIPT, "")?;
+    let text = play(&rt, rt.alloc(), SCENARIO, SCRIPT, "")?;
     let files = [
         ("scenario", SCENARIO.as_bytes()),
         ("history", text.as_slice()),
@@ -92,7 +94,7 @@ fn a_request_is_rebuilt_beside_a_wrong_part(rt: HostRuntime) -> Result<(), Fail>
 
 #[test]
 fn nobody_is_blamed_where_all_are_correct(rt: HostRuntime) -> Result<(), Fail> {
-    let text = play(rt.alloc(), SCENARIO, SCRIPT, "")?;
+    let text = play(&rt, rt.alloc(), SCENARIO, SCRIPT, "")?;
     let files = [
         ("scenario", SCENARIO.as_bytes()),
         ("history", text.as_slice()),
@@ -111,12 +113,14 @@ fn a_master_that_acknowledges_two_requests_as_one_is_blamed(rt: HostRuntime) -> 
     let mut scenario = String::from_str(rt.alloc(), SCENARIO)?;
     scenario.push_str("intruded = [0]\n")?;
     let text = play(
+        &rt,
         rt.alloc(),
         scenario.as_str(),
         "command s0 ack 0\ncommand s0 ack 1\nflow 2\ncry m0 2\nflow 1\n",
         "m0 m1 poack 1 1 @m1.porequest.1\nm0 m1 poack 1 1 @m1.porequest.2\n",
     )?;
     let blame = call(
+        &rt,
         rt.alloc(),
         "blame scenario history",
         &[
@@ -141,7 +145,7 @@ const READING: &str =
 fn a_reading_is_shown_as_a_change(rt: HostRuntime) -> Result<(), Fail> {
     let mut scenario = String::from_str(rt.alloc(), SCENARIO)?;
     scenario.push_str(POINT)?;
-    let text = play(rt.alloc(), scenario.as_str(), READING, "")?;
+    let text = play(&rt, rt.alloc(), scenario.as_str(), READING, "")?;
     let files = [
         ("scenario", scenario.as_bytes()),
         ("history", text.as_slice()),

@@ -5,7 +5,9 @@ use checked_frames::{CheckRefusal, check};
 use message_forms::read_frame;
 use quorum_sets::Sizes;
 use std::alloc::Global;
+use std::sync::Wait;
 use std::test::Fail;
+use std::thread::Threads;
 use wire_parts::{put_bytes, put_u32};
 
 /// The scenario's keys, of which few hashes make each.
@@ -41,14 +43,19 @@ fn number_of(field: &[u8]) -> u32 {
 }
 
 /// The text of a play in which master 3 cries these bytes to some masters, and all is taken.
-fn cried(alloc: Global, masters: &str, bytes: &[u8]) -> Result<String, Fail> {
+fn cried<R: Threads + Wait + Sync>(
+    rt: &R,
+    alloc: Global,
+    masters: &str,
+    bytes: &[u8],
+) -> Result<String, Fail> {
     let digits = hex::encode(alloc, bytes)?;
     let mut words = String::from_str(alloc, "m3 ")?;
     words.push_str(masters)?;
     words.push_str(" raw ")?;
     words.push_str(digits.as_str())?;
     words.push_str("\n")?;
-    played(alloc, KEYS, "cry m3\nflow 1\n", words.as_str())
+    played(rt, alloc, KEYS, "cry m3\nflow 1\n", words.as_str())
 }
 
 /// Why the frame with these bytes doesn't stand.
@@ -67,7 +74,7 @@ fn a_frame_with_a_changed_signature_is_taken_by_nobody(rt: HostRuntime) -> Resul
     }
     let refusal = refusal_of(rt.alloc(), &bytes)?;
     assert!(rt; refusal == Some(CheckRefusal::Unsigned { part: 0 }));
-    let text = cried(rt.alloc(), "m0,m1,m2", &bytes)?;
+    let text = cried(&rt, rt.alloc(), "m0,m1,m2", &bytes)?;
     assert_eq!(rt; count_of(text.as_str(), FORGED_NONE), 1);
     assert_eq!(rt; count_of(text.as_str(), "history 1"), 1);
     Ok(())
@@ -80,7 +87,7 @@ const FORGED_NONE: &str = "audit forged 0 alike 0 intruded 1 limit 1";
 fn a_frame_by_another_key_is_taken_and_counted(rt: HostRuntime) -> Result<(), Fail> {
     let bytes = frame_by(rt.alloc(), 1, 5)?;
     assert!(rt; refusal_of(rt.alloc(), &bytes)?.is_none());
-    let text = cried(rt.alloc(), "m0", &bytes)?;
+    let text = cried(&rt, rt.alloc(), "m0", &bytes)?;
     let text = text.as_str();
     assert_eq!(rt;
         count_of(text, "audit forged 1 alike 0 intruded 1 limit 1"),

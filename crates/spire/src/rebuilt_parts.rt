@@ -2,7 +2,6 @@
 use run_questions::parts::{RebuildRefusal, rebuilt_text};
 use scenario_file::Scenario;
 use std::alloc::Global;
-use std::process::Abort;
 use std::test::Fail;
 
 /// The digest of an update's text of 19 bytes.

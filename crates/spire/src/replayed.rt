@@ -27,9 +27,14 @@ fn of_history(history: &str) -> Given<'_> {
 #[test]
 fn a_replay_doesnt_believe_the_verdict(rt: HostRuntime) -> Result<(), Fail> {
     let alloc = rt.alloc();
-    let text = played(alloc, ONE_SCREEN, ONE_COMMAND, "")?;
+    let text = played(&rt, alloc, ONE_SCREEN, ONE_COMMAND, "")?;
     let other = replaced(alloc, text.as_str(), "agree yes", "agree no")?;
-    let again = text_by(alloc, "replay scenario history", of_history(other.as_str()))?;
+    let again = text_by(
+        &rt,
+        alloc,
+        "replay scenario history",
+        of_history(other.as_str()),
+    )?;
     assert!(rt; again.as_str() == text.as_str());
     Ok(())
 }
@@ -37,9 +42,10 @@ fn a_replay_doesnt_believe_the_verdict(rt: HostRuntime) -> Result<(), Fail> {
 #[test]
 fn an_entry_that_says_another_word_is_not_legal(rt: HostRuntime) -> Result<(), Fail> {
     let alloc = rt.alloc();
-    let text = played(alloc, ONE_SCREEN, ONE_COMMAND, "")?;
+    let text = played(&rt, alloc, ONE_SCREEN, ONE_COMMAND, "")?;
     let other = replaced(alloc, text.as_str(), "says preprepare", "says prepare")?;
     let ending = ended(
+        &rt,
         alloc,
         "replay scenario history",
         of_history(other.as_str()),
@@ -54,11 +60,12 @@ fn an_entry_that_says_another_word_is_not_legal(rt: HostRuntime) -> Result<(), F
 #[test]
 fn a_text_without_its_entries_ends_too_soon(rt: HostRuntime) -> Result<(), Fail> {
     let alloc = rt.alloc();
-    let text = played(alloc, ONE_SCREEN, ONE_COMMAND, "")?;
+    let text = played(&rt, alloc, ONE_SCREEN, ONE_COMMAND, "")?;
     let Some((head, _)) = text.as_str().split_once("0 s0 command") else {
         return Err("no entry".into());
     };
     let ending = ended(
+        &rt,
         alloc,
         "replay scenario history",
         of_history(head),
@@ -73,8 +80,8 @@ fn a_text_without_its_entries_ends_too_soon(rt: HostRuntime) -> Result<(), Fail>
 #[test]
 fn signatures_in_groups_show_in_no_text(rt: HostRuntime) -> Result<(), Fail> {
     let alloc = rt.alloc();
-    let alone = played(alloc, ONE_SCREEN, ONE_COMMAND, "")?;
-    let grouped = played(alloc, "screens = 1\nframes = 2\n", ONE_COMMAND, "")?;
+    let alone = played(&rt, alloc, ONE_SCREEN, ONE_COMMAND, "")?;
+    let grouped = played(&rt, alloc, "screens = 1\nframes = 2\n", ONE_COMMAND, "")?;
     assert!(rt; grouped.as_str() == alone.as_str());
     Ok(())
 }

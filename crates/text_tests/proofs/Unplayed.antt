@@ -1,14 +1,15 @@
 -- Nothing is played, so all that is keeps to the rules.
 use Rattle.std.proofs.Common.{◌≡◌, Result, Ok, Err}
-use Rattle.run_commands.specs.Readers.{Keeps}
+use Rattle.run_commands.specs.Readers.{KeepsRules}
 use Rattle.text_tests.specs.Unplayed.{unplayed}
 
 none : {A E B : Type 0} (e : E) (x : A) → (let answer : Result A E = Err e in answer ≡ Ok x) → B
 none e x is = absurd (cc)
 
-pub unplayed_keeps : Keeps unplayed
+pub unplayed_keeps : KeepsRules unplayed
 unplayed_keeps = record {
   played_legal = λ c lines sayings history valid script words is. none _ history is;
   played_unforged = λ c lines sayings history valid script words is raw. none _ history is;
+  run_legal = λ c lines sayings turns history run. absurd run;
   read_legal = λ c text history valid is. none _ history is;
 }

@@ -1,4 +1,4 @@
--- Plays that stop at their first line, histories that are none, and parts of no text.
+-- Plays that stop at their first line, no runs, histories that are none, and parts of no text.
 use Rattle.std.specs.Prelude.{[], Err}
 use Rattle.command_ends.specs.declared.refusal.LineFault.TheVariants as line
 use Rattle.command_ends.specs.declared.refusal.NoAnswer.TheVariants as none
@@ -7,6 +7,7 @@ use Rattle.run_commands.specs.Readers.{Readers, NoRequest}
 abbrev pub unplayed : Readers
 unplayed = record {
   played = λ c lines sayings. Err (line.NoFrame, 1);
+  may_run = λ c lines sayings turns history. ⊥;
   history_in = λ c text. Err (line.BadLine, 1);
   text_of = λ c history. [];
   answered = λ c history question. Err none.NoMatch;

@@ -1,7 +1,7 @@
 use crate::none_played::Unplayed;
 use outside::{MemoryFiles, MemorySink};
 use run_commands::Program;
-use run_commands::plain::plain;
+use run_commands::call::run_command;
 use std::alloc::Global;
 use std::process::Abort;
 use std::test::Fail;
@@ -58,7 +58,7 @@ fn run(alloc: Global, line: &str, script: &str) -> Result<Ending, Fail> {
     let mut out = MemorySink::make(alloc, Vec::new(alloc));
     let mut err = MemorySink::make(alloc, Vec::new(alloc));
     let program = Program { runs: Unplayed };
-    let status = plain(
+    let status = run_command(
         alloc,
         &program,
         words.as_slice(),

@@ -4,14 +4,17 @@ use scenario_file::Scenario;
 use script_lines::{Script, Words};
 use std::alloc::Global;
 
-/// Plays that stop at their first line, histories that are none, and parts of no text.
+/// Plays that stop at their first line, runs without memory, histories that are none, and parts of no text.
 #[derive(Drop)]
 pub struct Unplayed;
 
 impl Runs for Unplayed {
+    ghost use Rattle.std.specs.Prelude.{⊤};
     ghost use Rattle.text_tests.specs.Unplayed.{unplayed};
 
     ghost readers = { unplayed };
+
+    ghost ready = { λ _. ⊤ };
 
     fn play_text(
         &self,
@@ -24,6 +27,18 @@ impl Runs for Unplayed {
             fault: LineFault::NoFrame,
             line: 1,
         })
+    }
+
+    fn run_text(
+        &self,
+        _alloc: Global,
+        _scenario: &Scenario,
+        _script: &Script,
+        _words: &Words,
+        _hands: u32,
+        _turns: u32,
+    ) -> Result<Vec<u8>, Refusal> {
+        Err(Refusal::Memory)
     }
 
     fn replay_text(

@@ -1,5 +1,5 @@
 //! Tests of what threads share, stamps and inboxes, and of runs in threads: masters that wait for each other, turns in a stated
-//! order, hands side by side, and a run's text.
+//! order, and hands side by side.
 #![tactic(auto)]
 
 #[cfg(test)]
@@ -14,7 +14,5 @@ mod in_turn;
 mod meeting;
 #[cfg(test)]
 mod runs;
-#[cfg(test)]
-mod texts;
 #[cfg(test)]
 mod waiting;

@@ -33,5 +33,5 @@ pub mod LeavesSuffice
 pub mod StandingFrames
 pub mod MasterSpeaks
 pub mod Lists
-pub mod Addressees
+pub mod Addressed
 pub mod CallsThatFail

@@ -5,8 +5,8 @@ use Rattle.protocol_rules.specs.Group.{Group}
 use Rattle.world_rules.specs.Frames.{addressees}
 use Rattle.world_rules.specs.Scenarios.{setup_of, group_in}
 use Rattle.scenario_file.specs.Reading.{contents}
-use Rattle.world_history.proofs.Addressees.{client_few}
-use Rattle.world_history.proofs.Addressees.{group_same}
+use Rattle.world_history.proofs.Addressed.{client_few}
+use Rattle.world_history.proofs.Addressed.{group_same}
 use Rattle.replica_threads.proofs.Frames.{named_goes, named_there, body_goes, body_there}
 use Rattle.replica_threads.proofs.posting.goes_to.Goals as goal
 

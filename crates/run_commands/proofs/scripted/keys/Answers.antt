@@ -2,7 +2,7 @@
 -- file is that of the command.
 use Rattle.std.proofs.Common.{[], ◌∷◌, refl, sym}
 use Rattle.scenario_file.specs.Reading.{contents}
-use Rattle.key_commands.specs.Keys.{keys_text}
+use Rattle.run_commands.specs.Keys.{keys_text}
 use Rattle.command_ends.specs.Steps.Step.{Gives}
 use Rattle.run_commands.specs.Reading.{with_scenario}
 use Rattle.run_commands.specs.Course.{KeysCourse}

@@ -5,9 +5,9 @@ use Rattle.protocol_rules.specs.Group.{Group}
 use Rattle.world_rules.specs.Frames.{addressees}
 use Rattle.world_rules.specs.Scenarios.{setup_of, group_in}
 use Rattle.scenario_file.specs.Reading.{contents}
-use Rattle.world_history.proofs.Addressees.{client_few}
+use Rattle.world_history.proofs.Addressed.{client_few}
 use Rattle.run_scripts.proofs.FramesHeld.{stands_somewhere, post_made}
-use Rattle.world_history.proofs.Addressees.{group_same}
+use Rattle.world_history.proofs.Addressed.{group_same}
 use Rattle.run_scripts.proofs.posting.post_of.Goals as goal
 
 pub addressees-requires : goal.addressees-requires

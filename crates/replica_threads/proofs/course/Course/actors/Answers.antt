@@ -1,7 +1,7 @@
 -- The cast of a scenario counts its actors, and a scenario that is valid has at most 26.
 use Rattle.std.proofs.Common.{arith}
 use Rattle.scenario_file.specs.Reading.{contents}
-use Rattle.world_history.proofs.Addressees.{cast_actors, begin_few}
+use Rattle.world_history.proofs.Addressed.{cast_actors, begin_few}
 use Rattle.replica_threads.proofs.course.Course.actors.Goals as goal
 
 pub returns-clause-actors : goal.returns-clause-actors

@@ -6,7 +6,7 @@ use Rattle.scenario_file.specs.Reading.{contents}
 use Rattle.world_history.specs.KeptState.{first_state}
 use Rattle.run_scripts.specs.Playing.{IsMail}
 use Rattle.run_scripts.proofs.PlayBegins.{begun}
-use Rattle.world_history.proofs.Addressees.{cast_actors, begin_few}
+use Rattle.world_history.proofs.Addressed.{cast_actors, begin_few}
 use Rattle.run_scripts.proofs.playing.Playing.begin.Goals as goal
 
 pub all_kept-requires-clause-actors : goal.all_kept-requires-clause-actors

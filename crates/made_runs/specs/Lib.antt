@@ -1,3 +1,0 @@
-pub mod Scenario
-pub mod Script
-pub mod Summary

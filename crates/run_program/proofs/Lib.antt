@@ -1,0 +1,10 @@
+mod Stamps
+mod Benches
+mod RunTexts
+mod Legality
+mod Rules
+mod Giving
+mod Answered
+mod Worth
+mod Requested
+mod Keeping

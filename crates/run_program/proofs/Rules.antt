@@ -1,0 +1,59 @@
+-- What holds of the definitions that plays and replays go by.
+use Rattle.std.proofs.Common.{◌≡◌, ℕ, Bool, true, ◌&&◌, not, List, [], ◌∷◌, Result, Ok, Err, refl, sym, ◌∙◌, ap}
+use Rattle.std.specs.List.{list_all}
+use Rattle.scenario_file.specs.Reading.{Contents}
+use Rattle.scenario_file.specs.Valid.{IsScenario}
+use Rattle.history_rules.specs.Events.{Entry}
+use Rattle.play_words.specs.declared.words.Word.{Word}
+use Rattle.play_words.specs.declared.words.Word.TheVariants as word
+use Rattle.script_lines.specs.declared.saying.Saying.{Saying}
+use Rattle.script_lines.specs.declared.script.Line.{Line}
+use Rattle.script_laws.specs.Accepted.{are_lines_of, are_sayings_of}
+use Rattle.script_laws.specs.Laws.{ReadLinesAreOfScenario, ReadWordsAreOfScenario}
+use Rattle.run_scripts.specs.declared.answer.StepRefusal.{StepRefusal}
+use Rattle.run_scripts.specs.Making as making
+use Rattle.run_scripts.specs.Laws as plays
+use Rattle.run_lines.specs.declared.refusal.HistoryRefusal.{HistoryRefusal}
+use Rattle.printed_history.specs.Histories.{history_in}
+use Rattle.replica_threads.specs.Courses.{inputs_given}
+use Rattle.replica_threads.specs.Ended.{HistoriesAreLegal}
+use Rattle.run_commands.specs.Readers.{Readers, KeepsRules, IsScriptOf, AreWordsOf, AreNotRaw, is_raw}
+use Rattle.run_program.specs.Faults.{played_or_fault, history_or_fault}
+use Rattle.run_program.specs.Whole.{whole_runs}
+use Rattle.run_program.proofs.Legality.{read_is_legal}
+
+-- a fault is no history
+played_of : (told : Result (List Entry) (ℕ × StepRefusal)) (history : List Entry) →
+    played_or_fault told ≡ Ok history → told ≡ Ok history
+played_of (Ok made) history is = let same : made ≡ history = cc in ap Ok same
+played_of (Err at) history is = absurd (cc)
+
+read_of : (told : Result (List Entry) HistoryRefusal) (history : List Entry) → history_or_fault told ≡ Ok history →
+    told ≡ Ok history
+read_of (Ok made) history is = let same : made ≡ history = cc in ap Ok same
+read_of (Err why) history is = absurd (cc)
+
+-- both have one word for raw bytes
+same_raw : (w : Word) → is_raw w ≡ making.is_raw w
+same_raw (word.Raw bytes) = refl
+same_raw _ = refl
+
+none_raw : (sayings : List Saying) → list_all (λ (s : Saying). not (is_raw s.word)) sayings ≡ list_all
+    (λ (s : Saying). not (making.is_raw s.word)) sayings
+none_raw [] = refl
+none_raw (s ∷ rest) = λ i. not (same_raw s.word i) && none_raw rest i
+
+pub keeps : ReadLinesAreOfScenario → ReadWordsAreOfScenario → plays.PlayedIsLegal →
+    plays.PlayedIsUnforged → HistoriesAreLegal → KeepsRules whole_runs
+keeps lines_read words_read legal unforged runs = record {
+  played_legal = λ c lines sayings history valid script words is.
+      (legal (record { scenario = c; sayings = sayings }) lines history valid
+      (lines_read c script.0 lines valid script.1) (words_read c words.0 sayings valid words.1)
+      (played_of _ history is)).legal;
+  played_unforged = λ c lines sayings history valid script words is raw.
+      unforged (record { scenario = c; sayings = sayings }) lines history valid
+      (lines_read c script.0 lines valid script.1) (words_read c words.0 sayings valid words.1)
+      (sym (none_raw sayings) ∙ raw) (played_of _ history is);
+  run_legal = λ c lines sayings turns history run. runs c (inputs_given c lines sayings) turns history run;
+  read_legal = λ c text history valid is. read_is_legal c text history (read_of (history_in c text) history is);
+}

@@ -1,0 +1,30 @@
+-- The benches have each entry of their history once, so they merge to that history. It is legal and they are its
+-- benches, so its text is written with nothing replayed.
+use Rattle.scenario_file.specs.Reading.{contents}
+use Rattle.run_program.proofs.Benches.{printed_once, printed_after, merged_text}
+use Rattle.run_program.proofs.played.text_of_benches.Goals as goal
+
+pub merge-requires : goal.merge-requires
+merge-requires c = printed_once (contents c.args.scenario.now) c.args.benches.now c.requires.benches
+
+pub write_run_of-requires-clause-legal : goal.write_run_of-requires-clause-legal
+write_run_of-requires-clause-legal c =
+    (printed_after (contents c.args.scenario.now) c.in_ok-history.history c.args.benches.now
+    c.in_ok-history.ensures.merged (c.in_ok-history.ensures.legal (contents c.args.scenario.now))
+    c.requires.benches).legal
+
+pub write_run_of-requires-clause-short : goal.write_run_of-requires-clause-short
+write_run_of-requires-clause-short c =
+    (printed_after (contents c.args.scenario.now) c.in_ok-history.history c.args.benches.now
+    c.in_ok-history.ensures.merged (c.in_ok-history.ensures.legal (contents c.args.scenario.now))
+    c.requires.benches).short
+
+pub write_run_of-requires-clause-benches : goal.write_run_of-requires-clause-benches
+write_run_of-requires-clause-benches c =
+    (printed_after (contents c.args.scenario.now) c.in_ok-history.history c.args.benches.now
+    c.in_ok-history.ensures.merged (c.in_ok-history.ensures.legal (contents c.args.scenario.now))
+    c.requires.benches).are_benches
+
+pub returns : goal.returns
+returns c = merged_text (contents c.args.scenario.now) c.in_ok-history.history c.args.benches.now
+    c.write_run_of.result c.in_ok-history.ensures.merged c.write_run_of.ensures

@@ -1,0 +1,23 @@
+-- A text that tells a history is printed anew from the benches that the replay made of it. One that tells none
+-- is refused for the fault of its reading.
+use Rattle.std.proofs.Common.{◌∙◌}
+use Rattle.scenario_file.specs.Reading.{contents}
+use Rattle.printed_history.specs.Reading.{told_history}
+use Rattle.run_program.proofs.Giving.{gives_replay, gives_no_history}
+use Rattle.world_history.proofs.AuditAsks.{all_unsigned}
+use Rattle.run_program.proofs.replayed.replayed_text.Goals as goal
+
+pub write_run_of-requires-clause-benches : goal.write_run_of-requires-clause-benches
+write_run_of-requires-clause-benches c =
+    all_unsigned (contents c.args.scenario.now) c.in-Ok.replay.history c.deref.result.now
+    (c.deref.ensures.value ∙ c.in-Ok.ensures.benches)
+
+pub returns-in-Ok-write_run_of : goal.returns-in-Ok-write_run_of
+returns-in-Ok-write_run_of c =
+    gives_replay (contents c.args.scenario.now) c.args.text.now c.in-Ok-write_run_of.text c.in-Ok.replay.history
+    c.in-Ok.ensures.history c.in-Ok-write_run_of.ensures
+
+pub returns : goal.returns
+returns c =
+    gives_no_history (contents c.args.scenario.now) c.args.text.now c.in-Err.refusal c.history_refusal.result
+    c.history_refusal.ensures c.in-Err.ensures.history

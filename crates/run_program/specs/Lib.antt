@@ -1,0 +1,7 @@
+pub mod Asked
+pub mod Faults
+pub mod Whole
+pub mod Blame
+pub mod Trends
+pub mod Requests
+pub mod Keeps

@@ -1,0 +1,42 @@
+-- The definitions that the program goes by: the one history of a script and words, the histories that a run in threads of
+-- them may make, in which each actor's list goes turn by turn for what they give it, the history that a printed text tells, the text of a history, what is answered over one, and the request that parts rebuild. (This project's own.)
+use Rattle.std.specs.Prelude.{◌<◌, ◌^◌, ℕ, List, length}
+use Rattle.scenario_file.specs.Reading.{Contents}
+use Rattle.history_rules.specs.Events.{Entry}
+use Rattle.history_rules.specs.Legal.{IsLegal}
+use Rattle.world_rules.specs.Scenarios.{setup_of}
+use Rattle.world_history.specs.State.{BenchState}
+use Rattle.world_history.specs.Benches.{lists_of, AreBenches, AreOfAll}
+use Rattle.history_rules.specs.Counts.{merged}
+use Rattle.own_histories.specs.Own.{HasEachStampOnce}
+use Rattle.run_scripts.specs.Making.{played}
+use Rattle.replica_threads.specs.Courses.{inputs_given}
+use Rattle.replica_threads.specs.Ended.{IsHistoryOf}
+use Rattle.printed_history.specs.Histories.{history_in}
+use Rattle.printed_run.specs.Printed.{text_of}
+use Rattle.run_commands.specs.Readers.{Readers}
+use Rattle.run_program.specs.Asked.{answered, requested}
+use Rattle.run_program.specs.Faults.{played_or_fault, history_or_fault}
+
+abbrev pub whole_runs : Readers
+whole_runs = record {
+  played = λ c lines sayings. played_or_fault (played (record { scenario = c; sayings = sayings }) lines);
+  may_run = λ c lines sayings turns history. IsHistoryOf c (inputs_given c lines sayings) turns history;
+  history_in = λ c text. history_or_fault (history_in c text);
+  text_of = text_of;
+  answered = answered;
+  rebuilt = requested;
+}
+
+-- the benches of all actors as they are after a legal history
+pub record AreAfter (c : Contents) (history : List Entry) (benches : List BenchState) : Type 0 where
+  pub legal : IsLegal (setup_of c) history
+  pub short : length history < 2 ^ 32
+  pub are_benches : AreBenches c history benches
+
+-- Benches whose history can be printed: those after a legal history, or one of each actor, with a list that it could make
+-- alone. In both each stamp is there once, and there are not too many entries.
+pub data CanBePrinted (c : Contents) (benches : List BenchState) : Type 0 where
+  after : (history : List Entry) → AreAfter c history benches → CanBePrinted c benches
+  alone : AreOfAll c benches → HasEachStampOnce (lists_of benches) → length (merged (lists_of benches)) < 2 ^ 32 →
+      CanBePrinted c benches

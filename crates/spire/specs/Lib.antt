@@ -1,4 +1,0 @@
-pub mod Asked
-pub mod Course
-pub mod Complete
-pub mod Headline

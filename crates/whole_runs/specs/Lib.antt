@@ -1,6 +1,0 @@
-pub mod Asked
-pub mod Faults
-pub mod Whole
-pub mod Blame
-pub mod Trends
-pub mod Requests
