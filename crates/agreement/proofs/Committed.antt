@@ -41,7 +41,7 @@ use Rattle.agreement.proofs.Quorums.{rising_counts}
 use Rattle.agreement.proofs.Places.{stands_cases}
 use Rattle.agreement.proofs.Known.{learned_by, known_then, known_learned, known_grows}
 use Rattle.agreement.proofs.Inside.{fact_from, facts_more, rows_more, best_there, last_below_there, option_map_from}
-use Rattle.agreement.proofs.Origin.{learned_closed, said_due}
+use Rattle.agreement.proofs.Origin.{learned_closed, FirstSaid, first_said, due_first}
 use Rattle.agreement.proofs.Good.{GoodFrame, Good, GoodCertificate, learned_good}
 use Rattle.agreement.proofs.Once.{IsBacked, IsPrepare, IsCommit, DueAt, meet, said_of, prepares_backed, prepare_once}
 use Rattle.agreement.proofs.Once.{prepare_same}
@@ -142,9 +142,15 @@ kept_report : (w : Setup) (history : List Entry) (m : ℕ) → IsLegal w history
     (v s : ℕ) (digest : List ℕ) (report : Report)
     → HasSaid history m (commit_word v s digest) → HasSaid history m (body.Report report) →
     v < report.v → Brings v s report
-kept_report w history m legal correct v s digest report one other higher =
-    let due_one = said_due w m (commit_word v s digest) legal one.place one.by correct one.among in
-    let due_other = said_due w m (body.Report report) legal other.place other.by correct other.among in
+kept_report w history m legal correct v s digest report one_said other_said higher =
+    let first_one : FirstSaid w history m (commit_word v s digest) =
+    first_said w m (commit_word v s digest) correct history legal one_said in
+    let first_other : FirstSaid w history m (body.Report report) =
+    first_said w m (body.Report report) correct history legal other_said in
+    let one : HasSaid history m (commit_word v s digest) = first_one.said in
+    let other : HasSaid history m (body.Report report) = first_other.said in
+    let due_one = due_first w history m (commit_word v s digest) first_one in
+    let due_other = due_first w history m (body.Report report) first_other in
     let first : List (Signed Body) = known_then w one.before m one.entry in
     let second : List (Signed Body) = known_then w other.before m other.entry in
     let at_one : v ≡ view w.group first = due_one.1.3 in
@@ -240,9 +246,11 @@ module _ (w : Setup) (history : List Entry) (sound : IsSound w history) where
       IsBacked w history (IsPrepare v s digest)
   committed_prepared v s digest backed =
       let met = meet w history (IsCommit v s digest) (IsCommit v s digest) sound backed backed in
-      let said : HasSaid history met.0 (commit_word v s digest) =
-      subst (λ (b : Body). HasSaid history met.0 b) met.3.2 met.3.1 in
-      let due = said_due w met.0 (commit_word v s digest) sound.legal said.place said.by met.1 said.among in
+      let first : FirstSaid w history met.0 (commit_word v s digest) =
+      first_said w met.0 (commit_word v s digest) met.1 history sound.legal
+      (subst (λ (b : Body). HasSaid history met.0 b) met.3.2 met.3.1) in
+      let said : HasSaid history met.0 (commit_word v s digest) = first.said in
+      let due = due_first w history met.0 (commit_word v s digest) first in
       let known : List (Signed Body) = known_then w said.before met.0 said.entry in
       let from = prepared_from w.group (facts_of w.group known) v s due.1.0 due.1.1 in
       subst (λ (d : List ℕ). IsBacked w history (IsPrepare v s d)) (sym due.1.2)
@@ -259,8 +267,11 @@ module _ (w : Setup) (history : List Entry) (sound : IsSound w history) where
       (plan_of w.group (map (λ r. r.body) b.reports)).rows
       → slice_get (plan_of w.group (map (λ r. r.body) b.reports)).rows
       (s - (plan_of w.group (map (λ r. r.body) b.reports)).base - 1) ≡ Some rows)
-  view_started m correct u s digest above said =
-      let due = said_due w m (prepare_word u s digest) sound.legal said.place said.by correct said.among in
+  view_started m correct u s digest above was_said =
+      let first : FirstSaid w history m (prepare_word u s digest) =
+      first_said w m (prepare_word u s digest) correct history sound.legal was_said in
+      let said : HasSaid history m (prepare_word u s digest) = first.said in
+      let due = due_first w history m (prepare_word u s digest) first in
       let known : List (Signed Body) = known_then w said.before m said.entry in
       let offer = offered_from (facts_of w.group known) u s due.1.0 above due.1.1 in
       let found = in_filter_map_from (plan_in u) (facts_of w.group known)
@@ -478,9 +489,10 @@ module _ (w : Setup) (history : List Entry) (sound : IsSound w history) where
     pub prepared_alike : (u : ℕ) (d : List ℕ) → v ≤ u → IsBacked w history (IsPrepare u s d) → digest ≡ d
     prepared_alike u d le backed =
         let met = meet w history (IsPrepare u s d) (IsPrepare u s d) sound backed backed in
-        let said : HasSaid history met.0 (prepare_word u s d) =
-        subst (λ (b : Body). HasSaid history met.0 b) met.3.2 met.3.1 in
-        let due = said_due w met.0 (prepare_word u s d) sound.legal said.place said.by met.1 said.among in
+        let first : FirstSaid w history met.0 (prepare_word u s d) =
+        first_said w met.0 (prepare_word u s d) met.1 history sound.legal
+        (subst (λ (b : Body). HasSaid history met.0 b) met.3.2 met.3.1) in
+        let due = due_first w history met.0 (prepare_word u s d) first in
         let rows : List (List ℕ) = due.1.0 in
         let digests : d ≡ digest_of_rows due.1.0 = due.1.2 in
         sym (digests ∙ certified_alike record { s = s; v = u; rows = due.1.0; prepares = [] }

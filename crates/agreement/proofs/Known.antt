@@ -224,6 +224,34 @@ source_of w i used e p h = elim (in_cases (parts_taken e) h) [
       ]
 ]
 
+-- of what was said once a history has one entry more: it was said before, or at that entry
+pub said_last : (w : Setup) (before : List Entry) (e : Entry) (i : ℕ) (b : Body) →
+    IsIn b (said_before (heard w (before ++ e ∷ []) i))
+    → IsIn b (said_before (heard w before i)) ⊎ ((e.actor ≡ i) × IsIn b e.said)
+said_last w before e i b h = by_actor (cases_eq e.actor i)
+  where
+    by_actor : (e.actor ≡ i) ⊎ (e.actor ≡ i → ⊥) → IsIn b (said_before (heard w before i))
+        ⊎ ((e.actor ≡ i) × IsIn b e.said)
+    by_actor (inr other) = inl
+        (subst (λ (hs : List Heard). IsIn b (said_before hs)) (heard_other w before e i other) h)
+    by_actor (inl by) = elim (cases_Bool (is_silent e.event)) [
+      | inl silent ↦ inl (subst (λ (hs : List Heard). IsIn b (said_before hs)) (heard_silent w before e i by silent) h)
+      | inr loud ↦
+          let at = heard_last w before e i by loud in
+          let bodies : map (λ f. f.body) (signed_from w i at.0 e.said 0 e.said) ≡ e.said =
+          signed_from_bodies w i at.0 0 e.said e.said in
+          let split = subst (λ (bs : List Body). IsIn b bs)
+          (flat_map-append (λ (x : Heard). map (λ f. f.body) x.said) (heard w before i) (hears w i at.0 e ∷ []))
+          (subst (λ (zs : List Heard). IsIn b (said_before zs)) at.1 h) in
+          elim (in_cases (said_before (heard w before i)) split) [
+            | inl earlier ↦ inl earlier
+            | inr last ↦ elim (in_cases (map (λ f. f.body) (signed_from w i at.0 e.said 0 e.said)) last) [
+              | inl now ↦ inr (by, subst (λ (bs : List Body). IsIn b bs) bodies now)
+              | inr none ↦ absurd (none_in none)
+            ]
+          ]
+    ]
+
 -- of what is learned once a history has one entry more: it was learned before, or comes from that entry
 pub learned_last : (w : Setup) (before : List Entry) (e : Entry) (i : ℕ) (p : Signed Body) →
     IsIn p (learned_by w (before ++ e ∷ []) i)

@@ -1,9 +1,10 @@
 -- What is in a list: joined, mapped, filtered and found.
 use Rattle.std.proofs.Common.{◌≡◌, ℕ, zero, suc, Bool, true, false, cond, List, [], ◌∷◌, ◌++◌, filter, map, take}
-use Rattle.std.proofs.Common.{length, refl, sym, ◌∙◌, ap, subst, inl, inr, ◌⊎◌, append_assoc, Option, Some, None}
+use Rattle.std.proofs.Common.{length, reverse, refl, sym, ◌∙◌, ap, subst, inl, inr, ◌⊎◌, append_assoc, Option, Some, None}
 use Rattle.std.specs.Prelude.{slice_get}
 use Rattle.std.specs.List.{list_any, list_all, find, filter_map, flat_map, cons_option}
 use Rattle.std.proofs.lemmas.Bool.{false≢true, or_cases, or_left, or_right, and_parts}
+use Rattle.std.proofs.lemmas.List.{reverse-append}
 use Rattle.protocol_rules.specs.Words.{first_of_list, or_else, first_met}
 use Rattle.history_rules.specs.Audit.{IsIn, here, there}
 
@@ -131,6 +132,17 @@ in_filter_from f {x} (y ∷ xs) h = elim (in_kept (f y) (filter f xs) h) [
   | inl first ↦ (subst (λ z. IsIn z (y ∷ xs)) (sym first.1) (here xs), ap f first.1 ∙ first.0)
   | inr later ↦ let found = in_filter_from f xs later in (there y xs found.0, found.1)
 ]
+
+pub in_reverse : {X : Type 0} {x : X} (xs : List X) → IsIn x (reverse xs) → IsIn x xs
+in_reverse [] h = h
+in_reverse {X} {x} (y ∷ ys) h =
+    elim (in_cases (reverse ys) (subst (λ (zs : List X). IsIn x zs) (reverse-append (y ∷ []) ys) h)) [
+      | inl earlier ↦ there y ys (in_reverse ys earlier)
+      | inr last ↦ elim (in_cons_cases last) [
+        | inl same ↦ subst (λ (z : X). IsIn x (z ∷ ys)) same (here ys)
+        | inr none ↦ absurd (none_in none)
+      ]
+    ]
 
 pub in_take : {X : Type 0} {x : X} (n : ℕ) (xs : List X) → IsIn x (take n xs) → IsIn x xs
 in_take zero xs h = absurd (none_in h)

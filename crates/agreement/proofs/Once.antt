@@ -34,7 +34,7 @@ use Rattle.agreement.proofs.Places.{stands_cases}
 use Rattle.agreement.proofs.Known.{learned_by, known_then, said_earlier}
 use Rattle.agreement.proofs.Spoken.{Due}
 use Rattle.agreement.proofs.Inside.{bytes_same, prepare_by_from, commit_by_from, fact_from}
-use Rattle.agreement.proofs.Origin.{learned_said, said_due}
+use Rattle.agreement.proofs.Origin.{FirstSaid, first_said, due_first, learned_said}
 
 -- at least q masters are intruded or said a body of which T holds
 pub record IsBacked (w : Setup) (history : List Entry) (T : Body → Type 0) : Type 0 where
@@ -199,9 +199,13 @@ pub said_once : (w : Setup) (history : List Entry) (m : ℕ) (t : Body → Bool)
     → ((known taken : List (Signed Body)) (said : List Body) → Due w.group w.orders known taken said b →
     Due w.group w.orders known taken said c → b ≡ c)
     → HasSaid history m b → HasSaid history m c → b ≡ c
-said_once w history m t b c legal correct is_b is_c fresh_b fresh_c alike one other =
-    let due_b = said_due w m b legal one.place one.by correct one.among in
-    let due_c = said_due w m c legal other.place other.by correct other.among in
+said_once w history m t b c legal correct is_b is_c fresh_b fresh_c alike one_said other_said =
+    let first_b : FirstSaid w history m b = first_said w m b correct history legal one_said in
+    let first_c : FirstSaid w history m c = first_said w m c correct history legal other_said in
+    let one : HasSaid history m b = first_b.said in
+    let other : HasSaid history m c = first_c.said in
+    let due_b = due_first w history m b first_b in
+    let due_c = due_first w history m c first_c in
     elim (stands_cases one.place other.place) [
       | inl same ↦ alike (known_then w other.before m other.entry)
           (taken_at (heard w other.before m) (frame_taken other.entry.event)) (said_before (heard w other.before m))

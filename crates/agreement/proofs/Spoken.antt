@@ -1,8 +1,10 @@
 -- What the rules make a correct master say, by kinds.
 use Rattle.std.proofs.Common.{◌≡◌, ℕ, ◌+◌, ◌≤◌, Bool, true, false, cond, ◌&&◌, List, [], ◌∷◌, ◌++◌, Option, Some}
-use Rattle.std.proofs.Common.{None, take, map, nat_eq, nat_lt, length, refl, sym, ◌∙◌, ap, subst, ◌-◌, arith, suc}
-use Rattle.std.proofs.lemmas.Bool.{and_parts, leb-true}
-use Rattle.std.specs.List.{filter_map, list_any}
+use Rattle.std.proofs.Common.{None, filter, take, map, max, nat_eq, nat_lt, nat_le, length, reverse, refl, sym, ◌∙◌, ap, subst}
+use Rattle.std.proofs.Common.{◌-◌, arith, suc, inl, inr, ◌⊎◌}
+use Rattle.std.proofs.lemmas.Bool.{false≢true, and_parts, leb-true}
+use Rattle.std.specs.List.{find, filter_map, flat_map, list_any, slice_index}
+use Rattle.std.specs.Option.{option_to_list}
 use Rattle.std.specs.Prelude.{slice_get}
 use Rattle.std.specs.Str.{bytes_eq}
 use Rattle.quorum_sets.specs.Masters.{numbers_below}
@@ -18,27 +20,35 @@ use Rattle.message_types.specs.Digests.{digest_of_update, digest_of_rows}
 use Rattle.message_types.specs.Texts.{update_text}
 use Rattle.protocol_rules.specs.declared.facts.OrderFact.{OrderFact}
 use Rattle.protocol_rules.specs.Words.{first_of_list, numbers_from, greatest_of}
-use Rattle.protocol_rules.specs.Group.{Group, most_number, is_door}
+use Rattle.protocol_rules.specs.Group.{Group, is_live, most_number, is_door}
 use Rattle.protocol_rules.specs.Facts.{facts_of}
 use Rattle.protocol_rules.specs.Preorder.{certified, vector, updates_requested, update_of, requests_said}
-use Rattle.protocol_rules.specs.Preorder.{requests_said_for, next_request, requests_due, acks, acks_due}
-use Rattle.protocol_rules.specs.Matrix.{latest_frames}
-use Rattle.protocol_rules.specs.Order.{ordered, stable, marks_for, certificates_below, offered, prepared, plan_known}
-use Rattle.protocol_rules.specs.Order.{prepares_said, commits_said, prepares_due, commits_due, mark_due, marks_due}
+use Rattle.protocol_rules.specs.Preorder.{requests_said_for, next_request, requests_due, acks, ack_due, acks_due}
+use Rattle.protocol_rules.specs.Matrix.{latest_frames, reach}
+use Rattle.protocol_rules.specs.Order.{ordered, ordered_run, stable, marks_for, certificates_below, offered, prepared, plan_known}
+use Rattle.protocol_rules.specs.Order.{prepares_said, commits_said, prepare_due, prepares_due, commits_due, mark_due}
+use Rattle.protocol_rules.specs.Order.{marks_due, gapless}
 use Rattle.protocol_rules.specs.Order.{in_window, commit_by, quorum_of}
 use Rattle.protocol_rules.specs.Views.{view, is_open, report_due, new_view_due, first_reports}
 use Rattle.protocol_rules.specs.Measures.{Told, ticks_of, waited, pings_due, pongs_due, pongs_due_to, round_trips_due}
 use Rattle.protocol_rules.specs.Measures.{round_trips_due_from, tat_reports_due, tat_bounds_due, own_bound}
 use Rattle.protocol_rules.specs.Measures.{suspects_due}
 use Rattle.protocol_rules.specs.Reconcile.{ask_update_due, ask_order_due, gives_due, gives_ordered_due, request_of}
-use Rattle.protocol_rules.specs.Reconcile.{quorum_of_acks, committed_views}
-use Rattle.protocol_rules.specs.Execution.{Request}
+use Rattle.protocol_rules.specs.Reconcile.{quorum_of_acks, committed_views, request_gift, order_gift}
+use Rattle.protocol_rules.specs.Patience.{Moment, wait, votes_due}
+use Rattle.protocol_rules.specs.Lacking.{gift_for, gift_due, update_asks_due, order_asks_due}
+use Rattle.protocol_rules.specs.Turns.{has_turn, acks_in_turn_due, last_request, last_introduced, next_in_turn}
+use Rattle.protocol_rules.specs.Turns.{requests_in_turn_due, is_slow_beat, request_again_due, requests_number}
+use Rattle.protocol_rules.specs.Turns.{acks_again_due}
+use Rattle.protocol_rules.specs.Worth.{is_worth, worthy_prepares_due}
+use Rattle.protocol_rules.specs.Execution.{Request, updates_of}
 use Rattle.protocol_rules.specs.Master.{Heard, known_at, taken_at, said_before, answers, summaries_due}
 use Rattle.protocol_rules.specs.Master.{preprepares_due, next_number, vouchers_due, vouchers_from, vouchers_said}
-use Rattle.protocol_rules.specs.Master.{waiting_for, gap_of, executed, told_of}
+use Rattle.protocol_rules.specs.Master.{waiting_for, gap_of, executed, told_of, moments_of, whole_preprepares_due}
+use Rattle.protocol_rules.specs.Master.{summary_again_due, is_summary, answered_in, is_give, is_order_given, by_rules}
 use Rattle.history_rules.specs.Audit.{IsIn}
 use Rattle.agreement.proofs.Lists.{Each, each_none, each_one, each_append, each_if, each_map, each_flat_map}
-use Rattle.agreement.proofs.Lists.{in_filter_map_from, first_in, some_same, none_some}
+use Rattle.agreement.proofs.Lists.{in_filter_from, in_filter_map_from, in_reverse, first_in, find_some, some_same, none_some}
 
 pub each_elim : {X Y : Type 0} (P : X → Type 0) (o : Option Y) (f : Y → List X) →
     ((y : Y) → o ≡ Some y → Each P (f y)) → Each P (elim o [ None ↦ [] | Some y ↦ f y ])
@@ -79,6 +89,26 @@ Due g orders known taken said (body.GiveOrdered b) =
 Due g orders known taken said (body.Voucher b) =
     (1 ≤ b.number) × (slice_get (orders (executed g known) b.client) (b.number - 1) ≡ Some b.order)
 Due g orders known taken said _ = Unit {0}
+
+-- a request, an acknowledgement or a summary: what may be said again
+abbrev pub is_repeated : Body → Bool
+is_repeated word = elim word [ body.PoRequest b ↦ true | body.PoAck b ↦ true | body.PoSummary b ↦ true | _ ↦ false ]
+
+-- the body was said, and is of a kind that may be said again
+abbrev pub Again : List Body → Body → Type 0
+Again said b = IsIn b said × (is_repeated b ≡ true)
+
+request_repeated : (k : ℕ) (b : Body) → requests_number k b ≡ true → is_repeated b ≡ true
+request_repeated k (body.PoRequest b) e = refl
+request_repeated k _ e = absurd (false≢true e)
+
+ack_repeated : (j k : ℕ) (b : Body) → acks j k b ≡ true → is_repeated b ≡ true
+ack_repeated j k (body.PoAck b) e = refl
+ack_repeated j k _ e = absurd (false≢true e)
+
+summary_repeated : (b : Body) → is_summary b ≡ true → is_repeated b ≡ true
+summary_repeated (body.PoSummary b) e = refl
+summary_repeated _ e = absurd (false≢true e)
 
 pub if_some : {X : Type 0} (b : Bool) {x y : X} → cond b (Some x) None ≡ Some y → (b ≡ true) × (x ≡ y)
 if_some true e = (refl, some_same e)
@@ -140,17 +170,42 @@ module _ (g : Group) (orders : List Update → ℕ → List Order) (me : ℕ) (k
       each_append IsDue (next_request g me taken before c) _ (next_request_due before c)
       (requests_are_due (before ++ next_request g me taken before c) clients)
 
+  next_in_turn_is_due : (done : List Update) (before : List Body) (c : ℕ) →
+      Each IsDue (next_in_turn g me taken done before c)
+  next_in_turn_is_due done before c =
+      let t : ℕ = max (last_introduced before c) (updates_of c done) + 1 in
+      each_if IsDue (is_door g c me && nat_lt (last_request before) most_number) _ [] (λ _.
+      each_elim IsDue (first_of_list (filter_map (update_of c t) taken)) _ (λ u e.
+      each_one IsDue (body.PoRequest record { k = last_request before + 1; update = u }) (
+      let found = in_filter_map_from (update_of c t) taken (first_in (filter_map (update_of c t) taken) e) in
+      subst (λ (f : Signed Body). IsIn f taken) (update_of_frame c t found.0 u found.2) found.1)))
+      (λ _. each_none IsDue)
+
+  requests_in_turn_are_due : (done : List Update) (before : List Body) (clients : List ℕ) →
+      Each IsDue (requests_in_turn_due g me taken done before clients)
+  requests_in_turn_are_due done before [] = each_none IsDue
+  requests_in_turn_are_due done before (c ∷ clients) =
+      each_append IsDue (next_in_turn g me taken done before c) _ (next_in_turn_is_due done before c)
+      (requests_in_turn_are_due done (before ++ next_in_turn g me taken done before c) clients)
+
   ack_from : (j k : ℕ) (us : List Update) → updates_requested known j k ≡ us → list_any (acks j k) said ≡ false
       → Each IsDue (elim us [ [] ↦ [] | u ∷ _ ↦ body.PoAck record { j = j; k = k; digest = digest_of_update u } ∷ [] ])
   ack_from j k [] e fresh = each_none IsDue
   ack_from j k (u ∷ us) e fresh = each_one IsDue (body.PoAck record { j = j; k = k; digest = digest_of_update u })
       (u, ap first_of_list e, refl, fresh)
 
+  ack_is_due : (j k : ℕ) → Each IsDue (ack_due known said j k)
+  ack_is_due j k = each_if IsDue (list_any (acks j k) said) [] _ (λ _. each_none IsDue)
+      (λ fresh. ack_from j k (updates_requested known j k) refl fresh)
+
   acks_are_due : Each IsDue (acks_due g known said)
   acks_are_due = each_flat_map IsDue _ (numbers_below g.n)
-      (λ j _. each_flat_map IsDue _ (numbers_from 1 most_number) (λ k _.
-      each_if IsDue (list_any (acks j k) said) [] _ (λ _. each_none IsDue)
-      (λ fresh. ack_from j k (updates_requested known j k) refl fresh)))
+      (λ j _. each_flat_map IsDue _ (numbers_from 1 most_number) (λ k _. ack_is_due j k))
+
+  acks_in_turn_are_due : Each IsDue (acks_in_turn_due g known said)
+  acks_in_turn_are_due = each_flat_map IsDue _ (numbers_below g.n)
+      (λ j _. each_flat_map IsDue _ (numbers_from 1 most_number)
+      (λ k _. each_if IsDue (has_turn g known j k) _ [] (λ _. ack_is_due j k) (λ _. each_none IsDue)))
 
   summaries_are_due : (at_tick : Bool) → Each IsDue (summaries_due g known said at_tick)
   summaries_are_due at_tick =
@@ -168,13 +223,31 @@ module _ (g : Group) (orders : List Update → ℕ → List Order) (me : ℕ) (k
             latest_frames g known;
       }) (refl, plan, refl)) (λ _. each_none IsDue))
 
-  prepares_are_due : Each IsDue (prepares_due g (facts_of g known) said (view g known) (is_open g known))
-  prepares_are_due = each_if IsDue (is_open g known) _ []
-      (λ opened. each_flat_map IsDue _ (in_window g (facts_of g known)) (λ s _.
-      each_if IsDue (list_any (prepares_said (view g known) s) said) [] _ (λ _. each_none IsDue) (λ fresh.
+  whole_preprepares_are_due : (facts : List OrderFact) (at_tick : Bool) →
+      Each IsDue (whole_preprepares_due g me known facts said at_tick)
+  whole_preprepares_are_due facts at_tick = each_elim IsDue (plan_known facts (view g known)) _ (λ plan _.
+      each_if IsDue (nat_le plan.base (gapless g facts)) _ [] (λ _. preprepares_are_due facts at_tick)
+      (λ _. each_none IsDue))
+
+  prepare_is_due : is_open g known ≡ true → (s : ℕ) →
+      Each IsDue (prepare_due (facts_of g known) said (view g known) s)
+  prepare_is_due opened s = each_if IsDue (list_any (prepares_said (view g known) s) said) [] _
+      (λ _. each_none IsDue) (λ fresh.
       each_elim IsDue (offered (facts_of g known) (view g known) s) _ (λ rows e.
       each_one IsDue (body.Prepare record { v = view g known; s = s; digest = digest_of_rows rows })
-      (rows, e, refl, refl, opened, fresh)))))
+      (rows, e, refl, refl, opened, fresh)))
+
+  prepares_are_due : Each IsDue (prepares_due g (facts_of g known) said (view g known) (is_open g known))
+  prepares_are_due = each_if IsDue (is_open g known) _ []
+      (λ opened. each_flat_map IsDue _ (in_window g (facts_of g known)) (λ s _. prepare_is_due opened s))
+      (λ _. each_none IsDue)
+
+  worthy_prepares_are_due : Each IsDue
+      (worthy_prepares_due g (facts_of g known) said (view g known) (is_open g known))
+  worthy_prepares_are_due = each_if IsDue (is_open g known) _ []
+      (λ opened. each_flat_map IsDue _ (in_window g (facts_of g known)) (λ s _.
+      each_if IsDue (is_worth g (facts_of g known) (view g known) s) _ [] (λ _. prepare_is_due opened s)
+      (λ _. each_none IsDue)))
       (λ _. each_none IsDue)
 
   commits_are_due : Each IsDue (commits_due g (facts_of g known) said (view g known))
@@ -205,6 +278,9 @@ module _ (g : Group) (orders : List Update → ℕ → List Order) (me : ℕ) (k
   suspects_are_due : (v : ℕ) (at_tick : Bool) → Each IsDue (suspects_due g known said v at_tick)
   suspects_are_due v at_tick = each_if IsDue _ _ [] (λ _. each_one IsDue _ tt) (λ _. each_none IsDue)
 
+  votes_are_due : (v waiting now : ℕ) (at_tick : Bool) → Each IsDue (votes_due g known said v waiting now at_tick)
+  votes_are_due v waiting now at_tick = each_map IsDue _ _ (λ w _. tt)
+
   report_is_due : Each IsDue
       (report_due g known said (stable g (facts_of g known))
       (marks_for g (facts_of g known) (stable g (facts_of g known)))
@@ -234,10 +310,8 @@ module _ (g : Group) (orders : List Update → ℕ → List Order) (me : ℕ) (k
       f ≡ as_frame body.PoRequest r
   request_of_frame j k u f r e = request_of_body j k u f.signer f.body f.sig r e
 
-  gives_are_due : Each IsDue (gives_due g me known said)
-  gives_are_due = each_flat_map IsDue _ (numbers_below g.n)
-      (λ j _. each_flat_map IsDue _ (numbers_from 1 most_number) (λ k _.
-      each_if IsDue _ _ [] (λ _. each_elim IsDue (certified g known j k) _
+  request_gift_is_due : (j k : ℕ) → Each IsDue (request_gift g known j k)
+  request_gift_is_due j k = each_elim IsDue (certified g known j k) _
       (λ u _. each_elim IsDue (first_of_list (filter_map (request_of j k u) known)) _ (λ request e.
       each_one IsDue (body.Give record { request = request; acks = quorum_of_acks g known j k (digest_of_update u) }) (
       let found = in_filter_map_from (request_of j k u) known (first_in (filter_map (request_of j k u) known) e) in (
@@ -246,12 +320,15 @@ module _ (g : Group) (orders : List Update → ℕ → List Order) (me : ℕ) (k
         digest_of_update u,
         subst (λ (f : Signed Body). IsIn f known) (request_of_frame j k u found.0 request found.2) found.1,
         refl,
-      )))))
-      (λ _. each_none IsDue)))
+      ))))
 
-  gives_ordered_are_due : Each IsDue (gives_ordered_due g me known (facts_of g known) said)
-  gives_ordered_are_due = each_flat_map IsDue _ (numbers_from 1 most_number) (λ s _.
-      each_if IsDue _ _ [] (λ _. each_elim IsDue (ordered g (facts_of g known) s) _ (λ rows e.
+  gives_are_due : Each IsDue (gives_due g me known said)
+  gives_are_due = each_flat_map IsDue _ (numbers_below g.n)
+      (λ j _. each_flat_map IsDue _ (numbers_from 1 most_number) (λ k _.
+      each_if IsDue _ _ [] (λ _. request_gift_is_due j k) (λ _. each_none IsDue)))
+
+  order_gift_is_due : (s : ℕ) → Each IsDue (order_gift g (facts_of g known) s)
+  order_gift_is_due s = each_elim IsDue (ordered g (facts_of g known) s) _ (λ rows e.
       each_one IsDue (body.GiveOrdered record {
         s = s;
         v =
@@ -261,8 +338,37 @@ module _ (g : Group) (orders : List Update → ℕ → List Order) (me : ℕ) (k
             quorum_of g (commit_by (greatest_of (committed_views g (facts_of g known) s (digest_of_rows rows))) s
             (digest_of_rows rows)) (facts_of g known);
       })
-      (greatest_of (committed_views g (facts_of g known) s (digest_of_rows rows)), digest_of_rows rows, e, refl)))
-      (λ _. each_none IsDue))
+      (greatest_of (committed_views g (facts_of g known) s (digest_of_rows rows)), digest_of_rows rows, e, refl))
+
+  gives_ordered_are_due : Each IsDue (gives_ordered_due g me known (facts_of g known) said)
+  gives_ordered_are_due = each_flat_map IsDue _ (numbers_from 1 most_number) (λ s _.
+      each_if IsDue _ _ [] (λ _. order_gift_is_due s) (λ _. each_none IsDue))
+
+  gift_for_is_due : (asked : Body) → Each IsDue (gift_for g known (facts_of g known) asked)
+  gift_for_is_due (body.AskUpdate b) = request_gift_is_due b.j b.k
+  gift_for_is_due (body.AskOrder b) = order_gift_is_due b.s
+  gift_for_is_due _ = each_none IsDue
+
+  gift_is_due : (answered : List ℕ) (took : Option (Signed Body)) (now : ℕ) →
+      Each IsDue (gift_due g me known (facts_of g known) answered took now)
+  gift_is_due answered None now = each_none IsDue
+  gift_is_due answered (Some f) now =
+      each_if IsDue _ _ [] (λ _. gift_for_is_due f.body) (λ _. each_none IsDue)
+
+  some_gifts_are_due : (kind : Body → Bool) (answered : List ℕ) (took : Option (Signed Body)) (now : ℕ) →
+      Each IsDue (filter kind (gift_due g me known (facts_of g known) answered took now))
+  some_gifts_are_due kind answered took now b h =
+      gift_is_due answered took now b (in_filter_from kind (gift_due g me known (facts_of g known) answered took now) h).0
+
+  update_asks_are_due : (moments : List Moment) (now : ℕ) (at_tick : Bool) →
+      Each IsDue (update_asks_due g known (facts_of g known) said moments now at_tick)
+  update_asks_are_due moments now at_tick =
+      each_if IsDue at_tick _ [] (λ _. each_map IsDue _ _ (λ r _. tt)) (λ _. each_none IsDue)
+
+  order_asks_are_due : (v : ℕ) (opened : Bool) (waiting now : ℕ) (at_tick : Bool) →
+      Each IsDue (order_asks_due g (facts_of g known) said v opened waiting now at_tick)
+  order_asks_are_due v opened waiting now at_tick =
+      each_if IsDue at_tick _ [] (λ _. each_map IsDue _ _ (λ s _. tt)) (λ _. each_none IsDue)
 
   vouchers_from_are_due : (c k : ℕ) (rest : List Order) →
       ((x : ℕ) → slice_get (orders (executed g known) c) (k + x) ≡ slice_get rest x) →
@@ -290,41 +396,100 @@ module _ (g : Group) (orders : List Update → ℕ → List Order) (me : ℕ) (k
   marks_are_due = each_flat_map IsDue (mark_due said) _
       (λ s _. each_if IsDue _ _ [] (λ _. each_one IsDue _ tt) (λ _. each_none IsDue))
 
--- each word that is said is one that is due
+  found_again : (xs : List Body) (t : Body → Bool) → ((b : Body) → IsIn b xs → IsIn b said) →
+      ((b : Body) → t b ≡ true → is_repeated b ≡ true) → Each (Again said) (option_to_list (find t xs))
+  found_again xs t within repeats = by_found (find t xs) (λ b e. let found = find_some t xs e in
+      (within b found.0, repeats b found.1))
+    where
+      by_found : (o : Option Body) → ((b : Body) → o ≡ Some b → Again said b) →
+          Each (Again said) (option_to_list o)
+      by_found None at = each_none (Again said)
+      by_found (Some b) at = each_one (Again said) b (at b refl)
+
+  pub request_is_again : (now : ℕ) (at_tick : Bool) → Each (Again said) (request_again_due g me known said now at_tick)
+  request_is_again now at_tick = each_if (Again said) (at_tick && is_slow_beat now)
+      (option_to_list (find (requests_number (vector g known me + 1)) said)) []
+      (λ _. found_again said (requests_number (vector g known me + 1)) (λ b h. h)
+      (request_repeated (vector g known me + 1))) (λ _. each_none (Again said))
+
+  pub acks_are_again : (now : ℕ) (at_tick : Bool) → Each (Again said) (acks_again_due g known said now at_tick)
+  acks_are_again now at_tick = each_if (Again said) (at_tick && is_slow_beat now)
+      (flat_map (λ j. option_to_list (find (acks j (vector g known j + 1)) said)) (numbers_below g.n)) []
+      (λ _. each_flat_map (Again said) (λ j. option_to_list (find (acks j (vector g known j + 1)) said))
+      (numbers_below g.n) (λ j _. found_again said (acks j (vector g known j + 1)) (λ b h. h)
+      (ack_repeated j (vector g known j + 1)))) (λ _. each_none (Again said))
+
+  pub summary_is_again : (now : ℕ) (at_tick : Bool) →
+      Each (Again said) (summary_again_due g (facts_of g known) said now at_tick)
+  summary_is_again now at_tick = each_if (Again said) _ (option_to_list (find is_summary (reverse said))) []
+      (λ _. found_again (reverse said) is_summary (λ b h. in_reverse said h) summary_repeated)
+      (λ _. each_none (Again said))
+
+each_weaker : {X : Type 0} (P Q : X → Type 0) (xs : List X) → ((x : X) → P x → Q x) → Each P xs → Each Q xs
+each_weaker P Q xs weaker each x h = weaker x (each x h)
+
+pub each_by_rules : (P : Body → Type 0) (rules : Bool) (first live : List Body) → Each P first → Each P live →
+    Each P (by_rules rules first live)
+each_by_rules P rules first live by_first by_live = each_if P rules live first (λ _. by_live) (λ _. by_first)
+
+-- Each word that is said is one that is due, or was said before.
 pub answers_are_due : (g : Group) (orders : List Update → ℕ → List Order) (me : ℕ) (before : List Heard)
     (took : Option (Signed Body)) (at_tick : Bool)
-    → Each (Due g orders (known_at before took) (taken_at before took) (said_before before))
-    (answers g orders me before took at_tick)
+    → Each (λ b. Due g orders (known_at before took) (taken_at before took) (said_before before) b
+    ⊎ Again (said_before before) b) (answers g orders me before took at_tick)
 unfolding answers
 answers_are_due g orders me before took at_tick =
     let known : List (Signed Body) = known_at before took in
     let taken : List (Signed Body) = taken_at before took in
     let said : List Body = said_before before in
-    let P = λ (b : Body). Due g orders known taken said b in
+    let D = λ (b : Body). Due g orders known taken said b in
+    let S = λ (b : Body). Again said b in
+    let P = λ (b : Body). Due g orders known taken said b ⊎ Again said b in
+    let new = λ (xs : List Body) (each : Each D xs). each_weaker D P xs (λ b d. inl d) each in
+    let again = λ (xs : List Body) (each : Each S xs). each_weaker S P xs (λ b h. inr h) each in
     let facts : List OrderFact = facts_of g known in
     let told : List Told = told_of g [] (before ++ record { took = took; is_tick = at_tick; said = [] } ∷ []) in
     let v : ℕ = view g known in
+    let now : ℕ = ticks_of told in
+    let moments : List Moment = moments_of g [] (before ++ record { took = took; is_tick = at_tick; said = [] } ∷ []) in
+    let waiting : ℕ = wait g v (reach g (ordered_run g facts)) moments in
     each_append P _ _ (each_append P _ _ (each_append P _ _ (each_append P _ _ (each_append P _ _
     (each_append P _ _ (each_append P _ _ (each_append P _ _ (each_append P _ _ (each_append P _ _
     (each_append P _ _ (each_append P _ _ (each_append P _ _ (each_append P _ _ (each_append P _ _
     (each_append P _ _ (each_append P _ _ (each_append P _ _ (each_append P _ _
-    (requests_are_due g orders me known taken said said (numbers_below g.clients))
-    (acks_are_due g orders me known taken said))
-    (summaries_are_due g orders me known taken said at_tick))
-    (preprepares_are_due g orders me known taken said facts at_tick))
-    (prepares_are_due g orders me known taken said))
-    (commits_are_due g orders me known taken said))
-    (pings_are_due g orders me known taken said (ticks_of told) at_tick))
-    (pongs_are_due g orders me known taken said))
-    (round_trips_are_due g orders me known taken said (ticks_of told)))
-    (tat_reports_are_due g orders me known taken said v (waited v told) at_tick))
-    (tat_bounds_are_due g orders me known taken said v at_tick))
-    (suspects_are_due g orders me known taken said v at_tick))
-    (report_is_due g orders me known taken said))
-    (new_view_is_due g orders me known taken said))
-    (ask_update_is_due g orders me known taken said at_tick (waiting_for g known)))
-    (gives_are_due g orders me known taken said))
-    (ask_order_is_due g orders me known taken said at_tick (gap_of g facts)))
-    (gives_ordered_are_due g orders me known taken said))
-    (vouchers_are_due g orders me known taken said))
-    (marks_are_due g orders me known taken said)
+    (each_by_rules P (is_live g) _ _ (new _ (requests_are_due g orders me known taken said said (numbers_below g.clients)))
+    (each_append P _ _
+    (new _ (requests_in_turn_are_due g orders me known taken said (executed g known) said (numbers_below g.clients)))
+    (again _ (request_is_again g orders me known taken said now at_tick))))
+    (each_by_rules P (is_live g) _ _ (new _ (acks_are_due g orders me known taken said))
+    (each_append P _ _ (new _ (acks_in_turn_are_due g orders me known taken said))
+    (again _ (acks_are_again g orders me known taken said now at_tick)))))
+    (each_by_rules P (is_live g) _ _ (new _ (summaries_are_due g orders me known taken said at_tick))
+    (each_append P _ _ (again _ (summary_is_again g orders me known taken said now at_tick))
+    (new _ (summaries_are_due g orders me known taken said at_tick)))))
+    (each_by_rules P (is_live g) _ _ (new _ (preprepares_are_due g orders me known taken said facts at_tick))
+    (new _ (whole_preprepares_are_due g orders me known taken said facts at_tick))))
+    (each_by_rules P (is_live g) _ _ (new _ (prepares_are_due g orders me known taken said))
+    (new _ (worthy_prepares_are_due g orders me known taken said))))
+    (new _ (commits_are_due g orders me known taken said)))
+    (each_by_rules P (is_live g) _ _ (new _ (pings_are_due g orders me known taken said now at_tick)) (each_none P)))
+    (each_by_rules P (is_live g) _ _ (new _ (pongs_are_due g orders me known taken said)) (each_none P)))
+    (each_by_rules P (is_live g) _ _ (new _ (round_trips_are_due g orders me known taken said now)) (each_none P)))
+    (each_by_rules P (is_live g) _ _ (new _ (tat_reports_are_due g orders me known taken said v (waited v told) at_tick))
+    (each_none P)))
+    (each_by_rules P (is_live g) _ _ (new _ (tat_bounds_are_due g orders me known taken said v at_tick)) (each_none P)))
+    (each_by_rules P (is_live g) _ _ (new _ (suspects_are_due g orders me known taken said v at_tick))
+    (new _ (votes_are_due g orders me known taken said v waiting now at_tick))))
+    (new _ (report_is_due g orders me known taken said)))
+    (new _ (new_view_is_due g orders me known taken said)))
+    (each_by_rules P (is_live g) _ _
+    (new _ (ask_update_is_due g orders me known taken said at_tick (waiting_for g known)))
+    (new _ (update_asks_are_due g orders me known taken said moments now at_tick))))
+    (each_by_rules P (is_live g) _ _ (new _ (gives_are_due g orders me known taken said))
+    (new _ (some_gifts_are_due g orders me known taken said is_give (answered_in before) took now))))
+    (each_by_rules P (is_live g) _ _ (new _ (ask_order_is_due g orders me known taken said at_tick (gap_of g facts)))
+    (new _ (order_asks_are_due g orders me known taken said v (is_open g known) waiting now at_tick))))
+    (each_by_rules P (is_live g) _ _ (new _ (gives_ordered_are_due g orders me known taken said))
+    (new _ (some_gifts_are_due g orders me known taken said is_order_given (answered_in before) took now))))
+    (new _ (vouchers_are_due g orders me known taken said)))
+    (new _ (marks_are_due g orders me known taken said))

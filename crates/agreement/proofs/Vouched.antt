@@ -27,7 +27,7 @@ use Rattle.agreement.proofs.Lists.{first_met-more, slice_get-more, slice_get-nex
 use Rattle.agreement.proofs.Quorums.{voter_beyond}
 use Rattle.agreement.proofs.Places.{by_growth, said_whole, whole_upto}
 use Rattle.agreement.proofs.Known.{heard_more, heard_last, hears, known_then}
-use Rattle.agreement.proofs.Origin.{said_due}
+use Rattle.agreement.proofs.Origin.{FirstSaid, first_said, due_first}
 use Rattle.agreement.proofs.Once.{correct_master, correct_actor}
 use Rattle.agreement.proofs.Executed.{executed_grow, runs_grow}
 use Rattle.agreement.proofs.Executions.{executions_agree}
@@ -136,9 +136,11 @@ module _ (w : Setup) (history : List Entry) (client : ℕ) (sound : IsSound w hi
   voucher_holds : (i x : ℕ) (order : Order) → is_correct_master w i ≡ true →
       HasSaid history i (voucher_of x order)
       → slice_get (w.orders (executions w history i) client) x ≡ Some order
-  voucher_holds i x order correct said =
-      let due = said_due w i (voucher_of x order)
-      sound.legal said.place said.by correct said.among in
+  voucher_holds i x order correct was_said =
+      let first : FirstSaid w history i (voucher_of x order) =
+      first_said w i (voucher_of x order) correct history sound.legal was_said in
+      let said : HasSaid history i (voucher_of x order) = first.said in
+      let due = due_first w history i (voucher_of x order) first in
       let upto : List Entry = said.before ++ said.entry ∷ [] in
       let last = heard_last w said.before said.entry i said.by due.0 in
       let known : known_by w (said.before ++ said.entry ∷ []) i ≡ known_then w said.before i said.entry =

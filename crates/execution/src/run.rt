@@ -1,7 +1,7 @@
-ghost use Rattle.std.specs.Prelude.{◌≡◌, ◌+◌, ◌≤◌, ◌<◌, [], None, IsTrue, OnOk, OnErr};
+ghost use Rattle.std.specs.Prelude.{◌≡◌, ◌+◌, ◌≤◌, ◌<◌, ℕ, [], None, IsTrue, OnOk, OnErr, slice_index};
 ghost use Rattle.protocol_rules.specs.Group.{group_of, most_number};
 ghost use Rattle.protocol_rules.specs.Places.{are_rows};
-ghost use Rattle.protocol_rules.specs.Execution.{executed_of, waiting_of};
+ghost use Rattle.protocol_rules.specs.Execution.{executed_of, updates_of, waiting_of};
 ghost use Rattle.protocol_rules.specs.Matrix as rules;
 ghost use Rattle.summary_matrix.specs.Held.{TellsEach};
 ghost use Rattle.execution.specs.Ran.{IsRunOf, LearnsRows, LearnsCertified, Where, requested};
@@ -138,6 +138,13 @@ impl Run {
         ensures { Where self.now (λ g certified runs. result.now ≡ executed_of g certified runs) }
     {
         self.executed.as_slice()
+    }
+
+    /// How many updates of each client are executed.
+    pub fn counts(&self) -> &[u64; CLIENT_PLACES]
+        ensures { Where self.now (λ g certified runs. (c : ℕ) → c < MOST_CLIENTS → slice_index result.now c ≡ updates_of c (executed_of g certified runs)) }
+    {
+        &self.counts
     }
 
     /// How many numbers' rows were taken.

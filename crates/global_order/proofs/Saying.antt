@@ -1,7 +1,7 @@
 -- What is due, and what saying it changes.
 use Rattle.std.proofs.Common.{◌≡◌, ℕ, zero, suc, ◌+◌, ◌-◌, ◌≤◌, ◌<◌, ◌⊎◌, ◌%◌, inl, inr, Bool, true, false, cond}
 use Rattle.std.proofs.Common.{◌&&◌, ◌||◌, not, List, [], ◌∷◌, ◌++◌, Option, Some, None, nat_eq, nat_le, refl, sym}
-use Rattle.std.proofs.Common.{◌∙◌, ap, arith}
+use Rattle.std.proofs.Common.{◌∙◌, ap, arith, min}
 use Rattle.std.specs.List.{list_any, flat_map}
 use Rattle.std.proofs.lemmas.Bool.{le-leb, lt-leb, cases_lt, cases_eq, eq-eqb, ne_eqb}
 use Rattle.std.proofs.lemmas.List.Folds.{list_any-append}
@@ -16,16 +16,26 @@ use Rattle.protocol_rules.specs.Order.{commits_due, mark_due, marks_due, marks_s
 use Rattle.std.specs.HashSet.{contains}
 use Rattle.global_order.specs.Index.{same_pair}
 use Rattle.global_order.specs.Saying.{HasMarked, Places}
+use Rattle.global_order.specs.OrderState.{prepares_up_to}
 use Rattle.global_order.proofs.Ranges.{narrow, flat_map-none}
 use Rattle.protocol_rules.proofs.Numbers.{any-from}
 
-pub prepares-are : (g : Group) (facts : List OrderFact) (said : List Body) (v count : ℕ) (is_open : Bool) →
-    count ≡ cond is_open (stable g facts + 16) 0 →
-    flat_map (prepare_due facts said v) (numbers_from 1 count) ≡ prepares_due g facts said v is_open
+pub prepares-are : (g : Group) (facts : List OrderFact) (said : List Body) (v last count : ℕ) →
+    count ≡ min last (stable g facts + 16) →
+    flat_map (prepare_due facts said v) (numbers_from 1 count) ≡ prepares_up_to g facts said v last
 unfolding window
-prepares-are g facts said v count true e = ap (λ n. flat_map (prepare_due facts said v) (numbers_from 1 n)) e
-prepares-are g facts said v count false e = ap (λ n. flat_map (prepare_due facts said v) (numbers_from 1 n)) e
-    ∙ flat_map-none (prepare_due facts said v) 1
+prepares-are g facts said v last count e = ap (λ n. flat_map (prepare_due facts said v) (numbers_from 1 n)) e
+
+-- a view that is open is so as far as its window goes
+pub opened-are : (g : Group) (facts : List OrderFact) (said : List Body) (v last : ℕ) (is_open : Bool) →
+    last ≡ cond is_open (stable g facts + window) 0 →
+    prepares_up_to g facts said v last ≡ prepares_due g facts said v is_open
+opened-are g facts said v last true e =
+    let all : min last (stable g facts + window) ≡ stable g facts + window = omega arith in
+    ap (λ n. flat_map (prepare_due facts said v) (numbers_from 1 n)) all
+opened-are g facts said v last false e =
+    let none : min last (stable g facts + window) ≡ 0 = omega arith in
+    ap (λ n. flat_map (prepare_due facts said v) (numbers_from 1 n)) none ∙ flat_map-none (prepare_due facts said v) 1
 
 pub commits-are : (g : Group) (facts : List OrderFact) (said : List Body) (v count : ℕ) →
     count ≡ stable g facts + 16 →
@@ -112,38 +122,27 @@ mark-apart said s k ne = by (nat_eq (k % mark_step) 0 && not (list_any (marks_sa
 reached : (s marked reach : ℕ) → s ≤ marked → marked ≤ reach → s ≤ reach
 reached s marked reach one two = omega arith
 
-pub ends-open : (end was stable_is : ℕ) (is_open : Bool) → is_open ≡ true → end ≡ was + 16 + 1 → was ≡ stable_is →
-    end - 1 ≡ cond is_open (stable_is + 16) 0
-ends-open end was stable_is is_open open_is e same = let count : end - 1 ≡ stable_is + 16 = omega arith in
-    count ∙ sym (ap (λ b. cond b (stable_is + 16) 0) open_is)
-
-pub ends-closed : (end stable_is : ℕ) (is_open : Bool) → is_open ≡ false → end ≡ 1 →
-    end - 1 ≡ cond is_open (stable_is + 16) 0
-ends-closed end stable_is is_open closed_is e = let count : end - 1 ≡ 0 = omega arith in
-    count ∙ sym (ap (λ b. cond b (stable_is + 16) 0) closed_is)
-
 -- the three kinds in turn
 pub joined : (none one two three P C M : List Body) → none ≡ [] → one ≡ none ++ P → two ≡ one ++ C →
     three ≡ two ++ M → three ≡ P ++ C ++ M
 joined none one two three P C M start first second third =
     third ∙ ap (λ xs. xs ++ M) (second ∙ ap (λ xs. xs ++ C) (first ∙ ap (λ xs. xs ++ P) start))
 
-pub marked-after : (g : Group) (facts : List OrderFact) (said bodies : List Body) (v marked reach : ℕ)
-    (is_open : Bool) → HasMarked said marked → marked ≤ reach → reach ≡ gapless g facts →
-    bodies ≡ prepares_due g facts said v is_open ++ commits_due g facts said v ++ marks_due g facts said →
+pub marked-after : (g : Group) (facts : List OrderFact) (said bodies : List Body) (v last marked reach : ℕ) →
+    HasMarked said marked → marked ≤ reach → reach ≡ gapless g facts →
+    bodies ≡ prepares_up_to g facts said v last ++ commits_due g facts said v ++ marks_due g facts said →
     HasMarked (said ++ bodies) reach
-marked-after g facts said bodies v marked reach is_open has le e all s low multiple =
+marked-after g facts said bodies v last marked reach has le e all s low multiple =
     list_any-append (marks_said s) said bodies ∙ ap (λ b. b || list_any (marks_said s) bodies) (has s low multiple)
     ∙ ap (λ b. nat_le s marked || b) (ap (list_any (marks_said s)) all ∙ list_any-append (marks_said s)
-    (prepares_due g facts said v is_open ++ commits_due g facts said v) (marks_due g facts said)
+    (prepares_up_to g facts said v last ++ commits_due g facts said v) (marks_due g facts said)
     ∙ ap (λ b. b || list_any (marks_said s) (marks_due g facts said))
-    (list_any-append (marks_said s) (prepares_due g facts said v is_open) (commits_due g facts said v)
-    ∙ (λ i. no-prepares is_open i || no-commits i)))
+    (list_any-append (marks_said s) (prepares_up_to g facts said v last) (commits_due g facts said v)
+    ∙ (λ i. no-prepares i || no-commits i)))
     ∙ by (cases_lt marked s) (cases_lt reach s)
   where
-    no-prepares : (b : Bool) → list_any (marks_said s) (prepares_due g facts said v b) ≡ false
-    no-prepares false = refl
-    no-prepares true = none-from (marks_said s) (prepare_due facts said v) 1 (stable g facts + window)
+    no-prepares : list_any (marks_said s) (prepares_up_to g facts said v last) ≡ false
+    no-prepares = none-from (marks_said s) (prepare_due facts said v) 1 (min last (stable g facts + window))
         (λ k lo hi. no-mark-prepare facts said v s k)
 
     no-commits : list_any (marks_said s) (commits_due g facts said v) ≡ false

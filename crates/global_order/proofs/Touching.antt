@@ -21,10 +21,11 @@ use Rattle.protocol_rules.specs.Words.{first_of_list, numbers_from, or_else}
 use Rattle.protocol_rules.specs.Plans.{first_plan}
 use Rattle.protocol_rules.specs.Group.{Group, window}
 use Rattle.protocol_rules.specs.Order.{commit_due, commits_due, commits_said, offered, plan_in, plan_known}
-use Rattle.protocol_rules.specs.Order.{prepare_due, prepared, prepares_due, prepares_said, proposal_in, stable}
+use Rattle.protocol_rules.specs.Order.{prepare_due, prepared, prepares_said, proposal_in, stable}
 use Rattle.global_order.specs.declared.pending.PendingNumbers.{PendingNumbers}
 use Rattle.global_order.specs.declared.slots.Slot.{Slot}
 use Rattle.global_order.specs.Index.{KeepsSlots, Map, TakesDigest, first_in, prepared_in, same_pair}
+use Rattle.global_order.specs.OrderState.{prepares_up_to}
 use Rattle.global_order.specs.Saying.{HasSaidCommits, HasSaidPrepares, Places}
 use Rattle.global_order.specs.Unsaid.{HasPending, IsAmong, IsNoted, LooksFrom, holds_prepared, offers_rows, said_in}
 use Rattle.global_order.specs.Unsaid.{whole_view, with_view}
@@ -222,6 +223,16 @@ pending-plan said facts v plan plans p q held is has =
 
 -- what is due in a range is all that is due
 
+outside-pending : (f : ℕ → List Body) (said there : ℕ → ℕ → Bool) (p : PendingNumbers) (k : ℕ) →
+    ((j : ℕ) → said p.view j ≡ true → f j ≡ []) → ((j : ℕ) → there p.view j ≡ false → f j ≡ []) →
+    HasPending said there p → 1 ≤ k → (IsAmong p k → ⊥) → f k ≡ []
+outside-pending f said there p k when_said when_none has one never = on (said p.view k) refl (there p.view k) refl
+  where
+    on : (a : Bool) → said p.view k ≡ a → (b : Bool) → there p.view k ≡ b → f k ≡ []
+    on true is b at = when_said k is
+    on false is false at = when_none k at
+    on false is true at = absurd (never (has.within k one is at))
+
 pub narrow-pending : (f : ℕ → List Body) (said there : ℕ → ℕ → Bool) (p : PendingNumbers) (end high middle : ℕ) →
     ((k : ℕ) → said p.view k ≡ true → f k ≡ []) → ((k : ℕ) → there p.view k ≡ false → f k ≡ []) →
     HasPending said there p → high ≡ min p.high end → middle ≡ min p.beyond end →
@@ -252,16 +263,34 @@ narrow-pending f said there p (suc end) high middle when_said when_none has high
     (omega (arith, middle_is, one))))))
   where
     outside : (k : ℕ) → 1 ≤ k → (IsAmong p k → ⊥) → f k ≡ []
-    outside k one never = on (said p.view k) refl (there p.view k) refl
-      where
-        on : (a : Bool) → said p.view k ≡ a → (b : Bool) → there p.view k ≡ b → f k ≡ []
-        on true is b at = when_said k is
-        on false is false at = when_none k at
-        on false is true at = absurd (never (has.within k one is at))
+    outside k one never = outside-pending f said there p k when_said when_none has one never
 
     by : (k : ℕ) → IsAmong p k → ((p.low ≤ k) × (k < p.high) → ⊥) → k < p.beyond → ⊥
     by k (inl within) never below = never within
     by k (inr beyond) never below = omega arith
+
+-- no prepare is due where one was said, or where no rows are offered
+prepare-said : (facts : List OrderFact) (words : List Body) (places : Places) (v k : ℕ) → HasSaidPrepares words places →
+    said_in places v k ≡ true → prepare_due facts words v k ≡ []
+prepare-said facts words places v k held said =
+    ap (λ b. cond {A = List Body} b []
+    (elim (offered facts v k)
+    [ Some rows ↦ body.Prepare record { v = v; s = k; digest = digest_of_rows rows } ∷ [] | None ↦ [] ]))
+    (sym (held v k) ∙ said)
+
+pub prepare-none : (facts : List OrderFact) (words : List Body) (v k : ℕ) → offers_rows facts v k ≡ false →
+    prepare_due facts words v k ≡ []
+prepare-none facts words v k none = by (list_any (prepares_said v k) words) (offered facts v k) none
+  where
+    by : (b : Bool) (o : Option (List (List ℕ))) → is_some o ≡ false →
+        cond {A = List Body} b []
+        (elim o [
+          | Some rows ↦ body.Prepare record { v = v; s = k; digest = digest_of_rows rows } ∷ []
+          | None ↦ []
+        ]) ≡ []
+    by true o none = refl
+    by false None none = refl
+    by false (Some rows) none = absurd (true≢false none)
 
 pub narrow-prepares : (facts : List OrderFact) (words : List Body) (places : Places) (p : PendingNumbers)
     (end high middle : ℕ) → HasSaidPrepares words places → HasPending (said_in places) (offers_rows facts) p →
@@ -271,21 +300,20 @@ pub narrow-prepares : (facts : List OrderFact) (words : List Body) (places : Pla
     (prepare_due facts words p.view) (numbers_from 1 (end - 1))
 narrow-prepares facts words places p end high middle held has high_is middle_is =
     narrow-pending (prepare_due facts words p.view) (said_in places) (offers_rows facts) p end high middle
-    (λ k said. ap (λ b. cond {A = List Body} b []
-    (elim (offered facts p.view k)
-    [ Some rows ↦ body.Prepare record { v = p.view; s = k; digest = digest_of_rows rows } ∷ [] | None ↦ [] ]))
-    (sym (held p.view k) ∙ said))
-    (λ k none. by k (list_any (prepares_said p.view k) words) (offered facts p.view k) none) has high_is middle_is
-  where
-    by : (k : ℕ) (b : Bool) (o : Option (List (List ℕ))) → is_some o ≡ false →
-        cond {A = List Body} b []
-        (elim o [
-          | Some rows ↦ body.Prepare record { v = p.view; s = k; digest = digest_of_rows rows } ∷ []
-          | None ↦ []
-        ]) ≡ []
-    by k true o none = refl
-    by k false None none = refl
-    by k false (Some rows) none = absurd (true≢false none)
+    (λ k said. prepare-said facts words places p.view k held said)
+    (λ k none. prepare-none facts words p.view k none) has high_is middle_is
+
+-- none is due below the first number pending
+pub none-before : (facts : List OrderFact) (words : List Body) (places : Places) (p : PendingNumbers)
+    (v first last s : ℕ) → p.view ≡ v → HasSaidPrepares words places →
+    HasPending (said_in places) (offers_rows facts) p → ((t : ℕ) → IsAmong p t → first ≤ t) → last ≡ first - 1 →
+    1 ≤ s → s ≤ last → prepare_due facts words v s ≡ []
+none-before facts words places p v first last s view held has least last_is one within =
+    subst (λ (u : ℕ). prepare_due facts words u s ≡ []) view
+    (outside-pending (prepare_due facts words p.view) (said_in places) (offers_rows facts) p s
+    (λ k said. prepare-said facts words places p.view k held said)
+    (λ k none. prepare-none facts words p.view k none) has one
+    (λ among. let le : first ≤ s = least s among in omega arith))
 
 pub narrow-commits : (g : Group) (facts : List OrderFact) (words : List Body) (places : Places)
     (slots : Map (ℕ × ℕ) Slot) (p : PendingNumbers) (end high middle : ℕ) → HasSaidCommits words places →
@@ -343,21 +371,19 @@ pending-said kind there bodies noted old mid new p q end same are more from amon
         (sym (said_now s) ∙ unsaid)) (cases_lt s end)
 
 pub prepare-among : (g : Group) (facts : List OrderFact) (words : List Body) (places : Places) (rest more : List Body)
-    (v w end s : ℕ) (is_open : Bool) → w ≡ v → HasSaidPrepares words places →
-    end - 1 ≡ cond is_open (stable g facts + 16) 0 →
+    (v w last end s : ℕ) → w ≡ v → HasSaidPrepares words places → end - 1 ≡ min last (stable g facts + 16) →
     1 ≤ s → s < end → said_in places w s ≡ false → offers_rows facts w s ≡ true →
-    list_any (prepares_said w s) ((prepares_due g facts words v is_open ++ rest) ++ more) ≡ true
+    list_any (prepares_said w s) ((prepares_up_to g facts words v last ++ rest) ++ more) ≡ true
 unfolding window
-prepare-among g facts words places rest more v w end s false view held count one below unsaid some =
-    absurd (omega arith)
-prepare-among g facts words places rest more v w end s true view held count one below unsaid some =
-    list_any-append (prepares_said w s) (prepares_due g facts words v true ++ rest) more
-    ∙ or_left (list_any (prepares_said w s) (prepares_due g facts words v true ++ rest))
+prepare-among g facts words places rest more v w last end s view held count one below unsaid some =
+    list_any-append (prepares_said w s) (prepares_up_to g facts words v last ++ rest) more
+    ∙ or_left (list_any (prepares_said w s) (prepares_up_to g facts words v last ++ rest))
     (list_any (prepares_said w s) more)
-    (list_any-append (prepares_said w s) (prepares_due g facts words v true) rest
-    ∙ or_left (list_any (prepares_said w s) (prepares_due g facts words v true)) (list_any (prepares_said w s) rest)
-    (any-from (prepares_said w s) (prepare_due facts words v) 1 (stable g facts + 16) s one
-    (let is : end - 1 ≡ stable g facts + 16 = count in omega arith)
+    (list_any-append (prepares_said w s) (prepares_up_to g facts words v last) rest
+    ∙ or_left (list_any (prepares_said w s) (prepares_up_to g facts words v last))
+    (list_any (prepares_said w s) rest)
+    (any-from (prepares_said w s) (prepare_due facts words v) 1 (min last (stable g facts + 16)) s one
+    (let is : end - 1 ≡ min last (stable g facts + 16) = count in omega arith)
     (subst (λ (u : ℕ). list_any (prepares_said u s) (prepare_due facts words v s) ≡ true) (sym view)
     (by (list_any (prepares_said v s) words) (offered facts v s)
     (sym (held v s) ∙ ap (λ u. said_in places u s) (sym view) ∙ unsaid)

@@ -1,11 +1,13 @@
 -- What a master keeps of the global order, and when it is what these facts and bodies make of it. (How it is kept is
 -- this project's own.)
-use Rattle.std.specs.Prelude.{◌≡◌, ℕ, Bool, List, ◌++◌}
+use Rattle.std.specs.Prelude.{◌≡◌, ◌+◌, ℕ, Bool, List, ◌++◌, min}
+use Rattle.std.specs.List.{flat_map}
 use Rattle.message_types.specs.declared.body.Body.{Body}
 use Rattle.protocol_rules.specs.declared.facts.OrderFact.{OrderFact}
 use Rattle.protocol_rules.specs.Parts as part
-use Rattle.protocol_rules.specs.Group.{Group}
-use Rattle.protocol_rules.specs.Order.{stable, prepares_due, commits_due, marks_due}
+use Rattle.protocol_rules.specs.Words.{numbers_from}
+use Rattle.protocol_rules.specs.Group.{Group, window}
+use Rattle.protocol_rules.specs.Order.{stable, prepare_due, prepares_due, commits_due, marks_due}
 use Rattle.global_order.specs.Index.{Map, Vote, HasPrepares, HasCommits, HasMarks, HasChoices}
 use Rattle.global_order.specs.Giving.{HasViews}
 use Rattle.global_order.specs.Offered.{HasOffers}
@@ -70,4 +72,13 @@ Where state Holds = (g : Group) (facts : List OrderFact) (said : List Body) → 
 -- what is due in a view: prepares, commits, marks
 abbrev pub bodies_due : Group → List OrderFact → List Body → ℕ → Bool → List Body
 bodies_due g facts said view is_open = prepares_due g facts said view is_open ++ commits_due g facts said view
+    ++ marks_due g facts said
+
+-- the prepares due in a view for the numbers of the window up to `last`, and with them all commits and marks
+abbrev pub prepares_up_to : Group → List OrderFact → List Body → ℕ → ℕ → List Body
+prepares_up_to g facts said view last =
+    flat_map (prepare_due facts said view) (numbers_from 1 (min last (stable g facts + window)))
+
+abbrev pub bodies_up_to : Group → List OrderFact → List Body → ℕ → ℕ → List Body
+bodies_up_to g facts said view last = prepares_up_to g facts said view last ++ commits_due g facts said view
     ++ marks_due g facts said

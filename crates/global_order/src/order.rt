@@ -1,12 +1,12 @@
-ghost use Rattle.std.specs.Prelude.{◌≡◌, ◌∷◌, ◌&&◌, ◌≤◌, ◌<◌, ℕ, [], IsTrue, OnOk, OnErr, IfOk, option_copied, nat_le, not, max, if◌then◌else◌};
+ghost use Rattle.std.specs.Prelude.{◌≡◌, ◌+◌, ◌∷◌, ◌&&◌, ◌≤◌, ◌<◌, ℕ, [], IsTrue, OnOk, OnErr, IfOk, option_copied, nat_le, not, max, if◌then◌else◌};
 ghost use Rattle.std.specs.List.{list_all};
 ghost use Rattle.message_types.specs.Spelling.{rows_fit};
 ghost use Rattle.protocol_rules.specs.declared.facts.OrderFact.TheVariants as fact;
-ghost use Rattle.protocol_rules.specs.Group.{group_of, most_number};
+ghost use Rattle.protocol_rules.specs.Group.{group_of, most_number, window};
 ghost use Rattle.protocol_rules.specs.Master.{gap_of};
 ghost use Rattle.protocol_rules.specs.Order as rules;
 ghost use Rattle.global_order.specs.Giving.{given_order};
-ghost use Rattle.global_order.specs.OrderState.{IsOrderOf, Learns, Says, Stays, Where, bodies_due};
+ghost use Rattle.global_order.specs.OrderState.{IsOrderOf, Learns, Says, Stays, Where, bodies_due, bodies_up_to};
 
 use crate::certificates::{first_certificate_of, last_certificate_of, marks_of};
 use crate::choices::{Choices, learn, learn_all, note_if_committed, note_if_prepared};
@@ -14,7 +14,7 @@ use crate::due::{push_marks, push_pending_commits, push_pending_prepares};
 use crate::letting::let_go;
 use crate::offers::{Offers, note_plan, note_proposal, offered_in, plan_of_view};
 use crate::orders::{make_order, order_of, run_end};
-use crate::pending::{all_pending, pending_from, pending_in};
+use crate::pending::{all_pending, first_pending, pending_from, pending_in};
 use crate::said::{Said, note_said};
 use crate::slots::make_slot;
 use crate::views::{Views, note_view, view_of};
@@ -237,9 +237,21 @@ impl Order {
         ensures said { IfOk result (λ bodies. Says self.old self.new bodies.items) }
         ensures refused { OnErr result (Stays self.old self.new) }
     {
+        let last = last_open(self.window_end(), is_open);
+        let bodies = self.due_up_to(view, last)?;
+        Ok(bodies)
+    }
+
+    /// What is due in a view where it is open as far as number `last`: the prepares for the numbers up to this one, all
+    /// commits and all marks. They count as said from then on, and what isn't said stays due.
+    pub fn due_up_to(&mut self, view: u64, last: u64) -> Result<Vec<Body>, Want>
+        ensures due { IfOk result (λ bodies. Where self.old (λ g facts said. bodies.items ≡ bodies_up_to g facts said view last)) }
+        ensures said { IfOk result (λ bodies. Says self.old self.new bodies.items) }
+        ensures refused { OnErr result (Stays self.old self.new) }
+    {
         let mut bodies = Vec::new(self.alloc);
         let end = self.stable + WINDOW + 1;
-        let prepares_end = if is_open { end } else { 1 };
+        let prepares_end = last.min(self.stable + WINDOW) + 1;
         let prepares = pending_in(&self.offers.pending, view);
         push_pending_prepares(
             &mut bodies,
@@ -264,6 +276,13 @@ impl Order {
         self.offers.pending = pending_from(&prepares, prepares_end);
         self.choices.pending = pending_from(&commits, end);
         Ok(bodies)
+    }
+
+    /// Up to which number no prepare is due in a view, as far as that is known without a look at what the view offers.
+    pub fn no_prepare_up_to(&self, view: u64) -> u64
+        ensures { Where self.now (λ g facts said. (s : ℕ) → 1 ≤ s → s ≤ result → rules.prepare_due facts said view s ≡ []) }
+    {
+        first_pending(&pending_in(&self.offers.pending, view)).saturating_sub(1)
     }
 
     /// The rows that are ordered as number `s`. None exactly where none are.
@@ -321,6 +340,13 @@ impl Order {
         ensures { Where self.now (λ g facts said. result ≡ rules.stable g facts) }
     {
         self.stable
+    }
+
+    /// The last number that the window allows.
+    pub fn window_end(&self) -> u64
+        ensures { Where self.now (λ g facts said. result ≡ rules.stable g facts + window) }
+    {
+        self.stable + WINDOW
     }
 
     /// The marks that show the stable number: the first ones of the `q` lowest masters. None for 0.
@@ -398,6 +424,13 @@ fn reaches_quorum(sizes: &Sizes, before: u32, after: u32) -> bool
     ensures { result ≡ (nat_le sizes.now.q after && not (nat_le sizes.now.q before)) }
 {
     before < sizes.q && after >= sizes.q
+}
+
+/// As far as which number a view is open, where the window ends there.
+fn last_open(end: u64, is_open: bool) -> u64
+    ensures { result ≡ (if is_open then end else 0) }
+{
+    if is_open { end } else { 0 }
 }
 
 /// The stable number once this number is marked by a quorum, or not.

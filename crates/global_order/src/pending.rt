@@ -1,5 +1,5 @@
-ghost use Rattle.std.specs.Prelude.{◌≡◌, ℕ, Bool};
-ghost use Rattle.global_order.specs.Unsaid.{HasPending, IsNoted, LooksFrom, whole_view, with_view};
+ghost use Rattle.std.specs.Prelude.{◌≡◌, ◌≤◌, ℕ, Bool};
+ghost use Rattle.global_order.specs.Unsaid.{HasPending, IsAmong, IsNoted, LooksFrom, whole_view, with_view};
 
 /// Where the numbers of a view stand for which a word may be due: from `low` to below `high` those that changed since it was
 /// looked for, and from `beyond` on those that weren't in the window yet. So what is due isn't looked for among all numbers.
@@ -52,6 +52,17 @@ pub fn pending_in(pending: &PendingNumbers, view: u64) -> PendingNumbers
         *pending
     } else {
         all_pending(view)
+    }
+}
+
+/// A number below which none is pending.
+pub fn first_pending(pending: &PendingNumbers) -> u64
+    ensures { (s : ℕ) → IsAmong pending.now s → result ≤ s }
+{
+    if pending.low < pending.high {
+        pending.low.min(pending.beyond)
+    } else {
+        pending.beyond
     }
 }
 

@@ -15,8 +15,10 @@ use Rattle.message_types.specs.declared.vouchers.Order.{Order}
 use Rattle.message_types.specs.declared.body.Body.{Body}
 use Rattle.message_types.specs.Parts.{parts}
 use Rattle.quorum_sets.specs.Masters.{numbers_below}
+use Rattle.quorum_sets.specs.declared.sizes.Rules.{Rules}
+use Rattle.quorum_sets.specs.declared.sizes.Rules.TheVariants.{First, Live}
 use Rattle.protocol_rules.specs.Words.{numbers_from}
-use Rattle.protocol_rules.specs.Group.{Group, window}
+use Rattle.protocol_rules.specs.Group.{Group, is_live, window}
 use Rattle.protocol_rules.specs.Facts.{facts_of}
 use Rattle.protocol_rules.specs.Preorder.{requests_due}
 use Rattle.protocol_rules.specs.Order.{stable, marks_for, certificates_below, prepare_due, commit_due, marks_due}
@@ -25,7 +27,7 @@ use Rattle.protocol_rules.specs.Measures.{Told, ticks_of, waited, pings_due, pon
 use Rattle.protocol_rules.specs.Measures.{tat_reports_due, tat_bounds_due, suspects_due}
 use Rattle.protocol_rules.specs.Reconcile.{ask_update_due, ask_order_due}
 use Rattle.protocol_rules.specs.Master.{Heard, learned, taken_frames, known_at, taken_at, said_before, told_of, waits}
-use Rattle.protocol_rules.specs.Master.{waiting_for, summaries_due, preprepares_due, vouchers_due, answers}
+use Rattle.protocol_rules.specs.Master.{waiting_for, summaries_due, preprepares_due, vouchers_due, answers_by, answers}
 use Rattle.history_rules.specs.Events.{Event, Entry, frame_taken, is_tick, is_silent}
 use Rattle.history_rules.specs.Setup.{Setup, room, own, signed_from, leaves_used}
 use Rattle.history_rules.specs.Legal.{heard, intruded_says, says_in, says}
@@ -102,12 +104,25 @@ short_answers g orders me mind took at_tick =
     (short_acks g known mind.said) (short_gives g me known mind.said)
     (short_gives_ordered g me known (facts_of g known) mind.said) (short_gap g (facts_of g known))
 
--- The answers are what the shorter way gives.
-answers_short : (g : Group) (orders : List Update → ℕ → List Order) (me : ℕ) (before : List Heard)
+-- by these rules the shorter way gives what is said
+abbrev goes_by_first : Rules → Bool
+goes_by_first First = true
+goes_by_first Live = false
+
+by_first : (r : Rules) → goes_by_first r ≡ true → elim r [ First ↦ false | Live ↦ true ] ≡ false
+by_first First first = refl
+by_first Live first = sym first
+
+isnt_live : (g : Group) → goes_by_first g.rules ≡ true → is_live g ≡ false
+unfolding is_live
+isnt_live g first = by_first g.rules first
+
+-- The answers by the rules first specified are what the shorter way gives.
+first_answers_short : (g : Group) (orders : List Update → ℕ → List Order) (me : ℕ) (before : List Heard)
     (took : Option (Signed Body)) (at_tick : Bool)
-    → answers g orders me before took at_tick ≡ short_answers g orders me (mind_after g before) took at_tick
-unfolding answers short_answers known_at
-answers_short g orders me before took at_tick =
+    → answers_by false g orders me before took at_tick ≡ short_answers g orders me (mind_after g before) took at_tick
+unfolding short_answers known_at
+first_answers_short g orders me before took at_tick =
     let known = known_at before took in
     let facts = facts_of g known in
     let said = said_before before in
@@ -115,6 +130,14 @@ answers_short g orders me before took at_tick =
     (told_more g [] before record { took = took; is_tick = at_tick; said = [] } i) at_tick
     (acks_same g known said i) (gives_same g me known said i) (gives_ordered_same g me known facts said i)
     (gap_same g facts i)
+
+answers_short : (g : Group) (orders : List Update → ℕ → List Order) (me : ℕ) (before : List Heard)
+    (took : Option (Signed Body)) (at_tick : Bool) → goes_by_first g.rules ≡ true
+    → answers g orders me before took at_tick ≡ short_answers g orders me (mind_after g before) took at_tick
+unfolding answers
+answers_short g orders me before took at_tick first =
+    ap (λ (live : Bool). answers_by live g orders me before took at_tick) (isnt_live g first)
+    ∙ first_answers_short g orders me before took at_tick
 
 -- the mind after an event at which these words are known and these frames are said
 abbrev grown : Group → Mind → Option (Signed Body) → Bool → List (Signed Body) → List (Signed Body) → Mind
@@ -210,15 +233,15 @@ short_says w mind own actor event =
     (if is_silent event then [] else short_answers w.group w.orders actor mind (frame_taken event) (is_tick event)))
     else w.client_says actor own event)
 
-says_short : (w : Setup) (before : List Entry) (actor : ℕ) (event : Event)
+says_short : (w : Setup) (before : List Entry) (actor : ℕ) (event : Event) → goes_by_first w.group.rules ≡ true
     → says w before actor event ≡ short_says w (minds_after w before actor) (own before actor) actor event
 unfolding says_in short_says
-says_short w before actor event = λ i.
+says_short w before actor event first = λ i.
     take (room w (own before actor)) (
     if nat_lt actor w.group.n
     then (if w.intruded actor then intruded_says else
     (if is_silent event then [] else answers_short w.group w.orders actor (heard w before actor)
-    (frame_taken event) (is_tick event) i))
+    (frame_taken event) (is_tick event) first i))
     else w.client_says actor (own before actor) event)
 
 -- whether each of the entries says, after those seen and those before it, what the shorter way gives
@@ -228,26 +251,29 @@ says_from w minds seen (e ∷ rest) =
     pointwise is_same_body e.said (short_says w (minds e.actor) (own seen e.actor) e.actor e.event)
     && says_from w (minds_then w seen minds e) (seen ++ e ∷ []) rest
 
+-- the same from the beginning, in a group that goes by the rules first specified
 abbrev pub each_says : Setup → List Entry → Bool
-each_says w history = says_from w (minds_after w []) [] history
+each_says w history = goes_by_first w.group.rules && says_from w (minds_after w []) [] history
 
 -- each of them says what the rules make its actor say
 abbrev pub EachSays : Setup → List Entry → List Entry → Type 0
 EachSays w seen [] = Unit {0}
 EachSays w seen (e ∷ rest) = (e.said ≡ says w seen e.actor e.event) × EachSays w (seen ++ e ∷ []) rest
 
-by_minds : (w : Setup) (minds : ℕ → Mind) (seen rest : List Entry) → AreMinds w seen minds
-    → says_from w minds seen rest ≡ true → EachSays w seen rest
-by_minds w minds seen [] are short = tt
-by_minds w minds seen (e ∷ rest) are short =
+by_minds : (w : Setup) (minds : ℕ → Mind) (seen rest : List Entry) → goes_by_first w.group.rules ≡ true
+    → AreMinds w seen minds → says_from w minds seen rest ≡ true → EachSays w seen rest
+by_minds w minds seen [] first are short = tt
+by_minds w minds seen (e ∷ rest) first are short =
     let said : List Body = short_says w (minds e.actor) (own seen e.actor) e.actor e.event in
     let both = and_parts (pointwise is_same_body e.said said)
     (says_from w (minds_then w seen minds e) (seen ++ e ∷ []) rest) short in (
       (pointwise_decides {E = is_same_body} body_test e.said said).0 both.0
           ∙ ap (λ (m : Mind). short_says w m (own seen e.actor) e.actor e.event) (are e.actor)
-          ∙ sym (says_short w seen e.actor e.event),
-      by_minds w (minds_then w seen minds e) (seen ++ e ∷ []) rest (are_minds w seen minds e are) both.1,
+          ∙ sym (says_short w seen e.actor e.event first),
+      by_minds w (minds_then w seen minds e) (seen ++ e ∷ []) rest first (are_minds w seen minds e are) both.1,
     )
 
 pub says_by_minds : (w : Setup) (history : List Entry) → each_says w history ≡ true → EachSays w [] history
-says_by_minds w history short = by_minds w (minds_after w []) [] history (λ a. refl) short
+says_by_minds w history short =
+    let both = and_parts (goes_by_first w.group.rules) (says_from w (minds_after w []) [] history) short in
+    by_minds w (minds_after w []) [] history both.0 (λ a. refl) both.1

@@ -14,6 +14,7 @@ use Rattle.message_types.specs.declared.vouchers.Order.TheVariants as order
 use Rattle.message_types.specs.declared.body.Body.{Body}
 use Rattle.message_types.specs.declared.body.Body.TheVariants as body
 use Rattle.quorum_sets.specs.Masters.{numbers_below}
+use Rattle.quorum_sets.specs.declared.sizes.Rules.TheVariants.{First}
 use Rattle.protocol_rules.specs.Group.{Group}
 use Rattle.history_rules.specs.Events.{Entry}
 use Rattle.history_rules.specs.Setup.{Setup}
@@ -21,7 +22,7 @@ use Rattle.history_examples.specs.Signing.{sealed, setup_of, commands, cries, ta
 use Rattle.history_examples.specs.Words.{update, ack, certificate_by, proposal_by, report_by, order_by}
 
 abbrev pub group : Group
-group = record { n = 6; f = 1; k = 1; q = 4; clients = 1 }
+group = record { n = 6; f = 1; k = 1; q = 4; clients = 1; rules = First }
 
 -- the orders of the screen
 abbrev pub forty_orders : List Update → ℕ → List Order

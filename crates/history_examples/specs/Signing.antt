@@ -10,6 +10,7 @@ use Rattle.message_types.specs.declared.updates.Update.{Update}
 use Rattle.message_types.specs.declared.body.Body.{Body}
 use Rattle.message_types.specs.declared.body.Body.TheVariants as body
 use Rattle.message_types.specs.Texts.{body_text, frame_text}
+use Rattle.quorum_sets.specs.declared.sizes.Rules.TheVariants.{First}
 use Rattle.protocol_rules.specs.Group.{Group}
 use Rattle.history_rules.specs.Events.{Event, Entry, Took, Tick, Command, Cry, Skip, Restart}
 use Rattle.history_rules.specs.Setup.{Setup}
@@ -63,7 +64,7 @@ fits_screen _ = false
 
 -- A group of four masters, of which one may be intruded, and so many screens. A quorum is three.
 abbrev pub four_masters : ℕ → Group
-four_masters clients = record { n = 4; f = 1; k = 0; q = 3; clients = clients }
+four_masters clients = record { n = 4; f = 1; k = 0; q = 3; clients = clients; rules = First }
 
 -- A group of masters and screens on a plant without orders, with leaves enough and no keeper that fails.
 abbrev pub setup_of : Group → (ℕ → Bool) → Setup

@@ -4,4 +4,6 @@ pub mod Few
 pub mod Standing
 pub mod Offering
 pub mod Summing
+pub mod Again
 pub mod Vouching
+pub mod Worthy

@@ -18,15 +18,16 @@ use Rattle.protocol_rules.specs.declared.facts.OrderFact.{OrderFact}
 use Rattle.protocol_rules.specs.Words.{greatest_of, numbers_from}
 use Rattle.protocol_rules.specs.Group.{Group, leader_of, most_number, window}
 use Rattle.protocol_rules.specs.Matrix.{latest_frames, eligible, reach, exceeds}
-use Rattle.protocol_rules.specs.Order.{plan_known, stable}
+use Rattle.protocol_rules.specs.Order.{gapless, plan_known, stable}
 use Rattle.protocol_rules.specs.Views.{view, is_open}
 use Rattle.protocol_rules.specs.Master.{latest_rows, offered_number, next_number, counted_rows, preprepares_due}
+use Rattle.protocol_rules.specs.Master.{whole_preprepares_due}
 use Rattle.summary_matrix.specs.Held.{TellsEach, proposal_of}
 use Rattle.summary_matrix.specs.declared.reach.Reach.{Reach}
 use Rattle.summary_matrix.proofs.Loops.{any_below}
 use Rattle.quorum_sets.specs.declared.sizes.Sizes.{Sizes}
 use Rattle.global_order.specs.OrderState.{HasSizes}
-use Rattle.leader_proposals.specs.Counting.{counted_in, reach_to, IsSettled, plan_end, number_within}
+use Rattle.leader_proposals.specs.Counting.{counted_in, has_whole_base, reach_to, IsSettled, plan_end, number_within}
 use Rattle.leader_proposals.specs.Offering.{IsProgressOf, Offered, AreOffersOf, Learns}
 use Rattle.leader_proposals.specs.declared.progress.Progress.{Progress}
 use Rattle.leader_proposals.proofs.Growing.{plan_known-more, counted_in-is}
@@ -460,3 +461,29 @@ within-none greatest plan stable_number beyond =
     by (inr far) = and_right (nat_le (max (plan.base + length plan.rows) greatest + 1) 4096)
         (nat_le (max (plan.base + length plan.rows) greatest + 1) (stable_number + 16))
         (lt-leb (max (plan.base + length plan.rows) greatest + 1) (stable_number + 16) (omega arith))
+
+-- what is offered where all up to the base of the plan must be ordered
+pub whole-is : (g : Group) (me : ℕ) (known : List (Signed Body)) (facts : List OrderFact) (said : List Body)
+    (at_tick is_whole : Bool) (v : ℕ) → v ≡ view g known → is_whole ≡ has_whole_base g facts v →
+    cond is_whole (preprepares_due g me known facts said at_tick) []
+    ≡ whole_preprepares_due g me known facts said at_tick
+whole-is g me known facts said at_tick is_whole v view_is whole =
+    ap (λ b. cond b (preprepares_due g me known facts said at_tick) []) (whole ∙ ap (has_whole_base g facts) view_is)
+    ∙ by (plan_known facts (view g known)) (preprepares_due g me known facts said at_tick)
+  where
+    by : (o : Option Plan) (due : List Body) →
+        cond (elim o [ None ↦ false | Some plan ↦ nat_le plan.base (gapless g facts) ]) due []
+        ≡ elim o [ None ↦ [] | Some plan ↦ cond (nat_le plan.base (gapless g facts)) due [] ]
+    by None due = refl
+    by (Some plan) due = refl
+
+pub whole-none : (g : Group) (facts : List OrderFact) (v : ℕ) → plan_known facts v ≡ None →
+    false ≡ has_whole_base g facts v
+whole-none g facts v none =
+    ap (λ o. elim o [ None ↦ false | Some plan ↦ nat_le plan.base (gapless g facts) ]) (sym none)
+
+pub whole-some : (g : Group) (facts : List OrderFact) (v : ℕ) (plan : Plan) (reached : ℕ) →
+    plan_known facts v ≡ Some plan → reached ≡ gapless g facts → nat_le plan.base reached ≡ has_whole_base g facts v
+whole-some g facts v plan reached known is =
+    ap (nat_le plan.base) is
+    ∙ ap (λ o. elim o [ None ↦ false | Some plan ↦ nat_le plan.base (gapless g facts) ]) (sym known)

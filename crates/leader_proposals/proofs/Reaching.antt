@@ -20,7 +20,7 @@ use Rattle.leader_proposals.specs.Counting.{counted_in, reach_to, IsSettled}
 use Rattle.leader_proposals.proofs.Growing.{counted_in-is, counted_in-more}
 use Rattle.protocol_rules.proofs.Numbers.{numbers_from-none, numbers_from-suc}
 
-filter_map-one : {X : Type 0} (f : ℕ → Option X) (n : ℕ) → filter_map f (n ∷ []) ≡ option_to_list (f n)
+pub filter_map-one : {X : Type 0} (f : ℕ → Option X) (n : ℕ) → filter_map f (n ∷ []) ≡ option_to_list (f n)
 filter_map-one {X} f n = by (f n)
   where
     by : (o : Option X) → cons_option o [] ≡ option_to_list o
@@ -51,7 +51,7 @@ given-same f h (suc last) same =
     ∙ ap (λ n. filter_map h (numbers_from 1 n)) (add-one last)
 
 -- only the size of a quorum matters
-eligible-same : (g h : Group) (rows : List (List ℕ)) (j : ℕ) → g.q ≡ h.q → eligible g rows j ≡ eligible h rows j
+pub eligible-same : (g h : Group) (rows : List (List ℕ)) (j : ℕ) → g.q ≡ h.q → eligible g rows j ≡ eligible h rows j
 unfolding eligible
 eligible-same g h rows j e = rw e refl
 

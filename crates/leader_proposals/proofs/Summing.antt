@@ -28,7 +28,7 @@ leading-is numbers f (suc n) le told =
     ∙ ap (λ x. map f (numbers_below n) ++ x ∷ []) (told n (omega arith))
     ∙ sym (map_more f n) ∙ ap (λ k. map f (numbers_below k)) (add-one n)
 
-last_or-push : (first : List ℕ) (xs : List (List ℕ)) (x : List ℕ) → last_or first (xs ++ x ∷ []) ≡ x
+pub last_or-push : (first : List ℕ) (xs : List (List ℕ)) (x : List ℕ) → last_or first (xs ++ x ∷ []) ≡ x
 last_or-push first [] x = refl
 last_or-push first (y ∷ xs) x = last_or-push y xs x
 

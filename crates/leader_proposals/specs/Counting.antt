@@ -1,5 +1,5 @@
 -- What a leader counts as offered in a view, and the number that it offers next.
-use Rattle.std.specs.Prelude.{ℕ, ◌+◌, ◌≤◌, Bool, ◌&&◌, List, Option, Some, None, IsSome, IsTrue, length, max, nat_le}
+use Rattle.std.specs.Prelude.{ℕ, ◌+◌, ◌≤◌, Bool, false, ◌&&◌, List, Option, Some, None, IsSome, IsTrue, length, max, nat_le}
 use Rattle.std.specs.Prelude.{if◌then◌else◌}
 use Rattle.std.specs.List.{list_all, filter_map}
 use Rattle.std.specs.Option.{option_and_then}
@@ -11,7 +11,7 @@ use Rattle.protocol_rules.specs.Words.{numbers_from}
 use Rattle.protocol_rules.specs.Group.{Group, most_number, window}
 use Rattle.protocol_rules.specs.Facts.{rows_known}
 use Rattle.protocol_rules.specs.Matrix.{reach}
-use Rattle.protocol_rules.specs.Order.{plan_known}
+use Rattle.protocol_rules.specs.Order.{gapless, plan_known}
 use Rattle.protocol_rules.specs.Master.{counted_rows}
 use Rattle.summary_matrix.specs.Held.{TellsEach}
 use Rattle.global_order.specs.OrderState.{OrderState, IsOrderOf}
@@ -48,6 +48,10 @@ pub record IsSettled (g : Group) (facts : List OrderFact) (v settled : ℕ) (num
 -- how far the plan of a view goes, 0 where none is known
 abbrev pub plan_end : List OrderFact → ℕ → ℕ
 plan_end facts v = elim (plan_known facts v) [ None ↦ 0 | Some plan ↦ plan.base + length plan.rows ]
+
+-- all up to the base of the plan of a view is ordered, where a plan is known
+abbrev pub has_whole_base : Group → List OrderFact → ℕ → Bool
+has_whole_base g facts v = elim (plan_known facts v) [ None ↦ false | Some plan ↦ nat_le plan.base (gapless g facts) ]
 
 -- The number after the plan and after the greatest offered, where the limits allow it.
 unfoldable pub number_within : ℕ → Plan → ℕ → Option ℕ

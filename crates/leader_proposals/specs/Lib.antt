@@ -1,3 +1,4 @@
 pub mod Counting
 pub mod Offering
 pub mod Saying
+pub mod Worthy

@@ -6,7 +6,7 @@ ghost use Rattle.protocol_rules.specs.Order.{plan_known};
 ghost use Rattle.protocol_rules.specs.Master.{counted_rows};
 ghost use Rattle.summary_matrix.specs.Held.{TellsEach};
 ghost use Rattle.global_order.specs.OrderState.{Where};
-ghost use Rattle.leader_proposals.specs.Counting.{KnowsFewRows};
+ghost use Rattle.leader_proposals.specs.Counting.{KnowsFewRows, has_whole_base};
 
 use global_order::Order;
 use message_types::{Plan, Rows};
@@ -27,6 +27,16 @@ pub(crate) fn plan_to_offer(
         order.plan(view)
     } else {
         None
+    }
+}
+
+/// Whether all up to the base of a view's plan is ordered, where a plan is known.
+pub(crate) fn is_whole(order: &Order, view: u64) -> bool
+    ensures { Where order.now (λ g facts ordered. result ≡ has_whole_base g facts view) }
+{
+    match order.plan(view) {
+        None => false,
+        Some(plan) => plan.base <= order.gapless(),
     }
 }
 

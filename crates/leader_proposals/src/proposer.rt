@@ -5,13 +5,13 @@ ghost use Rattle.message_types.specs.declared.body.Body.{Body as Word};
 ghost use Rattle.protocol_rules.specs.declared.facts.OrderFact.{OrderFact as Fact};
 ghost use Rattle.protocol_rules.specs.Group.{Group, group_of, leader_of};
 ghost use Rattle.protocol_rules.specs.Views.{view as view_of, is_open as is_open_view};
-ghost use Rattle.protocol_rules.specs.Master.{preprepares_due};
+ghost use Rattle.protocol_rules.specs.Master.{preprepares_due, whole_preprepares_due};
 ghost use Rattle.summary_matrix.specs.Held.{IsMatrixOf};
 ghost use Rattle.global_order.specs.OrderState.{IsOrderOf};
 ghost use Rattle.leader_proposals.specs.Counting.{KnowsFewRows};
 ghost use Rattle.leader_proposals.specs.Offering.{AreOffersOf};
 
-use crate::counted::plan_to_offer;
+use crate::counted::{is_whole, plan_to_offer};
 use crate::progress::Progress;
 use global_order::Order;
 use message_types::{Body, PrePrepare};
@@ -102,5 +102,34 @@ impl Proposer {
                 })))
             }
         }
+    }
+
+    /// What the master offers at an event by the rules that stay alive: as `due` has it, once all up to the base of the
+    /// view's plan is ordered.
+    pub fn due_whole(
+        &mut self,
+        order: &Order,
+        matrix: &Matrix,
+        leads: bool,
+        view: u64,
+        is_open: bool,
+        at_tick: bool,
+    ) -> Result<Option<Body>, Want>
+        requires view { self.old.progress.view ≤ view }
+        requires rows { KnowsFewRows order.now }
+        ensures due { IfOk result (λ answer. (g : Group) (me : ℕ) (known : List (SignedWord Word)) (facts : List Fact) (ordered said : List Word)
+            → IsOrderOf g order.now facts ordered → IsMatrixOf g matrix.now known → view ≡ view_of g known → is_open ≡ is_open_view g known → leads ≡ nat_eq me (leader_of g view)
+            → AreOffersOf g self.old facts said
+            → option_to_list answer ≡ whole_preprepares_due g me known facts said at_tick) }
+        ensures said { IfOk result (λ answer. (g : Group) (facts : List Fact) (ordered said : List Word) → IsOrderOf g order.now facts ordered → AreOffersOf g self.old facts said
+            → AreOffersOf g self.new facts (said ++ option_to_list answer)) }
+        ensures view { OnOk result (self.new.progress.view ≤ view) }
+        ensures refused { OnErr result (self.new ≡ self.old) }
+    {
+        if !is_whole(order, view) {
+            return Ok(None);
+        }
+        let word = self.due(order, matrix, leads, view, is_open, at_tick)?;
+        Ok(word)
     }
 }

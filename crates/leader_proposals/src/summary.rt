@@ -1,10 +1,15 @@
-ghost use Rattle.std.specs.Prelude.{◌≡◌, ◌≤◌, ℕ, List, [], OnErr, IfOk, length, take};
+ghost use Rattle.std.specs.Prelude.{◌≡◌, ◌≤◌, ◌&&◌, ℕ, Bool, List, [], OnErr, IfOk, length, take};
 ghost use Rattle.std.specs.Option.{option_to_list};
 ghost use Rattle.std.specs.Str.{bytes_eq};
 ghost use Rattle.message_types.specs.declared.signed.Signed.{Signed as SignedWord};
 ghost use Rattle.message_types.specs.declared.body.Body.{Body as Word};
 ghost use Rattle.protocol_rules.specs.Group.{Group, group_of};
-ghost use Rattle.protocol_rules.specs.Master.{summaries_due};
+ghost use Rattle.protocol_rules.specs.declared.facts.OrderFact.{OrderFact as Fact};
+ghost use Rattle.protocol_rules.specs.Matrix.{reach};
+ghost use Rattle.protocol_rules.specs.Order.{ordered_run};
+ghost use Rattle.protocol_rules.specs.Turns.{is_slow_beat};
+ghost use Rattle.protocol_rules.specs.Master.{summaries_due, summary_again_due};
+ghost use Rattle.summary_matrix.specs.Held.{TellsEach};
 ghost use Rattle.leader_proposals.specs.Saying.{IsSummaryOf, Says, TellsVector};
 
 use message_types::{Body, PoSummary};
@@ -60,6 +65,21 @@ impl Summary {
         Ok(Some(Body::PoSummary(PoSummary {
             numbers: numbers_now,
         })))
+    }
+
+    /// The summary said last, again: at a beat at which it tells of more than `ordered`, which is how far the numbers ordered
+    /// without a gap make the requests of each master eligible. It may have been lost on the way to masters that were away.
+    pub fn due_again(&self, ordered: &Reach, at_beat: bool) -> Result<Option<Body>, Want>
+        ensures due { IfOk result (λ answer. (g : Group) (facts : List Fact) (said : List Word) (now : ℕ) (at_tick : Bool)
+            → IsSummaryOf g self.now said → TellsEach ordered.now.numbers (reach g (ordered_run g facts)) → at_beat ≡ (at_tick && is_slow_beat now)
+            → option_to_list answer ≡ summary_again_due g facts said now at_tick) }
+        ensures said { IfOk result (λ answer. Says self.now self.now (option_to_list answer)) }
+    {
+        if !at_beat || !self.last.exceeds(ordered, self.sizes.n) {
+            return Ok(None);
+        }
+        let numbers = vector_of(self.alloc, &self.last, &self.sizes)?;
+        Ok(Some(Body::PoSummary(PoSummary { numbers })))
     }
 }
 

@@ -1,7 +1,7 @@
 -- Words of other kinds change nothing of pre-ordering: each of its parts goes by the elements of a list that count, so
 -- two lists that have the same ones make the same of it.
-use Rattle.std.proofs.Common.{◌≡◌, ℕ, Bool, true, false, cond, List, [], ◌∷◌, ◌++◌, Option, None, filter}
-use Rattle.std.proofs.Common.{length, nat_eq, is_some, refl, sym, ◌∙◌, ap, append-nil}
+use Rattle.std.proofs.Common.{◌≡◌, ℕ, Bool, true, false, cond, List, [], ◌∷◌, ◌++◌, Option, Some, None, filter}
+use Rattle.std.proofs.Common.{length, nat_eq, is_some, refl, sym, ◌∙◌, ap, append-nil, true≢false}
 use Rattle.std.specs.Prelude.{slice_index}
 use Rattle.std.specs.List.{list_any, find, filter_map}
 use Rattle.std.proofs.Math.Path.{fun_ext}
@@ -18,6 +18,8 @@ use Rattle.protocol_rules.specs.Group.{Group}
 use Rattle.protocol_rules.specs.Preorder.{certified, is_ack, is_acked, update_requested, updates_requested, update_of}
 use Rattle.protocol_rules.specs.Preorder.{request_in, requests_said, acks}
 use Rattle.preorder.specs.declared.requests.Counts.{Counts}
+use Rattle.protocol_rules.specs.Turns.{requests_number}
+use Rattle.preorder.specs.Again.{ack_of}
 use Rattle.preorder.specs.Index.{has_digest}
 use Rattle.preorder.specs.Counted.{IsCounted}
 use Rattle.preorder.specs.Composed.{is_preordering, is_preordering_word, is_update}
@@ -25,6 +27,9 @@ use Rattle.preorder.specs.PreorderState.{PreorderState, IsPreorderOf}
 use Rattle.protocol_rules.proofs.FirstMet.{met-again}
 use Rattle.preorder.proofs.Runs.{reaches-same}
 use Rattle.preorder.proofs.Others.{pending-same}
+use Rattle.preorder.proofs.Turning.{lanes-same}
+use Rattle.preorder.proofs.RequestsInTurn.{introduced-same}
+use Rattle.preorder.proofs.Holding.{own-alike}
 use Rattle.plain_lists.proofs.Lists.{filter_map-filter}
 
 first_met-step : {F X : Type 0} (met : List F → Option X) (p : F → Bool) (seen xs : List F) (x : F) (b : Bool) →
@@ -133,12 +138,17 @@ taken-alike g me p taken other known said same is = record {
   updates = λ c t. is.updates c t
       ∙ alike (λ xs. first_of_list (filter_map (update_of c t) xs)) is_update
       (λ xs. ap first_of_list (filter_map-filter (update_of c t) is_update (not_update c t) xs)) taken other same;
+  numbers = is.numbers;
   firsts = is.firsts;
   ballots = is.ballots;
   certified = is.certified;
   reach = is.reach;
   pending = is.pending;
   counted = is.counted;
+  lanes = is.lanes;
+  introduced = is.introduced;
+  requested = is.requested;
+  acknowledged = is.acknowledged;
 }
 
 pub certified-alike : (g : Group) (known other : List (Signed Body)) →
@@ -159,6 +169,7 @@ known-alike g me p taken known other said same is = record {
   group = is.group;
   own = is.own;
   updates = is.updates;
+  numbers = is.numbers;
   firsts = λ j k. record {
     update = (is.firsts j k).update ∙ ap first_of_list (requested-alike known other same j k);
     acked = (is.firsts j k).acked;
@@ -179,6 +190,12 @@ known-alike g me p taken known other said same is = record {
         pending.1,
       )) is.pending;
   counted = is.counted;
+  lanes = lanes-same g known other said said p.lanes
+      (λ j i below low high. ap first_of_list (requested-alike known other same j i)) (λ j k there. there) is.lanes;
+  introduced = is.introduced;
+  requested = is.requested;
+  acknowledged = λ live j k any. is.acknowledged live j k any
+      ∙ ap (λ us. ack_of j k (first_of_list us)) (requested-alike known other same j k);
 }
 
 said-same : (said other : List Body) → filter is_preordering_word said ≡ filter is_preordering_word other →
@@ -196,6 +213,21 @@ counted-same said other counts same is = record {
   of_client = λ c below. is.of_client c below ∙ ap (λ rs. length (filter (λ b. nat_eq b.update.body.client c) rs)) same;
 }
 
+number_counts : (k : ℕ) (word : Body) → requests_number k word ≡ true → is_preordering_word word ≡ true
+number_counts k (body.PoRequest b) e = refl
+number_counts k _ e = absurd (cc)
+
+find-filter : {X : Type 0} (p q : X → Bool) → ((x : X) → p x ≡ true → q x ≡ true) → (xs : List X) →
+    find p (filter q xs) ≡ find p xs
+find-filter p q counts [] = refl
+find-filter {X} p q counts (x ∷ xs) = by (q x) (p x) refl refl (find-filter p q counts xs)
+  where
+    by : (b a : Bool) → q x ≡ b → p x ≡ a → find p (filter q xs) ≡ find p xs →
+        find p (cond b (x ∷ filter q xs) (filter q xs)) ≡ cond (p x) (Some x) (find p xs)
+    by true a kept is rest = ap (cond (p x) (Some x)) rest
+    by false true kept is rest = absurd (true≢false (sym (counts x is) ∙ kept))
+    by false false kept is rest = rest ∙ sym (ap (λ b. cond b (Some x) (find p xs)) is)
+
 pub said-alike : (g : Group) (me : ℕ) (p : PreorderState) (taken known : List (Signed Body)) (said other : List Body) →
     filter is_preordering_word said ≡ filter is_preordering_word other → IsPreorderOf g me p taken known said →
     IsPreorderOf g me p taken known other
@@ -203,6 +235,7 @@ said-alike g me p taken known said other same is = record {
   group = is.group;
   own = is.own;
   updates = is.updates;
+  numbers = is.numbers;
   firsts = λ j k. record {
     update = (is.firsts j k).update;
     acked = sym (said-same said other same j k) ∙ (is.firsts j k).acked;
@@ -213,10 +246,26 @@ said-alike g me p taken known said other same is = record {
   reach = is.reach;
   pending = pending-same known known said other p.pending.low p.pending.high
       (λ j k pending. (pending.0, said-same said other same j k ∙ pending.1)) is.pending;
-  counted = counted-same said other p.counts
-      (alike requests_said is_preordering_word (filter_map-filter request_in is_preordering_word not_request_in)
-      said other same) is.counted;
+  counted = λ first. counted-same said other p.counts requests (is.counted first);
+  lanes = lanes-same g known known said other p.lanes (λ j i below low high. refl)
+      (λ j k there. sym (said-same said other same j k) ∙ there) is.lanes;
+  introduced = λ live. introduced-same said other p.introduced requests (is.introduced live);
+  requested = λ live. own-alike said other p.updates p.own requests numbers (is.requested live);
+  acknowledged = λ live j k any. sym (found-acks j k)
+      ∙ is.acknowledged live j k (said-same said other same j k ∙ any);
 }
+  where
+    requests : requests_said said ≡ requests_said other
+    requests = alike requests_said is_preordering_word
+        (filter_map-filter request_in is_preordering_word not_request_in) said other same
+
+    numbers : (k : ℕ) → find (requests_number k) said ≡ find (requests_number k) other
+    numbers k = alike (find (requests_number k)) is_preordering_word
+        (find-filter (requests_number k) is_preordering_word (number_counts k)) said other same
+
+    found-acks : (j k : ℕ) → find (acks j k) said ≡ find (acks j k) other
+    found-acks j k = alike (find (acks j k)) is_preordering_word
+        (find-filter (acks j k) is_preordering_word (acks_count j k)) said other same
 
 -- one more element that doesn't count
 passed : {X : Type 0} (counts : X → Bool) (xs : List X) (x : X) → counts x ≡ false →

@@ -117,7 +117,7 @@ pub counted-nothing : (said : List Body) (counts : Counts) (next : List Body) �
 counted-nothing said counts next none old =
     subst (λ all. IsCounted all counts) (sym (ap (λ xs. said ++ xs) none ∙ append-nil said)) old
 
-requests_said-push : (said : List Body) (r : PoRequest) →
+pub requests_said-push : (said : List Body) (r : PoRequest) →
     requests_said (said ++ body.PoRequest r ∷ []) ≡ requests_said said ++ r ∷ []
 requests_said-push said r = filter_map-append request_in said (body.PoRequest r ∷ [])
 

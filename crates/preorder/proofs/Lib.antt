@@ -8,7 +8,13 @@ pub mod Certified
 pub mod Introductions
 pub mod Ranges
 pub mod Others
+pub mod Turning
 pub mod Settled
+pub mod AcksInTurn
+pub mod RequestsInTurn
+pub mod SaidInTurn
+pub mod Repeats
+pub mod Holding
 pub mod Settling
 pub mod Beginning
 pub mod Composed

@@ -16,7 +16,7 @@ use Rattle.protocol_rules.specs.Group.{Group, most_number}
 use Rattle.protocol_rules.specs.Words.{numbers_from, first_of_list}
 use Rattle.protocol_rules.specs.Preorder.{ack_due, acks, updates_requested, certified, vector}
 use Rattle.preorder.specs.Index.{HasPending, IsPending, Reaches}
-use Rattle.protocol_rules.proofs.Numbers.{run-length, head, numbers_from-more}
+use Rattle.protocol_rules.proofs.Numbers.{run-length, length-run_from, head, numbers_from-more}
 
 tail : {X : Type 0} (f : ℕ → List X) (start count most : ℕ) → most ≤ count → ((k : ℕ) → start + most ≤ k → f k ≡ []) →
     flat_map f (numbers_from start count) ≡ flat_map f (numbers_from start most)
@@ -87,3 +87,7 @@ vector-reached g known j reach reached =
     sym (run-length (λ k. certified g known j k) 1 most_number reach reached.limit
     (λ k low high. reached.without_gap k low (omega arith))
     (λ less. let e : 1 + reach ≡ suc reach = omega arith in ap (certified g known j) e ∙ reached.stops less))
+
+pub vector-limit : (g : Group) (known : List (Signed Body)) (j : ℕ) → vector g known j ≤ most_number
+unfolding vector
+vector-limit g known j = length-run_from (λ k. certified g known j k) 1 most_number

@@ -53,24 +53,24 @@ any-below p f (suc n) k less there =
         ∙ ap (λ i. list_any p (f i)) (sym same) ∙ there) ∙ either (list_any p (flat_map f (numbers_below n)))
 
 -- and where no part has one, the whole has none
-none-in : {X : Type 0} (p : X → Bool) (f : ℕ → List X) → ((k : ℕ) → list_any p (f k) ≡ false) → (ns : List ℕ) →
+pub none-in : {X : Type 0} (p : X → Bool) (f : ℕ → List X) → ((k : ℕ) → list_any p (f k) ≡ false) → (ns : List ℕ) →
     list_any p (flat_map f ns) ≡ false
 none-in p f none [] = refl
 none-in p f none (n ∷ ns) = list_any-append p (f n) (flat_map f ns) ∙ ap (λ b. b || list_any p (flat_map f ns))
     (none n) ∙ none-in p f none ns
 
-requests-none-in : (f : ℕ → List Body) → ((k : ℕ) → requests_said (f k) ≡ []) → (ns : List ℕ) →
+pub requests-none-in : (f : ℕ → List Body) → ((k : ℕ) → requests_said (f k) ≡ []) → (ns : List ℕ) →
     requests_said (flat_map f ns) ≡ []
 requests-none-in f none [] = refl
 requests-none-in f none (n ∷ ns) = filter_map-append request_in (f n) (flat_map f ns)
     ∙ ap (λ rs. rs ++ requests_said (flat_map f ns)) (none n) ∙ requests-none-in f none ns
 
 -- the acknowledgement due, by cases
-abbrev ack_of : List Update → ℕ → ℕ → List Body
+abbrev pub ack_of : List Update → ℕ → ℕ → List Body
 ack_of [] j k = []
 ack_of (u ∷ us) j k = body.PoAck record { j = j; k = k; digest = digest_of_update u } ∷ []
 
-ack_due-is : (known : List (Signed Body)) (said : List Body) (j k : ℕ) →
+pub ack_due-is : (known : List (Signed Body)) (said : List Body) (j k : ℕ) →
     ack_due known said j k ≡ cond (list_any (acks j k) said) [] (ack_of (updates_requested known j k) j k)
 ack_due-is known said j k = ap (λ rest. cond (list_any (acks j k) said) [] rest) (by (updates_requested known j k))
   where
@@ -80,7 +80,7 @@ ack_due-is known said j k = ap (λ rest. cond (list_any (acks j k) said) [] rest
     by [] = refl
     by (u ∷ us) = refl
 
-ack-requests : (known : List (Signed Body)) (said : List Body) (j k : ℕ) → requests_said (ack_due known said j k) ≡ []
+pub ack-requests : (known : List (Signed Body)) (said : List Body) (j k : ℕ) → requests_said (ack_due known said j k) ≡ []
 ack-requests known said j k = ap requests_said (ack_due-is known said j k)
     ∙ by (list_any (acks j k) said) (updates_requested known j k)
   where
@@ -95,7 +95,7 @@ acks-requests g known said = requests-none-in (λ j. flat_map (λ k. ack_due kno
     (numbers_from 1 most_number)) (numbers_below g.n)
 
 -- what is pending is acknowledged
-ack-there : (known : List (Signed Body)) (said : List Body) (j k : ℕ) → IsPending known said j k →
+pub ack-there : (known : List (Signed Body)) (said : List Body) (j k : ℕ) → IsPending known said j k →
     list_any (acks j k) (ack_due known said j k) ≡ true
 ack-there known said j k pending =
     ap (list_any (acks j k)) (ack_due-is known said j k
@@ -115,7 +115,7 @@ acks-there g known said j k below one limit pending =
     (ack-there known said j k pending))
 
 -- and what was never requested isn't
-ack-apart : (known : List (Signed Body)) (said : List Body) (j k : ℕ) →
+pub ack-apart : (known : List (Signed Body)) (said : List Body) (j k : ℕ) →
     first_of_list (updates_requested known j k) ≡ None → (i h : ℕ) →
     list_any (acks j k) (ack_due known said i h) ≡ false
 ack-apart known said j k none i h =

@@ -1,5 +1,5 @@
 -- What one frame or word more changes of the index: where its key has a value the first stays, else it is taken.
-use Rattle.std.proofs.Common.{◌≡◌, ℕ, ◌≤◌, ◌<◌, Bool, true, false, cond, ◌&&◌, ◌||◌, List, [], ◌∷◌, ◌++◌, Option}
+use Rattle.std.proofs.Common.{◌≡◌, ℕ, ◌^◌, ◌≤◌, ◌<◌, Bool, true, false, cond, ◌&&◌, ◌||◌, List, [], ◌∷◌, ◌++◌, Option}
 use Rattle.std.proofs.Common.{Some, None, nat_eq, is_some, refl, sym, ◌∙◌, ap, arith, subst}
 use Rattle.std.specs.List.{filter_map, find, list_any, cons_option}
 use Rattle.std.specs.Str.{bytes_eq}
@@ -19,7 +19,7 @@ use Rattle.protocol_rules.specs.Words.{or_else, first_of_list}
 use Rattle.protocol_rules.specs.Preorder.{update_of, updates_requested, update_requested, is_ack}
 use Rattle.preorder.specs.declared.firsts.First.{First}
 use Rattle.preorder.specs.declared.ballots.Ballot.{Ballot}
-use Rattle.preorder.specs.Index.{PairMap, BallotMap, same_pair, at_pair, same_ballot, at_ballot, HasUpdates}
+use Rattle.preorder.specs.Index.{PairMap, BallotMap, same_pair, at_pair, same_ballot, at_ballot, HasUpdates, HasNumbers}
 use Rattle.preorder.specs.Index.{HasFirsts, IsKnownFirst, HasBallots, has_digest, first_update, ballot_update}
 use Rattle.preorder.specs.Index.{ballot_has, is_settled}
 use Rattle.preorder.proofs.Choice.{same_ballot-same}
@@ -52,6 +52,20 @@ has_updates-new frames x copy map after equal none put has c t =
     ∙ taken here (at_pair map (c, t)) x (λ e. ap (at_pair map) (sym (same_pair-same _ _ e)) ∙ none_there _ none)
     ∙ ap (λ old. or_else old (cond here (Some x) None)) (has c t)
     ∙ sym (first_of_list-push (update_of c t) frames (as_frame body.Update x))
+
+pub has_numbers-new : (client number : ℕ) (copy : Signed Update) (map after : PairMap (Signed Update)) →
+    number < 2 ^ 64 →
+    ((k : ℕ × ℕ) → at_pair after k ≡ cond (same_pair (client, number) k) (Some copy) (at_pair map k)) →
+    HasNumbers map → HasNumbers after
+has_numbers-new client number copy map after fits put has c t high =
+    put (c, t) ∙ by (same_pair (client, number) (c, t)) refl
+  where
+    by : (here : Bool) → same_pair (client, number) (c, t) ≡ here →
+        cond here (Some copy) (at_pair map (c, t)) ≡ None
+    by true e =
+        let same : number ≡ t = ap (λ (k : ℕ × ℕ). k.1) (same_pair-same (client, number) (c, t) e) in
+        absurd (omega arith)
+    by false e = has c t high
 
 -- first requests
 

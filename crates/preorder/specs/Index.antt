@@ -1,5 +1,5 @@
 -- The index: each part of it agrees with a definition over the words known, the frames taken or the bodies said.
-use Rattle.std.specs.Prelude.{◌≡◌, ◌≢◌, ℕ, suc, ◌+◌, ◌≤◌, ◌<◌, Bool, true, false, ◌&&◌, List, Option, Some, None}
+use Rattle.std.specs.Prelude.{◌≡◌, ◌≢◌, ℕ, suc, ◌+◌, ◌^◌, ◌≤◌, ◌<◌, Bool, true, false, ◌&&◌, List, Option, Some, None}
 use Rattle.std.specs.Prelude.{IsSome, length, nat_eq, slice_index, if◌then◌else◌}
 use Rattle.std.specs.List.{list_any, find, filter_map}
 use Rattle.std.specs.Str.{bytes_eq}
@@ -40,6 +40,10 @@ at_ballot map key = lookup (same_ballot key) map
 -- at each client and number the first update taken
 abbrev pub HasUpdates : List (Signed Body) → PairMap (Signed Update) → Type 0
 HasUpdates taken map = (c t : ℕ) → at_pair map (c, t) ≡ first_of_list (filter_map (update_of c t) taken)
+
+-- an update is there only for a number that 64 bits hold
+abbrev pub HasNumbers : PairMap (Signed Update) → Type 0
+HasNumbers map = (c t : ℕ) → 2 ^ 64 ≤ t → at_pair map (c, t) ≡ None
 
 -- at each master and number the update that is certified
 abbrev pub HasCertified : Group → List (Signed Body) → PairMap Update → Type 0

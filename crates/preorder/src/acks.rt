@@ -56,7 +56,8 @@ fn push_acks_of(
     Ok(())
 }
 
-fn push_ack(bodies: &mut Vec<Body>, firsts: &Firsts, j: u32, k: u64) -> Result<(), Want>
+/// Adds the acknowledgement due for request `k` of master `j`, if there is one.
+pub fn push_ack(bodies: &mut Vec<Body>, firsts: &Firsts, j: u32, k: u64) -> Result<(), Want>
     ensures { (g : Group) (known : List (SignedWord Word)) (said : List Word) → HasFirsts g known said firsts.now.entries
         → OnOk result (bodies.new.items ≡ bodies.old.items ++ ack_due known said j k) }
 {

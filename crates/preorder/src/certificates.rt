@@ -49,7 +49,8 @@ fn extend(certificates: &CertifiedUpdates, reach: &mut [u64; MASTER_PLACES], j: 
     reach[j as usize] = end;
 }
 
-fn run_end(certificates: &CertifiedUpdates, j: u32, start: u64) -> u64
+/// How far the numbers of master `j` are certified without a gap, where they are up to `start`.
+pub fn run_end(certificates: &CertifiedUpdates, j: u32, start: u64) -> u64
     ensures { ReachesLess (λ k. at_pair certificates.now.entries (j, k)) start
         → Reaches (λ k. at_pair certificates.now.entries (j, k)) result }
 {

@@ -4,9 +4,12 @@
 #![tactic(auto)]
 
 mod acks;
+mod again;
 mod ballots;
 mod certificates;
 mod firsts;
+mod introducing;
+mod lanes;
 pub mod laws;
 mod letting;
 pub mod preorder;

@@ -1,14 +1,20 @@
-ghost use Rattle.std.specs.Prelude.{◌≡◌, ◌+◌, ◌<◌, ◌≤◌, [], OnOk, OnErr, IfOk, option_copied, replicate, slice_set, slice_index, min, max, None, if◌then◌else◌};
+ghost use Rattle.std.specs.Prelude.{◌≡◌, ◌+◌, ◌<◌, ◌≤◌, ◌&&◌, [], ℕ, Bool, List, true, false, OnOk, OnErr, IfOk, option_copied, replicate, slice_set, slice_index, min, max, None, if◌then◌else◌};
+ghost use Rattle.message_types.specs.declared.updates.Update.{Update as Change};
 ghost use Rattle.message_types.specs.declared.body.Body.TheVariants as body;
 ghost use Rattle.message_types.specs.Parts.{as_frame};
-ghost use Rattle.protocol_rules.specs.Group.{group_of, most_number};
+ghost use Rattle.protocol_rules.specs.Group.{group_of, is_live, most_number};
 ghost use Rattle.protocol_rules.specs.Preorder.{vector};
-ghost use Rattle.preorder.specs.PreorderState.{IsPreorderOf, Takes, Learns, Says, Where, certified_in, bodies_due};
+ghost use Rattle.protocol_rules.specs.Turns.{is_slow_beat};
+ghost use Rattle.preorder.specs.Counted.{AreCounts};
+ghost use Rattle.preorder.specs.PreorderState.{IsPreorderOf, Takes, Learns, Says, Where, certified_in, bodies_due, bodies_due_in_turn};
 
 use crate::acks::{PendingAcks, push_acks};
+use crate::again::{push_acks_again, push_request_again, reach_of, requested_in};
 use crate::ballots::{Ballots, is_acked, note_requested, note_vote, requested};
 use crate::certificates::{CertifiedUpdates, certify};
 use crate::firsts::{Firsts, note_first, note_said};
+use crate::introducing::{Introduced, push_requests_in_turn};
+use crate::lanes::{Lane, push_acks_in_turn};
 use crate::letting::let_go;
 use crate::requests::{Counts, push_requests};
 use crate::updates::{Updates, note_update};
@@ -34,6 +40,10 @@ pub struct Preorder {
     reach: [u64; MASTER_PLACES],
     pending: PendingAcks,
     counts: Counts,
+    lanes: [Lane; MASTER_PLACES],
+    introduced: Introduced,
+    /// The client and the number of the update of each own request, from request 1 on.
+    own: Vec<(u32, u64)>,
 }
 
 // Taken apart here once, so that no crate above proves it again.
@@ -51,11 +61,15 @@ impl Drop for Preorder {
             reach: _,
             pending: _,
             counts: _,
+            lanes: _,
+            introduced: _,
+            own,
         } = self;
         let_go(updates);
         let_go(firsts);
         let_go(ballots);
         let_go(certificates);
+        let_go(own);
     }
 }
 
@@ -77,6 +91,9 @@ impl Model for Preorder {
       reach = p.reach;
       pending = p.pending;
       counts = p.counts;
+      lanes = p.lanes;
+      introduced = p.introduced;
+      own = p.own.items;
     } };
 
     ghost invariant = { λ p. p.clients ≤ MOST_CLIENTS };
@@ -103,6 +120,12 @@ impl Preorder {
                 introduced: 0,
                 said_for: [0; CLIENT_PLACES],
             },
+            lanes: no_lanes(),
+            introduced: Introduced {
+                request: 0,
+                updates: [0; CLIENT_PLACES],
+            },
+            own: Vec::new(alloc),
         }
     }
 
@@ -175,6 +198,7 @@ impl Preorder {
 
     /// The requests and acknowledgements due, which count as said from then on.
     pub fn due(&mut self) -> Result<Vec<Body>, Want>
+        requires { is_live self.old.group ≡ false }
         ensures group { self.new.group ≡ self.old.group }
         ensures due { IfOk result (λ bodies. Where self.old (λ g me taken known said. bodies.items ≡ bodies_due g me taken known said)) }
         ensures said { IfOk result (λ bodies. Says self.old self.new bodies.items) }
@@ -196,6 +220,62 @@ impl Preorder {
         self.pending = none_pending();
         Ok(bodies)
     }
+
+    /// The requests and acknowledgements due by the rules that stay alive, which count as said from then on. `executed`
+    /// is how many updates of each client are executed. At a beat what isn't certified is said again.
+    pub fn due_in_turn(
+        &mut self,
+        executed: &[u64; CLIENT_PLACES],
+        is_beat: bool,
+    ) -> Result<Vec<Body>, Want>
+        requires { is_live self.old.group ≡ true }
+        ensures group { self.new.group ≡ self.old.group }
+        ensures due { IfOk result (λ bodies. (done : List Change) (now : ℕ) (at_tick : Bool) → AreCounts self.old.group.clients executed.now done
+            → is_beat ≡ (at_tick && is_slow_beat now)
+            → Where self.old (λ g me taken known said. bodies.items ≡ bodies_due_in_turn g me taken done known said now at_tick)) }
+        ensures said { IfOk result (λ bodies. (done : List Change) → AreCounts self.old.group.clients executed.now done
+            → Says self.old self.new bodies.items) }
+        ensures refused { OnErr result (self.new ≡ self.old) }
+    {
+        let mut introduced = self.introduced;
+        let mut lanes = self.lanes;
+        let mut bodies = Vec::new(self.alloc);
+        push_requests_in_turn(
+            &mut bodies,
+            &self.updates,
+            &self.sizes,
+            self.clients,
+            self.me,
+            executed,
+            &mut introduced,
+        )?;
+        let requested = requested_in(self.alloc, &bodies)?;
+        let certified = reach_of(&self.certificates, &self.reach, self.me);
+        push_request_again(&mut bodies, &self.updates, &self.own, certified, is_beat)?;
+        let (sizes, clients) = (&self.sizes, self.clients);
+        push_acks_in_turn(&mut bodies, &self.firsts, sizes, clients, &mut lanes)?;
+        push_acks_again(
+            &mut bodies,
+            &self.firsts,
+            self.sizes.n,
+            &self.reach,
+            is_beat,
+        )?;
+        self.own.extend_from_slice(&requested)?;
+        note_said(&mut self.firsts, &bodies);
+        self.introduced = introduced;
+        self.lanes = lanes;
+        Ok(bodies)
+    }
+}
+
+fn no_lanes() -> [Lane; MASTER_PLACES]
+    ensures { result ≡ replicate MASTER_PLACES (record { seen = 0; greatest = replicate CLIENT_PLACES 0 }) }
+{
+    [Lane {
+        seen: 0,
+        greatest: [0; CLIENT_PLACES],
+    }; MASTER_PLACES]
 }
 
 fn none_pending() -> PendingAcks

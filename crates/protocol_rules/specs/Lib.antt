@@ -10,6 +10,10 @@ pub mod Order
 pub mod Execution
 pub mod Views
 pub mod Measures
+pub mod Patience
+pub mod Turns
+pub mod Worth
 pub mod Reconcile
+pub mod Lacking
 pub mod Master
 pub mod Keys

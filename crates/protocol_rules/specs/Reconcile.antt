@@ -76,23 +76,26 @@ abbrev pub quorum_of_acks : Group → List (Signed Body) → ℕ → ℕ → Lis
 quorum_of_acks g known j k digest =
     take g.q (filter_map (λ master. first_of_list (filter_map (ack_of j k digest master) known)) (numbers_below g.n))
 
--- a certified request that another master asked for: the first known request with its update, and a quorum's
+-- the gift of request (j, k), where it is certified: the first known request with its update, and a quorum's
 -- acknowledgements
+abbrev pub request_gift : Group → List (Signed Body) → ℕ → ℕ → List Body
+request_gift g known j k = elim (certified g known j k) [
+  | Some u ↦ (elim (first_of_list (filter_map (request_of j k u) known)) [
+    | Some request ↦ body.Give record {
+      request = request;
+      acks =
+          quorum_of_acks g known j k (digest_of_update u);
+    } ∷ []
+    | None ↦ []
+  ])
+  | None ↦ []
+]
+
+-- a certified request that another master asked for
 abbrev pub give_due : Group → ℕ → List (Signed Body) → List Body → ℕ → ℕ → List Body
 give_due g me known said j k =
     if list_any (asks_for_update me j k) known && not (list_any (updates_given j k) said)
-    then (elim (certified g known j k) [
-      | Some u ↦ (elim (first_of_list (filter_map (request_of j k u) known)) [
-        | Some request ↦ body.Give record {
-          request = request;
-          acks =
-              quorum_of_acks g known j k (digest_of_update u);
-        } ∷ []
-        | None ↦ []
-      ])
-      | None ↦ []
-    ])
-    else []
+    then request_gift g known j k else []
 
 abbrev pub gives_due : Group → ℕ → List (Signed Body) → List Body → List Body
 gives_due g me known said = flat_map (λ j. flat_map (give_due g me known said j) (numbers_from 1 most_number))
@@ -119,15 +122,18 @@ whole_order g facts s rows = record {
 abbrev pub given_order : Group → List OrderFact → ℕ → Option GiveOrdered
 given_order g facts s = option_map (whole_order g facts s) (ordered g facts s)
 
+-- the gift of number s, where it is ordered
+abbrev pub order_gift : Group → List OrderFact → ℕ → List Body
+order_gift g facts s = elim (ordered g facts s) [
+  | Some rows ↦ body.GiveOrdered (whole_order g facts s rows) ∷ []
+  | None ↦ []
+]
+
 -- an ordered number that another master asked for
 abbrev pub give_ordered_due : Group → ℕ → List (Signed Body) → List OrderFact → List Body → ℕ → List Body
 give_ordered_due g me known facts said s =
     if list_any (asks_for_order me s) known && not (list_any (orders_given s) said)
-    then (elim (ordered g facts s) [
-      | Some rows ↦ body.GiveOrdered (whole_order g facts s rows) ∷ []
-      | None ↦ []
-    ])
-    else []
+    then order_gift g facts s else []
 
 abbrev pub gives_ordered_due : Group → ℕ → List (Signed Body) → List OrderFact → List Body → List Body
 gives_ordered_due g me known facts said = flat_map (give_ordered_due g me known facts said) (numbers_from 1 most_number)

@@ -7,5 +7,5 @@ pub mod sizes;
 pub mod voters;
 
 pub use limits::{CLIENT_PLACES, MASTER_PLACES, MOST_CLIENTS, MOST_MASTERS};
-pub use sizes::{BadSizes, Sizes};
+pub use sizes::{BadSizes, Rules, Sizes};
 pub use voters::VoterSet;

@@ -2,6 +2,9 @@ pub mod Order
 pub mod Sets
 pub mod Taken
 pub mod Said
+pub mod Repeated
+pub mod Sharing
+pub mod Gathered
 pub mod Sorted
 pub mod Merge
 pub mod Grid

@@ -119,13 +119,13 @@ new_is_new at_tick asked (Some w) = at at_tick (is_among asked w) refl
     at true false e = e
     at false b e = tt
 
-ask_of : (w x : Wanted) → (asks w (ask_for x) || false) ≡ same_wanted x w
+pub ask_of : (w x : Wanted) → (asks w (ask_for x) || false) ≡ same_wanted x w
 ask_of (Request j k) (Request i m) = or-false (nat_eq i j && nat_eq m k)
 ask_of (Request j k) (Number s) = refl
 ask_of (Number s) (Request j k) = refl
 ask_of (Number s) (Number t) = or-false (nat_eq t s)
 
-ask_gives : (w x : Wanted) → (gives w (ask_for x) || false) ≡ false
+pub ask_gives : (w x : Wanted) → (gives w (ask_for x) || false) ≡ false
 ask_gives (Request j k) (Request i m) = refl
 ask_gives (Request j k) (Number s) = refl
 ask_gives (Number s) (Request j k) = refl

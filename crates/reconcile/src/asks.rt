@@ -1,10 +1,13 @@
 ghost use Rattle.std.specs.Prelude.{◌≡◌, ◌++◌, ◌∷◌, ℕ, Bool, ◌&&◌, not, List, [], Option, Some, None, IsTrue, OnOk, OnErr, IfOk, IfSome, ◌||◌, false, option_map};
+ghost use Rattle.std.specs.List.{list_any};
 ghost use Rattle.message_types.specs.declared.body.Body.{Body};
 ghost use Rattle.protocol_rules.specs.Group.{Group};
 ghost use Rattle.protocol_rules.specs.Reconcile.{ask_update_due, ask_order_due};
-ghost use Rattle.reconcile.specs.Asking.{gives, is_among, is_place};
+ghost use Rattle.reconcile.specs.Asking.{asks, gives, is_among, is_place};
+ghost use Rattle.reconcile.specs.Again.{asks_again_due};
 ghost use Rattle.reconcile.specs.AskState.{AreAsksOf, Learns, Says, Where, IsListOfWanted, request_at, new_ask, asks_for, is_one, with_one};
 
+use crate::again::{asking_each, count_each, due_among};
 use crate::wanted::{Wanted, asked_in, asking};
 use message_types::Body;
 use plain_lists::Want;
@@ -39,6 +42,7 @@ impl Drop for Asks {
 }
 
 impl Model for Asks {
+    ghost use Rattle.reconcile.specs.Again.{asks_again_due};
     ghost use Rattle.reconcile.specs.AskState.{AskState};
 
     ghost Value = { AskState };
@@ -99,6 +103,32 @@ impl Asks {
         push_ask(&mut bodies, number)?;
         count_both(&mut self.asked, request, number)?;
         Ok(bodies)
+    }
+
+    /// What to ask for of what is lacking, in its order and at most so much of it: what wasn't asked for yet, and at each
+    /// 16th tick all. It counts as said.
+    pub fn due_again(
+        &mut self,
+        now: u64,
+        lacking: &[Wanted],
+        most: usize,
+    ) -> Result<Vec<Body>, Want>
+        ensures bodies { IfOk result (λ bodies. Where self.old (λ g me known said.
+            bodies.items ≡ asks_again_due said now lacking.now most)) }
+        ensures counted { IfOk result (λ bodies. Says self.old self.new bodies.items) }
+        ensures err { OnErr result (self.new ≡ self.old) }
+    {
+        let due = due_among(self.alloc, &self.asked, now, lacking, most)?;
+        let bodies = asking_each(self.alloc, due.as_slice())?;
+        count_each(&mut self.asked, due.as_slice())?;
+        Ok(bodies)
+    }
+
+    /// Whether the master asked for it.
+    pub fn has_asked(&self, wanted: &Wanted) -> bool
+        ensures { Where self.now (λ g me known said. result ≡ list_any (asks wanted.now) said) }
+    {
+        self.asked.contains(wanted)
     }
 
     /// All that others asked for and this master hasn't given: requests by master and then by their numbers,

@@ -55,7 +55,12 @@ fn gift_wanted(gifts: &Gifts, preorder: &Preorder, wanted: Wanted) -> Result<Opt
 }
 
 /// The gift of a request, where it is certified.
-fn gift_certified(gifts: &Gifts, preorder: &Preorder, j: u32, k: u64) -> Result<Option<Give>, Want>
+pub fn gift_certified(
+    gifts: &Gifts,
+    preorder: &Preorder,
+    j: u32,
+    k: u64,
+) -> Result<Option<Give>, Want>
     ensures { IfOk result (λ gift. (g : Group) (known : List (SignedWord Word))
         → AreGiftsOf g gifts.now known
         → HasCertified g known preorder.now.certificates

@@ -1,13 +1,18 @@
-ghost use Rattle.std.specs.Prelude.{◌≡◌, ℕ, List, filter, false};
+ghost use Rattle.std.specs.Prelude.{◌≡◌, ◌≤◌, ℕ, List, filter, length, map, take, false};
 ghost use Rattle.std.specs.List.{list_any, flat_map};
 ghost use Rattle.message_types.specs.declared.signed.Signed.{Signed};
 ghost use Rattle.message_types.specs.declared.body.Body.{Body};
+ghost use Rattle.message_types.specs.declared.body.Body.TheVariants as body;
 ghost use Rattle.protocol_rules.specs.Group.{Group};
 ghost use Rattle.reconcile.specs.declared.wanted.Wanted.{Wanted};
+ghost use Rattle.reconcile.specs.declared.wanted.Wanted.TheVariants.{Request, Number};
 ghost use Rattle.reconcile.specs.Asking.{is_ask, asks, gives};
 ghost use Rattle.reconcile.specs.AskState.{AskState, AreAsksOf, IsListOfWanted};
 ghost use Rattle.protocol_rules.specs.declared.facts.OrderFact.{OrderFact};
-ghost use Rattle.protocol_rules.specs.Reconcile.{gives_due, gives_ordered_due};
+ghost use Rattle.protocol_rules.specs.Execution.{Request as Eligible};
+ghost use Rattle.protocol_rules.specs.Reconcile.{gives_due, gives_ordered_due, updates_asked, orders_asked};
+ghost use Rattle.protocol_rules.specs.Lacking.{may_ask};
+ghost use Rattle.reconcile.specs.Again.{asks_again_due};
 ghost use Rattle.preorder.specs.Composed.{is_preordering};
 ghost use Rattle.reconcile.specs.GiftState.{GiftState, AreGiftsOf, Learns};
 ghost use Rattle.reconcile.specs.Giving.{give_of, order_given, requests_in, numbers_in};
@@ -53,4 +58,14 @@ pub fn only_gifts_said_count()
         → ((w : Wanted) → list_any (gives w) other ≡ list_any (gives w) said) → gives_ordered_due g me known facts other ≡ gives_ordered_due g me known facts said }
     ensures wanted { (g : Group) (me : ℕ) (known : List (Signed Body)) (said other : List Body) (list : List Wanted)
         → ((w : Wanted) → list_any (gives w) other ≡ list_any (gives w) said) → IsListOfWanted g me known said list → IsListOfWanted g me known other list }
+{}
+
+/// A law, which does nothing: what is asked for again is what the rules that stay alive ask for, where the lists are those of
+/// what is lacking.
+pub fn what_is_lacking_is_asked_for()
+    ensures numbers { (said : List Body) (now : ℕ) (numbers : List ℕ) → length numbers ≤ 64
+        → asks_again_due said now (map Number numbers) 64 ≡ map (λ s. body.AskOrder record { s = s }) (filter (λ s. may_ask said now (orders_asked s)) numbers) }
+    ensures requests { (said : List Body) (now : ℕ) (requests : List Eligible)
+        → asks_again_due said now (map (λ r. Request r.j r.k) requests) 16
+        ≡ map (λ r. body.AskUpdate record { j = r.j; k = r.k }) (take 16 (filter (λ r. may_ask said now (updates_asked r.j r.k)) requests)) }
 {}

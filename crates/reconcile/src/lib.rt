@@ -5,13 +5,18 @@
 #![tactic(auto)]
 
 mod acks;
+mod again;
 pub mod asks;
 pub mod gifts;
 pub mod giving;
+pub mod lacking;
 pub mod laws;
+pub mod shares;
 pub mod wanted;
 
 pub use asks::Asks;
 pub use gifts::Gifts;
-pub use giving::{gives, note_given, numbers_wanted};
-pub use wanted::Wanted;
+pub use giving::{gift_certified, gives, note_given, numbers_wanted};
+pub use lacking::requests_lacking;
+pub use shares::Shares;
+pub use wanted::{Wanted, asked_in};

@@ -13,7 +13,7 @@ pub enum Wanted {
 }
 
 /// What a body asks for.
-pub(crate) fn asked_in(body: &Body) -> Option<Wanted>
+pub fn asked_in(body: &Body) -> Option<Wanted>
     ensures { result ≡ wanted_in body.now }
 {
     match body {

@@ -29,7 +29,7 @@ use Rattle.scenario_file.specs.Values.{count_at, count_or, integer_at, integer_i
 use Rattle.scenario_file.specs.Values.{or_default}
 use Rattle.scenario_file.specs.Lists.{list_in, number_after, numbers_in}
 use Rattle.scenario_file.specs.Settings.{Settings, is_height, is_new_master, usual_levels, levels_of, set_of}
-use Rattle.scenario_file.specs.Settings.{intruded_of, settings_of}
+use Rattle.scenario_file.specs.Settings.{intruded_of, rules_of, settings_of}
 use Rattle.scenario_file.specs.PlantRows.{device_in, name_in, point_named_in, kind_in, alarm_in, interlock_named}
 use Rattle.scenario_file.specs.PlantRows.{value_of, rule_in, names_of, interlock_in, devices_of, points_of, alarms_of}
 use Rattle.scenario_file.specs.PlantRows.{interlocks_of, plant_of}
@@ -147,6 +147,7 @@ settings_of-ok doc s h =
     step (count_or [] (codes "frames") 1 1 2 doc) _ s h4 (λ frames framed h5.
     step (intruded_of (group_size f k) doc) _ s h5 (λ intruded named h6.
     step (count_at [] (codes "screens") 1 4 doc) _ s h6 (λ screens shown h7.
+    step (rules_of doc) _ s h7 (λ rules ruled h8.
     let made : Settings = record {
       f = f;
       k = k;
@@ -156,6 +157,7 @@ settings_of-ok doc s h =
       intruded =
           intruded;
       screens = screens;
+      rules = rules;
     } in
     let (f_some, f_few) = count_at-ok [] (codes "f") 1 3 doc f fed in
     let (k_some, k_few) = count_or-ok [] (codes "k") 0 0 2 doc k kept in
@@ -172,7 +174,7 @@ settings_of-ok doc s h =
       some_screens = screens_some;
       few_screens = screens_few;
     } in
-    subst HasSettings (ok-same made s h7) holds)))))))
+    subst HasSettings (ok-same made s h8) holds))))))))
 
 -- The plant
 

@@ -3,6 +3,7 @@ use Rattle.std.specs.Prelude.{ℕ, List, [], ◌∷◌, length, replicate, Optio
 use Rattle.toml.specs.Data.{Members}
 use Rattle.toml.specs.Parse.{parse_document}
 use Rattle.quorum_sets.specs.Quorum.{group_size}
+use Rattle.quorum_sets.specs.declared.sizes.Rules.TheVariants.{First}
 use Rattle.master_points.specs.declared.plant.Plant.{Plant}
 use Rattle.scenario_file.specs.declared.actors.Cast.{Cast}
 use Rattle.scenario_file.specs.declared.refusal.ScenarioRefusal.{ScenarioRefusal}
@@ -62,6 +63,7 @@ contents s = record {
     intruded =
         s.intruded;
     screens = s.screens;
+    rules = s.sizes.rules;
   };
   plant = s.plant;
   failing = s.failing;
@@ -78,6 +80,7 @@ smallest = record {
     frames = 1;
     intruded = [];
     screens = 1;
+    rules = First;
   };
   plant = record { devices = []; points = []; alarms = []; interlocks = [] };
   failing = [] ∷ [] ∷ [] ∷ [] ∷ [] ∷ [];

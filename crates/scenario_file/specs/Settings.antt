@@ -1,9 +1,12 @@
 -- The keys that aren't tables: the group, the seed of its keys, its intruded masters, its screens.
 use Rattle.std.specs.Prelude.{ℕ, ◌==◌, nat_lt, Bool, not, ◌&&◌, ◌||◌, List, [], codes, Some, None, Ok, pos}
+use Rattle.std.specs.Prelude.{if◌then◌else◌}
 use Rattle.toml.specs.Data.{Data, integer, array, no_items, item, Members}
 use Rattle.quorum_sets.specs.Quorum.{group_size}
 use Rattle.quorum_sets.specs.Masters.{has_master, voters}
 use Rattle.quorum_sets.specs.declared.limits.TheConstants.{MOST_MASTERS}
+use Rattle.quorum_sets.specs.declared.sizes.Rules.{Rules}
+use Rattle.quorum_sets.specs.declared.sizes.Rules.TheVariants.{First, Live}
 use Rattle.master_points.specs.declared.limits.TheConstants.{MOST_SCREENS}
 use Rattle.scenario_file.specs.Answers.{Answer, ◌>>=◌}
 use Rattle.scenario_file.specs.Values.{count_at, count_or, bytes_at, or_default}
@@ -44,6 +47,16 @@ pub record Settings : Type 0 where
   pub frames : ℕ
   pub intruded : List ℕ
   pub screens : ℕ
+  pub rules : Rules
+
+-- 1 are the rules first specified, 2 those that stay alive; left out they are the first
+abbrev pub rules_by : ℕ → Rules
+rules_by number = if number == 2 then Live else First
+
+unfoldable pub rules_of : Members → Answer Rules
+rules_of doc = do
+  number ← count_or [] (codes "rules") 1 1 2 doc
+  Ok (rules_by number)
 
 -- the keys in the order in which they are tried
 unfoldable pub settings_of : Members → Answer Settings
@@ -55,4 +68,14 @@ settings_of doc = do
   frames ← count_or [] (codes "frames") 1 1 2 doc
   intruded ← intruded_of (group_size f k) doc
   screens ← count_at [] (codes "screens") 1 MOST_SCREENS doc
-  Ok (record { f = f; k = k; seed = seed; heights = heights; frames = frames; intruded = intruded; screens = screens })
+  rules ← rules_of doc
+  Ok (record {
+    f = f;
+    k = k;
+    seed = seed;
+    heights = heights;
+    frames = frames;
+    intruded = intruded;
+    screens = screens;
+    rules = rules;
+  })

@@ -11,4 +11,5 @@ settings_shown g = record {
   frames = g.frames;
   intruded = g.intruded;
   screens = g.screens;
+  rules = g.sizes.rules;
 }

@@ -13,7 +13,7 @@ use Rattle.scenario_file.specs.Lists.{rows_at, row_name}
 -- the keys that each kind of table may have
 abbrev pub keys_of : Kind → List (List ℕ)
 keys_of kind.Document = codes "f" ∷ codes "k" ∷ codes "seed" ∷ codes "levels" ∷ codes "frames" ∷ codes "intruded"
-    ∷ codes "screens" ∷ codes "proxy" ∷ codes "point" ∷ codes "alarm" ∷ codes "interlock" ∷ codes "keeper" ∷ []
+    ∷ codes "screens" ∷ codes "rules" ∷ codes "proxy" ∷ codes "point" ∷ codes "alarm" ∷ codes "interlock" ∷ codes "keeper" ∷ []
 keys_of kind.Proxy = codes "coils" ∷ codes "discrete" ∷ codes "holding" ∷ codes "input" ∷ []
 keys_of kind.Point = codes "name" ∷ codes "proxy" ∷ codes "area" ∷ codes "place" ∷ codes "scale" ∷ codes "offset"
     ∷ codes "low" ∷ codes "high" ∷ codes "start" ∷ []

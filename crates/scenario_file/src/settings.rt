@@ -1,7 +1,7 @@
 ghost use Rattle.std.specs.Prelude.{◌≡◌, ◌≤◌, ◌<◌, [], ◌∷◌, All, IfOk};
 ghost use Rattle.toml.specs.View.{table_view};
 ghost use Rattle.scenario_file.specs.Answers.{Answers, Shows};
-ghost use Rattle.scenario_file.specs.Settings.{levels_of, set_of, intruded_of, settings_of};
+ghost use Rattle.scenario_file.specs.Settings.{levels_of, set_of, intruded_of, rules_of, settings_of};
 ghost use Rattle.scenario_file.specs.Shown.{settings_shown};
 
 use crate::lists::{Series, list, numbers};
@@ -9,7 +9,7 @@ use crate::refusal::ScenarioRefusal;
 use crate::values::Keys;
 use master_points::MOST_SCREENS;
 use plain_lists::{Items, Want};
-use quorum_sets::{MOST_MASTERS, Sizes, VoterSet};
+use quorum_sets::{MOST_MASTERS, Rules, Sizes, VoterSet};
 use std::alloc::Global;
 
 /// What the keys that aren't tables say.
@@ -80,6 +80,20 @@ fn intruded(document: &Keys<'_>, masters: u32) -> Result<VoterSet, ScenarioRefus
     }
 }
 
+/// The rules that the masters go by.
+#[tactic(auto, unfolding(crate::specs::Settings::rules_of))]
+fn rules(document: &Keys<'_>) -> Result<Rules, ScenarioRefusal>
+    requires { document.now.at.now ≡ [] }
+    ensures { Answers result (rules_of (table_view document.now.table.now)) }
+{
+    let number = document.count_or("rules", 1, 1, 2)?;
+    Ok(if number == 2 {
+        Rules::Live
+    } else {
+        Rules::First
+    })
+}
+
 /// What the keys that aren't tables say.
 #[tactic(auto, unfolding(crate::specs::Settings::settings_of))]
 pub fn read_group(document: &Keys<'_>) -> Result<Group, ScenarioRefusal>
@@ -95,8 +109,9 @@ pub fn read_group(document: &Keys<'_>) -> Result<Group, ScenarioRefusal>
     let frames = document.count_or("frames", 1, 1, 2)?;
     let intruded = intruded(document, sizes.n)?;
     let screens = document.count_at("screens", 1, MOST_SCREENS)?;
+    let rules = rules(document)?;
     Ok(Group {
-        sizes,
+        sizes: sizes.under(rules),
         seed,
         heights,
         frames,

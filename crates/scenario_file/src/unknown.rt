@@ -59,7 +59,7 @@ fn is_document_key(key: &str) -> bool
 {
     match key {
         "f" | "k" | "seed" | "levels" | "frames" | "intruded" => true,
-        "screens" | "proxy" | "point" | "alarm" | "interlock" | "keeper" => true,
+        "screens" | "rules" | "proxy" | "point" | "alarm" | "interlock" | "keeper" => true,
         _ => false,
     }
 }

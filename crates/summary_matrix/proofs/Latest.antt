@@ -1,6 +1,6 @@
 -- Laws of the latest summaries: one word more, words of other kinds, and what a matrix of the words known tells.
 use Rattle.std.proofs.Common.{◌≡◌, ℕ, ◌+◌, ◌*◌, ◌<◌, ◌≤◌, Bool, true, false, ◌&&◌, List, [], ◌∷◌, ◌++◌, Option, Some}
-use Rattle.std.proofs.Common.{None, max, filter, length, get_or, set, nat_eq, nat_le, nat_lt, refl, sym, ◌∙◌, ap}
+use Rattle.std.proofs.Common.{None, max, filter, map, reverse, length, get_or, set, nat_eq, nat_le, nat_lt, refl, sym, ◌∙◌, ap}
 use Rattle.std.proofs.Common.{subst, inl, inr, ◌⊎◌, arith, append-nil}
 use Rattle.std.specs.List.{list_all, list_any, filter_map, sum}
 use Rattle.std.proofs.Common.{get_or-set_same, get_or-set_other}
@@ -15,18 +15,19 @@ use Rattle.message_types.specs.declared.body.Body.{Body}
 use Rattle.message_types.specs.declared.body.Body.TheVariants as body
 use Rattle.message_types.specs.Parts.{as_frame}
 use Rattle.quorum_sets.specs.Masters.{numbers_below}
-use Rattle.protocol_rules.specs.Words.{best_from, best_by}
+use Rattle.protocol_rules.specs.Words.{best_from, best_by, in_order}
 use Rattle.protocol_rules.specs.Group.{Group, most_number}
 use Rattle.protocol_rules.specs.Places.{in_place}
 use Rattle.protocol_rules.specs.Matrix.{latest, latest_frames, summary_of, tells_more, exceeds, eligible, column}
 use Rattle.protocol_rules.specs.Matrix.{reach}
-use Rattle.protocol_rules.specs.Master.{latest_rows}
+use Rattle.protocol_rules.specs.Master.{latest_rows, eligible_now, shown_now}
 use Rattle.summary_matrix.specs.Held.{Summaries, IsMatrixOf, Learns, TellsEach, held, takes_over, row_of, rows_at}
-use Rattle.summary_matrix.specs.Held.{frames_at, is_summary, proposal_of}
-use Rattle.summary_matrix.proofs.Greatest.{reached}
+use Rattle.summary_matrix.specs.Held.{frames_at, is_summary, proposal_of, reached_by}
+use Rattle.summary_matrix.proofs.Falling.{ranked-reached, best_low}
+use Rattle.summary_matrix.proofs.Greatest.{reached, eligible-is}
 use Rattle.protocol_rules.proofs.LimitValues.{most_number-is}
 use Rattle.summary_matrix.proofs.Loops.{any_below}
-use Rattle.quorum_sets.proofs.Numbered.{filter_map_below, map_below}
+use Rattle.quorum_sets.proofs.Numbered.{filter_map_below, map_below, numbered_at}
 use Rattle.protocol_rules.proofs.Greatest.{best_from-push}
 
 best_by-taken : (xs : List (Signed PoSummary)) (x : Signed PoSummary) (h : Option (Signed PoSummary)) →
@@ -123,16 +124,22 @@ latest-none : (j : ℕ) → None ≡ latest [] j
 unfolding latest best_by
 latest-none j = refl
 
-pub matrix-none : (g : Group) (m : Summaries) → m.group.n ≡ g.n → m.group.q ≡ g.q →
+pub matrix-none : (g : Group) (m : Summaries) → m.group.n ≡ g.n → m.group.f ≡ g.f → m.group.q ≡ g.q →
     ((j : ℕ) → held m j ≡ None) → IsMatrixOf g m []
-matrix-none g m n q none = record { masters = n; quorum = q; summaries = λ j lt. none j ∙ latest-none j }
+matrix-none g m n f q none = record { masters = n; intruded = f; quorum = q; summaries = λ j lt. none j ∙ latest-none j }
 
 -- a summary that doesn't take over changes nothing
 pub matrix-passed : (g : Group) (m : Summaries) (known : List (Signed Body)) (f : Signed PoSummary) → f.signer < g.n →
     takes_over f (held m f.signer) ≡ false → IsMatrixOf g m known →
     IsMatrixOf g m (known ++ as_frame body.PoSummary f ∷ [])
 matrix-passed g m known f there t is =
-    record { masters = is.masters; quorum = is.quorum; summaries = λ j lt. at j lt (cases_eq f.signer j) }
+    record {
+      masters = is.masters;
+      intruded = is.intruded;
+      quorum = is.quorum;
+      summaries =
+          λ j lt. at j lt (cases_eq f.signer j);
+    }
   where
     at : (j : ℕ) → j < g.n → (f.signer ≡ j) ⊎ (f.signer ≡ j → ⊥) →
         held m j ≡ latest (known ++ as_frame body.PoSummary f ∷ []) j
@@ -148,6 +155,7 @@ pub matrix-taken : (g : Group) (m new : Summaries) (known : List (Signed Body)) 
 matrix-taken g m new known f there within t group now is =
     record {
       masters = ap (λ g. g.n) group ∙ is.masters;
+      intruded = ap (λ g. g.f) group ∙ is.intruded;
       quorum = ap (λ g. g.q) group ∙ is.quorum;
       summaries =
           λ j lt. ap (λ xs. get_or xs j None) now ∙ at j lt (cases_eq f.signer j);
@@ -250,6 +258,38 @@ eligible-known g m known j is =
     ap (λ q. reached q (column (rows_at m.group.n m.latest) j) (column (rows_at m.group.n m.latest) j)) is.quorum
     ∙ ap (λ rows. reached g.q (column rows j) (column rows j)) (rows-known g m known is)
 
+-- the figures of what is held, by q and by f + 1 of the rows, are those of the words known
+pub eligible-held : (g : Group) (m : Summaries) (known : List (Signed Body)) (j : ℕ) → IsMatrixOf g m known →
+    reached_by m.group.q (column (rows_at m.group.n m.latest) j) ≡ eligible g (latest_rows g known) j
+eligible-held g m known j is = eligible-is m.group (rows_at m.group.n m.latest) j ∙ eligible-known g m known j is
+
+pub eligible-placed : (g : Group) (known : List (Signed Body)) (j : ℕ) → j < g.n →
+    eligible g (latest_rows g known) j ≡ get_or (eligible_now g known) j 0
+eligible-placed g known j lt = sym (numbered_at (eligible g (latest_rows g known)) g.n j 0 lt)
+
+pub shown-held : (g : Group) (m : Summaries) (known : List (Signed Body)) (j : ℕ) → IsMatrixOf g m known → j < g.n →
+    reached_by (m.group.f + 1) (column (rows_at m.group.n m.latest) j) ≡ get_or (shown_now g known) j 0
+shown-held g m known j is lt =
+    ap (λ f. reached_by (f + 1) (column (rows_at m.group.n m.latest) j)) is.intruded
+    ∙ ap (λ rows. reached_by (g.f + 1) (column rows j)) (rows-known g m known is)
+    ∙ ranked-reached (column (latest_rows g known) j) g.f
+    ∙ sym (numbered_at (λ i. get_or (reverse (in_order (column (latest_rows g known) i))) g.f 0) g.n j 0 lt)
+
+-- where nothing is held, nothing is reached
+pub reach-nothing : (n least j : ℕ) (latest : List (Option (Signed PoSummary))) →
+    ((i : ℕ) → get_or latest i None ≡ None) → reached_by least (column (rows_at n latest) j) ≡ 0
+reach-nothing n least j latest none =
+    let empty : rows_at n latest ≡ map (λ i. []) (numbers_below n) =
+    map_below (λ i. row_of (get_or latest i None)) (λ i. []) n (λ i lt. ap row_of (none i)) in
+    let low : reached_by least (column (rows_at n latest) j) ≤ 0 =
+    best_low least 0 (column (rows_at n latest) j)
+    (ap (λ (rows : List (List ℕ)). list_all (λ y. nat_le y 0) (column rows j)) empty ∙ zeros (numbers_below n)) in
+    omega arith
+  where
+    zeros : (xs : List ℕ) → list_all (λ y. nat_le y 0) (column (map (λ i. []) xs) j) ≡ true
+    zeros [] = refl
+    zeros (x ∷ rest) = zeros rest
+
 -- asking whether numbers exceed others, where they tell what is eligible
 pub exceeds-known : (g : Group) (rows : List (List ℕ)) (numbers : List ℕ) (offered : ℕ → ℕ) → g.n ≤ 14 →
     TellsEach numbers (eligible g rows) → list_any (λ j. nat_lt (offered j) (get_or numbers j 0))
@@ -263,6 +303,7 @@ pub matrix-summaries : (g : Group) (m : Summaries) (known : List (Signed Body)) 
 matrix-summaries g m known is =
     record {
       masters = is.masters;
+      intruded = is.intruded;
       quorum = is.quorum;
       summaries = λ j lt. is.summaries j lt
           ∙ latest-summaries known j;
@@ -273,6 +314,7 @@ pub matrix-others : (m : Summaries) (f : Signed Body) → is_summary f ≡ false
 matrix-others m f other g known is =
     record {
       masters = is.masters;
+      intruded = is.intruded;
       quorum = is.quorum;
       summaries = λ j lt. is.summaries j lt ∙ sym (latest-summaries known j) ∙ ap (λ words. latest words j) (sym same)
           ∙ latest-summaries (known ++ f ∷ []) j;

@@ -1,3 +1,4 @@
 pub mod Greatest
+pub mod Falling
 pub mod Loops
 pub mod Latest

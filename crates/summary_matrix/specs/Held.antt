@@ -1,6 +1,6 @@
 -- What a matrix holds, and when it is the matrix of the words that its master knows.
 use Rattle.std.specs.Prelude.{◌≡◌, ℕ, ◌<◌, Bool, true, false, List, [], ◌∷◌, Option, Some, None, map, slice_index}
-use Rattle.std.specs.Prelude.{if◌then◌else◌}
+use Rattle.std.specs.Prelude.{filter, length, nat_le, if◌then◌else◌}
 use Rattle.std.specs.List.{filter_map, slice_index_or}
 use Rattle.message_types.specs.declared.signed.Signed.{Signed}
 use Rattle.message_types.specs.declared.preordering.PoSummary.{PoSummary}
@@ -10,7 +10,8 @@ use Rattle.quorum_sets.specs.Masters.{numbers_below}
 use Rattle.protocol_rules.specs.Parts as part
 use Rattle.quorum_sets.specs.declared.limits.TheConstants.{MOST_MASTERS}
 use Rattle.protocol_rules.specs.Group.{Group}
-use Rattle.protocol_rules.specs.Matrix.{latest, latest_frames, exceeds, tells_more}
+use Rattle.protocol_rules.specs.Matrix.{latest, latest_frames, exceeds, tells_more, column}
+use Rattle.protocol_rules.specs.Words.{greatest_of}
 use Rattle.protocol_rules.specs.Master.{latest_rows}
 
 -- the group (whose clients don't matter here), and at each master's place its latest summary
@@ -24,6 +25,7 @@ held m j = slice_index_or m.latest j None
 -- The matrix of a group where these words are known: it holds each master's latest summary among them.
 pub record IsMatrixOf (g : Group) (m : Summaries) (known : List (Signed Body)) : Type 0 where
   pub masters : m.group.n ≡ g.n
+  pub intruded : m.group.f ≡ g.f
   pub quorum : m.group.q ≡ g.q
   pub summaries : (j : ℕ) → j < g.n → held m j ≡ latest known j
 
@@ -38,6 +40,10 @@ Where m Holds = (g : Group) (known : List (Signed Body)) → IsMatrixOf g m know
 -- the numbers tell, for each of the masters that a group may have, what f gives
 abbrev pub TellsEach : List ℕ → (ℕ → ℕ) → Type 0
 TellsEach numbers f = (j : ℕ) → j < MOST_MASTERS → slice_index numbers j ≡ f j
+
+-- the first n numbers are those of a list
+abbrev pub TellsBelow : ℕ → List ℕ → List ℕ → Type 0
+TellsBelow n numbers list = (j : ℕ) → j < n → slice_index numbers j ≡ slice_index list j
 
 -- What a leader offers next after `offered`: all latest summaries, where they make more eligible.
 unfoldable pub proposal_of : Group → List (Signed Body) → (ℕ → ℕ) → Option (List (Signed PoSummary))
@@ -63,3 +69,12 @@ rows_at n latest = map (λ j. row_of (slice_index_or latest j None)) (numbers_be
 
 abbrev pub frames_at : ℕ → List (Option (Signed PoSummary)) → List (Signed PoSummary)
 frames_at n latest = filter_map (λ j. slice_index_or latest j None) (numbers_below n)
+
+-- the greatest of the numbers that so many of them reach, 0 where there is none
+abbrev pub reached_by : ℕ → List ℕ → ℕ
+reached_by least numbers = greatest_of
+    (filter (λ x. nat_le least (length (filter (λ y. nat_le x y) numbers))) numbers)
+
+-- the numbers tell, by master, how far so many of the first n rows of what is held reach
+abbrev pub HasFigures : ℕ → ℕ → List (Option (Signed PoSummary)) → List ℕ → Type 0
+HasFigures n least latest numbers = TellsEach numbers (λ j. reached_by least (column (rows_at n latest) j))

@@ -4,10 +4,9 @@ ghost use Rattle.message_types.specs.declared.body.Body.TheVariants as body;
 ghost use Rattle.message_types.specs.Parts.{as_frame};
 ghost use Rattle.protocol_rules.specs.Group.{group_of};
 ghost use Rattle.protocol_rules.specs.Places.{in_place};
-ghost use Rattle.protocol_rules.specs.Matrix.{column};
 ghost use Rattle.protocol_rules.specs.Matrix as rules;
-ghost use Rattle.protocol_rules.specs.Master.{latest_rows};
-ghost use Rattle.summary_matrix.specs.Held.{IsMatrixOf, Learns, Where, TellsEach, proposal_of, takes_over, row_of, rows_at, frames_at};
+ghost use Rattle.protocol_rules.specs.Master.{latest_rows, eligible_now, shown_now};
+ghost use Rattle.summary_matrix.specs.Held.{IsMatrixOf, Learns, Where, TellsEach, TellsBelow, HasFigures, proposal_of, takes_over, row_of, rows_at, frames_at};
 
 use crate::reach::{Reach, greatest_reached, leading, number_at};
 use message_types::{FrameList, PoSummary, Rows, Signed};
@@ -24,8 +23,13 @@ const MOST_TOTAL: u64 = MOST_MASTERS as u64 * MOST_NUMBER;
 pub struct Matrix {
     alloc: Global,
     sizes: Sizes,
-    latest: [Option<Signed<PoSummary>>; MASTER_PLACES],
+    latest: Latest,
+    /// How far `q` of the latest summaries reach, and `f + 1` of them: made anew where a summary takes another's place.
+    eligible: Reach,
+    shown: Reach,
 }
+
+type Latest = [Option<Signed<PoSummary>>; MASTER_PLACES];
 
 // Taken apart here once, so that no crate above proves it again.
 impl Drop for Matrix {
@@ -34,22 +38,26 @@ impl Drop for Matrix {
             alloc: _,
             sizes: _,
             latest: _,
+            eligible: _,
+            shown: _,
         } = self;
     }
 }
 
 impl Model for Matrix {
-    ghost use Rattle.std.specs.Prelude.{◌≤◌, ◌<◌, ℕ, None, sum};
+    ghost use Rattle.std.specs.Prelude.{◌+◌, ◌≤◌, ◌<◌, ℕ, None, sum};
     ghost use Rattle.std.specs.List.{slice_index_or};
     ghost use Rattle.protocol_rules.specs.Group.{group_of};
-    ghost use Rattle.summary_matrix.specs.Held.{Summaries, row_of};
+    ghost use Rattle.summary_matrix.specs.Held.{Summaries, HasFigures, row_of};
     ghost use Rattle.summary_matrix.specs.declared.matrix.TheConstants.{MOST_TOTAL};
 
     ghost Value = { Summaries };
 
     ghost view = { λ m. record { group = group_of m.sizes 0; latest = m.latest } };
 
-    ghost invariant = { λ m. (j : ℕ) → sum (row_of (slice_index_or m.latest j None)) ≤ MOST_TOTAL };
+    ghost invariant = { λ m. ((j : ℕ) → sum (row_of (slice_index_or m.latest j None)) ≤ MOST_TOTAL)
+        × HasFigures m.sizes.n m.sizes.q m.latest m.eligible.numbers
+        × HasFigures m.sizes.n (m.sizes.f + 1) m.latest m.shown.numbers };
 }
 
 impl Matrix {
@@ -64,6 +72,8 @@ impl Matrix {
             latest: [
                 None, None, None, None, None, None, None, None, None, None, None, None, None, None,
             ],
+            eligible: Reach::none(),
+            shown: Reach::none(),
         }
     }
 
@@ -80,6 +90,8 @@ impl Matrix {
         }
         let copy = frame.copy()?;
         self.latest[place] = Some(copy);
+        self.eligible = reach_of(&self.latest, self.sizes.n, self.sizes.q);
+        self.shown = reach_of(&self.latest, self.sizes.n, self.sizes.f + 1);
         Ok(())
     }
 
@@ -104,17 +116,17 @@ impl Matrix {
 
     /// How far the latest summaries make the requests of each master eligible.
     pub fn eligible(&self) -> Reach
-        ensures { Where self.now (λ g known. TellsEach result.numbers (rules.eligible g (latest_rows g known))) }
+        ensures each { Where self.now (λ g known. TellsEach result.numbers (rules.eligible g (latest_rows g known))) }
+        ensures now { Where self.now (λ g known. TellsBelow g.n result.numbers (eligible_now g known)) }
     {
-        let mut reach = Reach::none();
-        for place in 0..MASTER_PLACES {
-            let numbers = self.column(place);
-            reach.numbers[place] = greatest_reached(
-                leading(&numbers, self.sizes.n as usize),
-                self.sizes.q,
-            );
-        }
-        reach
+        self.eligible
+    }
+
+    /// How far `f + 1` of the latest summaries, and so a correct master's, have the requests of each master certified.
+    pub fn shown(&self) -> Reach
+        ensures { Where self.now (λ g known. TellsBelow g.n result.numbers (shown_now g known)) }
+    {
+        self.shown
     }
 
     /// Whether the latest summaries make more eligible than `offered` has.
@@ -143,18 +155,32 @@ impl Matrix {
         }
         Ok(frames)
     }
+}
 
-    /// What the latest summaries tell of one master.
-    fn column(&self, place: usize) -> [u64; MASTER_PLACES]
-        ensures { take self.now.group.n result ≡ column (rows_at self.now.group.n self.now.latest) place }
-    {
-        let mut numbers = [0; MASTER_PLACES];
-        for master in 0..self.sizes.n {
-            let at = master as usize;
-            numbers[at] = number_told(&self.latest[at], place);
-        }
-        numbers
+/// How far, by master, `least` of the latest summaries reach.
+fn reach_of(latest: &Latest, masters: u32, least: u32) -> Reach
+    requires { masters ≤ MOST_MASTERS }
+    ensures { HasFigures masters least latest.now result.numbers }
+{
+    let mut reach = Reach::none();
+    for place in 0..MASTER_PLACES {
+        let numbers = column(latest, masters, place);
+        reach.numbers[place] = greatest_reached(leading(&numbers, masters as usize), least);
     }
+    reach
+}
+
+/// What the latest summaries tell of one master.
+fn column(latest: &Latest, masters: u32, place: usize) -> [u64; MASTER_PLACES]
+    requires { masters ≤ MOST_MASTERS }
+    ensures { take masters result ≡ rules.column (rows_at masters latest.now) place }
+{
+    let mut numbers = [0; MASTER_PLACES];
+    for master in 0..masters {
+        let at = master as usize;
+        numbers[at] = number_told(&latest[at], place);
+    }
+    numbers
 }
 
 /// Whether a summary takes the place of the one held, if any.

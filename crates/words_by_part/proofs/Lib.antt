@@ -1,4 +1,5 @@
 pub mod Sorting
 pub mod Telling
 pub mod Said
+pub mod SaidAlive
 pub mod Answering

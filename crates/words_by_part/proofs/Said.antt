@@ -52,7 +52,7 @@ requests_kind g me taken said (c ∷ clients) = each_append (Of 2) (next_request
     (λ u _. each_one (Of 2) _ refl)) (λ _. each_none (Of 2)))
     (requests_kind g me taken (said ++ next_request g me taken said c) clients)
 
-ack_kind : (known : List (Signed Body)) (said : List Body) (j k : ℕ) → Each (Of 3) (ack_due known said j k)
+pub ack_kind : (known : List (Signed Body)) (said : List Body) (j k : ℕ) → Each (Of 3) (ack_due known said j k)
 ack_kind known said j k = one_unless 3 _ _ (by (updates_requested known j k))
   where
     by : (us : List Update) →
@@ -73,19 +73,22 @@ pub preprepares_kind : (g : Group) (me : ℕ) (known : List (Signed Body)) (fact
 preprepares_kind g me known facts said at_tick = each_elim (Of 5) (plan_known facts (view g known))
     _ (λ plan _. one_if 5 _ _ refl)
 
-pub prepares_kind : (g : Group) (facts : List OrderFact) (said : List Body) (v : ℕ) (open_now : Bool) →
-    Each (Of 6) (prepares_due g facts said v open_now)
-prepares_kind g facts said v open_now =
-    each_if (Of 6) open_now _ [] (λ _. each_flat_map (Of 6) (prepare_due facts said v) (in_window g facts) (λ s _.
-    one_unless 6 _ _ (by s (offered facts v s)))) (λ _. each_none (Of 6))
+pub prepare_kind : (facts : List OrderFact) (said : List Body) (v s : ℕ) → Each (Of 6) (prepare_due facts said v s)
+prepare_kind facts said v s = one_unless 6 _ _ (by (offered facts v s))
   where
-    by : (s : ℕ) (o : Option (List (List ℕ))) →
+    by : (o : Option (List (List ℕ))) →
         Each (Of 6) (elim o [
           | Some rows ↦ body.Prepare record { v = v; s = s; digest = digest_of_rows rows } ∷ []
           | None ↦ []
         ])
-    by s None = each_none (Of 6)
-    by s (Some rows) = each_one (Of 6) _ refl
+    by None = each_none (Of 6)
+    by (Some rows) = each_one (Of 6) _ refl
+
+pub prepares_kind : (g : Group) (facts : List OrderFact) (said : List Body) (v : ℕ) (open_now : Bool) →
+    Each (Of 6) (prepares_due g facts said v open_now)
+prepares_kind g facts said v open_now =
+    each_if (Of 6) open_now _ [] (λ _. each_flat_map (Of 6) (prepare_due facts said v) (in_window g facts)
+    (λ s _. prepare_kind facts said v s)) (λ _. each_none (Of 6))
 
 pub commits_kind : (g : Group) (facts : List OrderFact) (said : List Body) (v : ℕ) →
     Each (Of 7) (commits_due g facts said v)

@@ -1,7 +1,7 @@
 -- Words on measures that a master says: what they tell of ticks is no more than the ticks that it has had.
 use Rattle.std.proofs.Common.{◌≡◌, ℕ, ◌+◌, ◌-◌, ◌*◌, ◌^◌, ◌≤◌, suc, Bool, true, false, cond, ◌&&◌, not, List, [], ◌∷◌}
 use Rattle.std.proofs.Common.{◌++◌, Option, Some, None, length, filter, reverse, nat_eq, nat_lt, nat_le, refl, ◌∙◌}
-use Rattle.std.proofs.Common.{ap, subst, arith}
+use Rattle.std.proofs.Common.{ap, subst, arith, min, ◌<◌}
 use Rattle.std.specs.List.{list_any, filter_map}
 use Rattle.std.proofs.lemmas.Bool.{and_from, and_parts, leb-true, le-leb, lt-ltb}
 use Rattle.std.proofs.lemmas.List.{reverse-append}
@@ -10,13 +10,14 @@ use Rattle.message_types.specs.declared.signed.Signed.{Signed}
 use Rattle.message_types.specs.declared.measures.Rtt.{Rtt}
 use Rattle.message_types.specs.declared.body.Body.{Body}
 use Rattle.message_types.specs.declared.body.Body.TheVariants as body
-use Rattle.protocol_rules.specs.Words.{best_by, in_order}
-use Rattle.protocol_rules.specs.Group.{Group}
+use Rattle.protocol_rules.specs.Words.{best_by, in_order, numbers_from}
+use Rattle.protocol_rules.specs.Group.{Group, most_view}
 use Rattle.protocol_rules.specs.Places.{in_place, is_view}
 use Rattle.protocol_rules.specs.Measures.{Told, ticks_of, ticks_while_waiting, waited, pings_due, pongs_due}
 use Rattle.protocol_rules.specs.Measures.{pongs_due_to, round_trips_due, round_trips_due_from, tat_reports_due}
 use Rattle.protocol_rules.specs.Measures.{round_trip_in, round_trips, own_bound, tat_bounds_said, tat_bounds_due}
 use Rattle.protocol_rules.specs.Measures.{suspects_due}
+use Rattle.protocol_rules.specs.Patience.{patience, votes_to, votes_due}
 use Rattle.protocol_rules.specs.Views.{view}
 use Rattle.protocol_rules.specs.Master.{Heard, told_of, known_at, waits}
 use Rattle.agreement.proofs.Lists.{Each, each_none, each_one, each_if, each_map, each_flat_map, in_filter_from}
@@ -24,7 +25,7 @@ use Rattle.agreement.proofs.Lists.{in_filter_map_from, none_some}
 use Rattle.agreement.proofs.Quorums.{below_from}
 use Rattle.agreement.proofs.Spoken.{if_some}
 use Rattle.agreement.proofs.Inside.{best_in}
-use Rattle.words_in_place.proofs.Limits.{filter_more, each_in_order, each_reverse, index_within}
+use Rattle.words_in_place.proofs.Limits.{filter_more, each_in_order, each_reverse, index_within, from_bounds}
 use Rattle.words_in_place.proofs.Ordering.{WordPlaced}
 
 -- the measures are told of each tick
@@ -154,3 +155,12 @@ module _ (g : Group) (me : ℕ) (known : List (Signed Body)) (said : List Body) 
   suspects_placed v at_tick = each_if (WordPlaced g me) _ _ [] (λ holds.
       each_one (WordPlaced g me) (body.Suspect record { v = v })
       (and_parts _ _ (and_parts _ _ (and_parts _ _ holds).0).0).1) (λ _. each_none (WordPlaced g me))
+
+  pub votes_placed : (v waiting now : ℕ) (at_tick : Bool) →
+      Each (WordPlaced g me) (votes_due g known said v waiting now at_tick)
+  votes_placed v waiting now at_tick =
+      let to : ℕ = votes_to g known v (at_tick && nat_lt (patience g v now) waiting) in
+      each_map (WordPlaced g me) _ _ (λ w h.
+      let bounds = from_bounds 0 (min to most_view) w (in_filter_from _ (numbers_from 0 (min to most_view)) h).0 in
+      let below : w < 0 + min to most_view = bounds.1 in
+      lt-ltb w most_view (omega arith))

@@ -1,7 +1,7 @@
 -- Words of the global order that a master says: their numbers and views are within the limits, and their votes a
 -- quorum's.
-use Rattle.std.proofs.Common.{◌≡◌, ℕ, ◌+◌, ◌%◌, ◌<◌, ◌≤◌, Bool, true, ◌&&◌, not, List, [], ◌∷◌, Option, Some, None}
-use Rattle.std.proofs.Common.{length, length-take-le, nat_eq, refl, subst, arith}
+use Rattle.std.proofs.Common.{◌≡◌, ℕ, ◌+◌, ◌-◌, ◌%◌, ◌<◌, ◌≤◌, Bool, true, ◌&&◌, not, List, [], ◌∷◌, Option, Some, None}
+use Rattle.std.proofs.Common.{length, length-take-le, min, nat_eq, nat_le, refl, subst, arith}
 use Rattle.std.specs.List.{list_all, list_any, find}
 use Rattle.std.specs.Str.{bytes_eq}
 use Rattle.std.proofs.lemmas.Bool.{and_from, and_parts, leb-true, ltb-true, eq-eqb, eqb-true}
@@ -21,12 +21,14 @@ use Rattle.protocol_rules.specs.Order.{prepared, ordered, ordered_run, gapless, 
 use Rattle.protocol_rules.specs.Order.{quorum_of, prepare_by, commit_by, mark_by, commit_views, plan_known}
 use Rattle.protocol_rules.specs.Order.{prepares_said, prepare_due, prepares_due, commits_said, commit_due}
 use Rattle.protocol_rules.specs.Order.{commits_due, mark_due, marks_due, in_window}
+use Rattle.protocol_rules.specs.Worth.{is_worth, worthy_prepares_due}
 use Rattle.protocol_rules.specs.Views.{view}
 use Rattle.protocol_rules.specs.Reconcile.{ask_order_due, asks_for_order, orders_given, committed_views}
-use Rattle.protocol_rules.specs.Reconcile.{give_ordered_due, gives_ordered_due}
-use Rattle.protocol_rules.specs.Master.{gap_of, next_number, preprepares_due}
+use Rattle.protocol_rules.specs.Reconcile.{give_ordered_due, gives_ordered_due, order_gift}
+use Rattle.protocol_rules.specs.Lacking.{wanted_to, numbers_lacking, order_asks_due}
+use Rattle.protocol_rules.specs.Master.{gap_of, next_number, preprepares_due, whole_preprepares_due}
 use Rattle.history_rules.specs.Audit.{IsIn}
-use Rattle.agreement.proofs.Lists.{Within, Each, each_none, each_one, each_if, each_flat_map, in_filter}
+use Rattle.agreement.proofs.Lists.{Within, Each, each_none, each_one, each_if, each_map, each_flat_map, in_filter}
 use Rattle.agreement.proofs.Lists.{in_filter_from, in_filter_map, in_filter_map_from, in_take, first_met_from}
 use Rattle.agreement.proofs.Lists.{find_some, any_from, none_some}
 use Rattle.agreement.proofs.Spoken.{each_elim, if_some}
@@ -160,13 +162,24 @@ module _ (g : Group) (some : 1 ≤ g.q) (facts : List OrderFact) (placed : Each 
       (number_from (gapless g facts + 1) (one_more (gapless g facts)) (omega arith))
 
   module _ (me : ℕ) (said : List Body) (v : ℕ) (within : is_view v ≡ true) where
-    pub prepares_placed : (opened : Bool) → Each (WordPlaced g me) (prepares_due g facts said v opened)
-    prepares_placed opened = each_if (WordPlaced g me) opened _ []
-        (λ _. each_flat_map (WordPlaced g me) (prepare_due facts said v) (in_window g facts) (λ s _.
+    prepare_placed : (s : ℕ) → Each (WordPlaced g me) (prepare_due facts said v s)
+    prepare_placed s =
         each_if (WordPlaced g me) (list_any (prepares_said v s) said) [] _ (λ _. each_none (WordPlaced g me)) (λ _.
         each_elim (WordPlaced g me) (offered facts v s) _ (λ rows e.
         each_one (WordPlaced g me) (body.Prepare record { v = v; s = s; digest = digest_of_rows rows })
-        (and_from _ _ within (offered_placed g facts placed v s rows e).1)))))
+        (and_from _ _ within (offered_placed g facts placed v s rows e).1)))
+
+    pub prepares_placed : (opened : Bool) → Each (WordPlaced g me) (prepares_due g facts said v opened)
+    prepares_placed opened = each_if (WordPlaced g me) opened _ []
+        (λ _. each_flat_map (WordPlaced g me) (prepare_due facts said v) (in_window g facts) (λ s _. prepare_placed s))
+        (λ _. each_none (WordPlaced g me))
+
+    pub worthy_prepares_placed : (opened : Bool) →
+        Each (WordPlaced g me) (worthy_prepares_due g facts said v opened)
+    worthy_prepares_placed opened = each_if (WordPlaced g me) opened _ []
+        (λ _. each_flat_map (WordPlaced g me) _ (in_window g facts) (λ s _.
+        each_if (WordPlaced g me) (is_worth g facts v s) _ [] (λ _. prepare_placed s)
+        (λ _. each_none (WordPlaced g me))))
         (λ _. each_none (WordPlaced g me))
 
     pub commits_placed : Each (WordPlaced g me) (commits_due g facts said v)
@@ -200,6 +213,12 @@ module _ (g : Group) (some : 1 ≤ g.q) (facts : List OrderFact) (placed : Each 
         (and_from _ _ (and_from _ _ within (number_from s (one_more _) (leb-true s most_number small.1))) leads.1))
         (λ _. each_none (WordPlaced g me)))
 
+    pub whole_preprepares_placed : (known : List (Signed Body)) → is_view (view g known) ≡ true → (at_tick : Bool) →
+        Each (WordPlaced g me) (whole_preprepares_due g me known facts said at_tick)
+    whole_preprepares_placed known within at_tick = each_elim (WordPlaced g me) (plan_known facts (view g known)) _
+        (λ plan _. each_if (WordPlaced g me) (nat_le plan.base (gapless g facts)) _ []
+        (λ _. preprepares_placed known within at_tick) (λ _. each_none (WordPlaced g me)))
+
     pub ask_order_placed : (at_tick : Bool) → Each (WordPlaced g me) (ask_order_due said at_tick (gap_of g facts))
     ask_order_placed at_tick = by_gap (gap_of g facts) gap_number
       where
@@ -220,25 +239,38 @@ module _ (g : Group) (some : 1 ≤ g.q) (facts : List OrderFact) (placed : Each 
           quorum_of g (commit_by v s (digest_of_rows rows)) facts;
     }
 
-    given_placed : (s : ℕ) → IsIn s (numbers_from 1 most_number) → (rows : List (List ℕ)) →
+    given_placed : (s : ℕ) → is_number s ≡ true → (rows : List (List ℕ)) →
         ordered g facts s ≡ Some rows → (v : ℕ) → is_voted g (commit_by v s (digest_of_rows rows)) facts ≡ true
         → WordPlaced g me (given s rows v)
-    given_placed s h rows e v voted =
+    given_placed s number rows e v voted =
         and_from _ _ (and_from _ _
-        (and_from _ _ (and_from _ _ (number_in most_number s (omega arith) h)
+        (and_from _ _ (and_from _ _ number
         (voted_commit v s (digest_of_rows rows) voted))
         (ordered_placed g facts placed s rows e))
         (quorum_exact g (commit_by v s (digest_of_rows rows)) facts voted))
         (commits_alike g v s (digest_of_rows rows) facts)
+
+    pub order_gift_placed : (s : ℕ) → is_number s ≡ true → Each (WordPlaced g me) (order_gift g facts s)
+    order_gift_placed s number = each_elim (WordPlaced g me) (ordered g facts s)
+        (λ rows. given s rows (greatest_of (committed_views g facts s (digest_of_rows rows))) ∷ []) (λ rows e.
+        let v : ℕ = greatest_of (committed_views g facts s (digest_of_rows rows)) in
+        each_one (WordPlaced g me) (given s rows v) (given_placed s number rows e v (committed_last s rows e)))
 
     pub gives_ordered_placed : (known : List (Signed Body)) →
         Each (WordPlaced g me) (gives_ordered_due g me known facts said)
     gives_ordered_placed known = each_flat_map (WordPlaced g me) (give_ordered_due g me known facts said)
         (numbers_from 1 most_number) (λ s h.
         each_if (WordPlaced g me) (list_any (asks_for_order me s) known && not (list_any (orders_given s) said))
-        _ [] (λ _.
-        each_elim (WordPlaced g me) (ordered g facts s)
-        (λ rows. given s rows (greatest_of (committed_views g facts s (digest_of_rows rows))) ∷ []) (λ rows e.
-        let v : ℕ = greatest_of (committed_views g facts s (digest_of_rows rows)) in
-        each_one (WordPlaced g me) (given s rows v) (given_placed s h rows e v (committed_last s rows e))))
-        (λ _. each_none (WordPlaced g me)))
+        _ [] (λ _. order_gift_placed s (number_in most_number s (omega arith) h)) (λ _. each_none (WordPlaced g me)))
+
+    pub order_asks_placed : (v : ℕ) (opened : Bool) (waiting now : ℕ) (at_tick : Bool) →
+        Each (WordPlaced g me) (order_asks_due g facts said v opened waiting now at_tick)
+    order_asks_placed v opened waiting now at_tick = each_if (WordPlaced g me) at_tick _ [] (λ _.
+        each_map (WordPlaced g me) _ _ (λ s h.
+        let to : ℕ = min 64 (min (wanted_to g facts said v opened waiting now) most_number - gapless g facts) in
+        let lacking = (in_filter_from _ (numbers_lacking g facts said v opened waiting now) h).0 in
+        let within = (in_filter_from _ (numbers_from (gapless g facts + 1) to) lacking).0 in
+        let bounds = from_bounds (gapless g facts + 1) to s within in
+        let low : gapless g facts + 1 ≤ s = bounds.0 in
+        let high : s < gapless g facts + 1 + to = bounds.1 in
+        number_from s (omega arith) (omega arith))) (λ _. each_none (WordPlaced g me))

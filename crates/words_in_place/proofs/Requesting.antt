@@ -1,10 +1,10 @@
 -- Words on requests that a master says: their numbers are within the limits, and what it gives has a quorum's
 -- acknowledgements.
 use Rattle.std.proofs.Common.{◌≡◌, ℕ, ◌+◌, ◌-◌, ◌<◌, ◌≤◌, Bool, true, false, cond, ◌&&◌, List, [], ◌∷◌, ◌++◌, Option}
-use Rattle.std.proofs.Common.{Some, None, length, length-take-le, map, nat_eq, nat_lt, nat_le, refl, sym, ◌∙◌, ap}
+use Rattle.std.proofs.Common.{Some, None, length, length-take-le, map, max, nat_eq, nat_lt, nat_le, refl, sym, ◌∙◌, ap}
 use Rattle.std.proofs.Common.{subst, arith}
 use Rattle.std.specs.Prelude.{slice_index}
-use Rattle.std.specs.List.{list_all, list_any, filter_map}
+use Rattle.std.specs.List.{list_all, list_any, filter_map, flat_map}
 use Rattle.std.specs.Option.{is_some}
 use Rattle.std.specs.Str.{bytes_eq}
 use Rattle.std.proofs.lemmas.Bool.{false≢true, and_from, and_parts, leb-true, ltb-true, le-leb, lt-ltb, eq-eqb}
@@ -28,15 +28,22 @@ use Rattle.protocol_rules.specs.Facts.{facts_of}
 use Rattle.protocol_rules.specs.Order.{ordered, ordered_run}
 use Rattle.protocol_rules.specs.Preorder.{certified, vector, updates_requested, update_of, is_ack, is_acked}
 use Rattle.protocol_rules.specs.Preorder.{requests_said, requests_said_for, next_request, requests_due, acks}
-use Rattle.protocol_rules.specs.Preorder.{acks_due}
+use Rattle.protocol_rules.specs.Preorder.{ack_due, acks_due}
+use Rattle.protocol_rules.specs.Turns.{has_turn, acks_in_turn_due, last_request, last_introduced, next_in_turn}
+use Rattle.protocol_rules.specs.Turns.{requests_in_turn_due}
 use Rattle.protocol_rules.specs.Matrix.{eligible, reach, column}
-use Rattle.protocol_rules.specs.Execution.{Request, requests_between, newly_eligible, eligible_requests}
+use Rattle.protocol_rules.specs.Execution.{Request, requests_between, newly_eligible, eligible_requests, updates_of}
 use Rattle.protocol_rules.specs.Execution.{first_missing, waiting_of}
-use Rattle.protocol_rules.specs.Reconcile.{ask_update_due, request_of, ack_of, quorum_of_acks, gives_due}
+use Rattle.protocol_rules.specs.Reconcile.{ask_update_due, request_of, ack_of, quorum_of_acks, request_gift}
+use Rattle.protocol_rules.specs.Reconcile.{gives_due}
+use Rattle.protocol_rules.specs.declared.facts.OrderFact.{OrderFact}
+use Rattle.protocol_rules.specs.Patience.{Moment}
+use Rattle.protocol_rules.specs.Lacking.{requests_wanted_to, requests_lacking_of, update_asks_due}
 use Rattle.protocol_rules.specs.Master.{summaries_due, waiting_for}
 use Rattle.history_rules.specs.Audit.{IsIn, here, there}
 use Rattle.agreement.proofs.Lists.{Each, each_none, each_one, each_append, each_if, each_map, each_flat_map}
 use Rattle.agreement.proofs.Lists.{in_map_from, in_filter_from, in_filter_map, in_filter_map_from, in_take, first_in}
+use Rattle.agreement.proofs.Lists.{in_flat_map_from}
 use Rattle.agreement.proofs.Lists.{first_there, any_from, any_in, none_some, some_same}
 use Rattle.agreement.proofs.Quorums.{below_from}
 use Rattle.agreement.proofs.Spoken.{each_elim, if_some}
@@ -233,6 +240,25 @@ module _ (g : Group) (me : ℕ) (known taken : List (Signed Body)) (said : List 
       each_append (WordPlaced g me) (next_request g me taken before c) _ (next_placed before c)
       (requests_placed (before ++ next_request g me taken before c) clients)
 
+  next_in_turn_placed : (done : List Update) (before : List Body) (c : ℕ) →
+      Each (WordPlaced g me) (next_in_turn g me taken done before c)
+  next_in_turn_placed done before c =
+      each_if (WordPlaced g me) (is_door g c me && nat_lt (last_request before) most_number) _ [] (λ holds.
+      each_elim (WordPlaced g me)
+      (first_of_list (filter_map (update_of c (max (last_introduced before c) (updates_of c done) + 1)) taken))
+      _ (λ u _.
+      each_one (WordPlaced g me) (body.PoRequest record { k = last_request before + 1; update = u })
+      (next_in_limits (last_request before)
+      (ltb-true (last_request before) most_number (and_parts _ _ holds).1))))
+      (λ _. each_none (WordPlaced g me))
+
+  pub requests_in_turn_placed : (done : List Update) (before : List Body) (clients : List ℕ) →
+      Each (WordPlaced g me) (requests_in_turn_due g me taken done before clients)
+  requests_in_turn_placed done before [] = each_none (WordPlaced g me)
+  requests_in_turn_placed done before (c ∷ clients) =
+      each_append (WordPlaced g me) (next_in_turn g me taken done before c) _ (next_in_turn_placed done before c)
+      (requests_in_turn_placed done (before ++ next_in_turn g me taken done before c) clients)
+
   ack_placed : (j k : ℕ) → (nat_lt j g.n && is_number k) ≡ true → (us : List Update)
       → Each (WordPlaced g me) (elim us
       [ [] ↦ [] | u ∷ _ ↦ body.PoAck record { j = j; k = k; digest = digest_of_update u } ∷ [] ])
@@ -240,12 +266,25 @@ module _ (g : Group) (me : ℕ) (known taken : List (Signed Body)) (said : List 
   ack_placed j k within (u ∷ us) =
       each_one (WordPlaced g me) (body.PoAck record { j = j; k = k; digest = digest_of_update u }) within
 
+  ack_due_placed : (j k : ℕ) → (nat_lt j g.n && is_number k) ≡ true → Each (WordPlaced g me) (ack_due known said j k)
+  ack_due_placed j k within = each_if (WordPlaced g me) (list_any (acks j k) said) [] _
+      (λ _. each_none (WordPlaced g me)) (λ _. ack_placed j k within (updates_requested known j k))
+
+  ack_within : (j k : ℕ) → IsIn j (numbers_below g.n) → IsIn k (numbers_from 1 most_number) →
+      (nat_lt j g.n && is_number k) ≡ true
+  ack_within j k below upto = and_from _ _ (lt-ltb j g.n (below_from g.n j below))
+      (number_in most_number k (omega arith) upto)
+
   pub acks_placed : Each (WordPlaced g me) (acks_due g known said)
   acks_placed = each_flat_map (WordPlaced g me) _ (numbers_below g.n)
+      (λ j below. each_flat_map (WordPlaced g me) _ (numbers_from 1 most_number)
+      (λ k upto. ack_due_placed j k (ack_within j k below upto)))
+
+  pub acks_in_turn_placed : Each (WordPlaced g me) (acks_in_turn_due g known said)
+  acks_in_turn_placed = each_flat_map (WordPlaced g me) _ (numbers_below g.n)
       (λ j below. each_flat_map (WordPlaced g me) _ (numbers_from 1 most_number) (λ k upto.
-      each_if (WordPlaced g me) (list_any (acks j k) said) [] _ (λ _. each_none (WordPlaced g me)) (λ _.
-      ack_placed j k (and_from _ _ (lt-ltb j g.n (below_from g.n j below))
-      (number_in most_number k (omega arith) upto)) (updates_requested known j k))))
+      each_if (WordPlaced g me) (has_turn g known j k) _ [] (λ _. ack_due_placed j k (ack_within j k below upto))
+      (λ _. each_none (WordPlaced g me))))
 
   pub summaries_placed : (at_tick : Bool) → Each (WordPlaced g me) (summaries_due g known said at_tick)
   summaries_placed at_tick = each_if (WordPlaced g me) _ _ [] (λ _.
@@ -286,14 +325,49 @@ module _ (g : Group) (me : ℕ) (known taken : List (Signed Body)) (said : List 
       (same_bytes a.body.digest (digest_of_update request.body.update.body)
       (tells.3 ∙ sym (digest_of_text request.body.update.body u is.2)))))
 
-  pub gives_placed : Each (WordPlaced g me) (gives_due g me known said)
-  gives_placed = each_flat_map (WordPlaced g me) _ (numbers_below g.n)
-      (λ j _. each_flat_map (WordPlaced g me) _ (numbers_from 1 most_number) (λ k _.
-      each_if (WordPlaced g me) _ _ []
-      (λ _. each_elim (WordPlaced g me) (certified g known j k) _
+  pub request_gift_placed : (j k : ℕ) → Each (WordPlaced g me) (request_gift g known j k)
+  request_gift_placed j k = each_elim (WordPlaced g me) (certified g known j k) _
       (λ u e. each_elim (WordPlaced g me) (first_of_list (filter_map (request_of j k u) known)) _ (λ request f.
       let found = in_filter_map_from (request_of j k u) known (first_in (filter_map (request_of j k u) known) f) in
       each_one (WordPlaced g me)
       (body.Give record { request = request; acks = quorum_of_acks g known j k (digest_of_update u) })
-      (give_placed j k u request e (request_from_word j k u found.0.signer found.0.body found.0.sig request found.2)))))
-      (λ _. each_none (WordPlaced g me))))
+      (give_placed j k u request e (request_from_word j k u found.0.signer found.0.body found.0.sig request found.2))))
+
+  pub gives_placed : Each (WordPlaced g me) (gives_due g me known said)
+  gives_placed = each_flat_map (WordPlaced g me) _ (numbers_below g.n)
+      (λ j _. each_flat_map (WordPlaced g me) _ (numbers_from 1 most_number) (λ k _.
+      each_if (WordPlaced g me) _ _ [] (λ _. request_gift_placed j k) (λ _. each_none (WordPlaced g me))))
+
+  -- a request that is lacking is one of a master that is there, and within the limits
+  lacking_placed : (facts : List OrderFact) (moments : List Moment) (now j : ℕ) → IsIn j (numbers_below g.n) →
+      Each (RequestPlaced g) (requests_lacking_of g known facts moments now j)
+  lacking_placed facts moments now j below r h =
+      let to : ℕ = requests_wanted_to g facts moments now j in
+      let found = in_filter_map_from _ (numbers_from (vector g known j + 1) (to - vector g known j)) h in
+      let made = request_lacking (certified g known j found.0) j found.0 r found.2 in
+      let bounds = from_bounds (vector g known j + 1) (to - vector g known j) found.0 found.1 in
+      let low : vector g known j + 1 ≤ found.0 = bounds.0 in
+      let high : found.0 < vector g known j + 1 + (to - vector g known j) = bounds.1 in
+      let most : to ≤ most_number = wanted_within facts moments now j in
+      subst (λ (x : Request). RequestPlaced g x) made
+      (below_from g.n j below, number_from found.0 (omega arith) (omega arith))
+    where
+      wanted_within : (facts : List OrderFact) (moments : List Moment) (now j : ℕ) →
+          requests_wanted_to g facts moments now j ≤ most_number
+      wanted_within facts moments now j = omega arith
+
+      request_lacking : (o : Option Update) (j k : ℕ) (r : Request) →
+          (elim o [ None ↦ Some (request_at j k) | Some u ↦ None ]) ≡ Some r → request_at j k ≡ r
+      request_lacking None j k r e = some_same e
+      request_lacking (Some u) j k r e = absurd (none_some e)
+
+  pub update_asks_placed : (facts : List OrderFact) (moments : List Moment) (now : ℕ) (at_tick : Bool) →
+      Each (WordPlaced g me) (update_asks_due g known facts said moments now at_tick)
+  update_asks_placed facts moments now at_tick = each_if (WordPlaced g me) at_tick _ [] (λ _.
+      each_map (WordPlaced g me) _ _ (λ r h.
+      let chosen = in_take 16 _ h in
+      let lacking = (in_filter_from _ (flat_map (requests_lacking_of g known facts moments now) (numbers_below g.n))
+      chosen).0 in
+      let at = in_flat_map_from (requests_lacking_of g known facts moments now) (numbers_below g.n) lacking in
+      let placed : RequestPlaced g r = lacking_placed facts moments now at.0 at.1 r at.2 in
+      and_from _ _ (lt-ltb r.j g.n placed.0) placed.1)) (λ _. each_none (WordPlaced g me))

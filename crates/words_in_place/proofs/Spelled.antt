@@ -57,7 +57,7 @@ use Rattle.words_in_place.proofs.Limits.{all_from, all_each}
 use Rattle.words_in_place.proofs.Facts.{FactPlaced, AreRows, facts_placed, rows_placed, ordered_placed}
 use Rattle.words_in_place.proofs.Ordering.{mark_by_at}
 use Rattle.words_in_place.proofs.Requesting.{ack_from_word, first_ack}
-use Rattle.words_in_place.proofs.Speaking.{said_word}
+use Rattle.words_in_place.proofs.Speaking.{said_frame, said_word}
 use Rattle.quorum_sets.proofs.Numbered.{length-numbers_below}
 use Rattle.protocol_rules.proofs.Numbers.{length-numbers_from}
 use Rattle.plain_lists.proofs.Lists.{found_within, take_few}
@@ -431,11 +431,16 @@ module _ (g : Group) (orders : List Update → ℕ → List Order) (sizes : HasS
 module _ (g : Group) (orders : List Update → ℕ → List Order) (me : ℕ) (before : List Heard)
     (took : Option (Signed Body)) (at_tick : Bool) (knows : KnowsSpelled g before took) where
   words_fit : Each (λ b. body_fits b ≡ true) (answers g orders me before took at_tick)
-  words_fit b h = due_fits g orders knows.sizes (known_at before took) (taken_at before took) (said_before before)
-      (taken_known before took) (known_closed before took)
-      (all_each (in_place g) (known_at before took) knows.placed)
-      (all_each has_spelling (known_at before took) knows.spelled) b
-      (answers_are_due g orders me before took at_tick b h)
+  words_fit b h = elim (answers_are_due g orders me before took at_tick b h) [
+    | inl due ↦ due_fits g orders knows.sizes (known_at before took) (taken_at before took) (said_before before)
+        (taken_known before took) (known_closed before took)
+        (all_each (in_place g) (known_at before took) knows.placed)
+        (all_each has_spelling (known_at before took) knows.spelled) b due
+    | inr again ↦
+        let frame = said_frame before took b again.0 in
+        subst (λ (w : Body). body_fits w ≡ true) (sym frame.2) (and_parts _ _ (spelled_to frame.0
+        (all_each has_spelling (known_at before took) knows.spelled frame.0 frame.1))).0
+  ]
 
   pub own_spelled : (count : ℕ) (frames : List (Signed Body)) → IsSaid g orders me before took at_tick count frames →
       list_all (λ f. signature_fits f) frames ≡ true → Each Spelled frames

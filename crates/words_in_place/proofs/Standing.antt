@@ -15,12 +15,10 @@ use Rattle.history_rules.specs.Setup.{Setup, stands}
 use Rattle.history_rules.specs.Audit.{IsIn}
 use Rattle.agreement.proofs.Lists.{Each, in_cons_cases}
 use Rattle.agreement.proofs.Spoken.{answers_are_due}
-use Rattle.agreement.proofs.Inside.{due_inside}
-use Rattle.agreement.proofs.Origin.{known_closed, taken_known}
 use Rattle.words_in_place.specs.Laws.{MaySpeak}
 use Rattle.words_in_place.specs.Spellings.{KnowsSpelled, is_signed, OwnFramesStand}
 use Rattle.words_in_place.proofs.Limits.{all_from, all_each}
-use Rattle.words_in_place.proofs.Speaking.{own_frame, said_word}
+use Rattle.words_in_place.proofs.Speaking.{answer_inside, own_frame, said_word}
 use Rattle.words_in_place.proofs.Spelled.{own_spelled}
 
 -- a part in its place is an actor's
@@ -45,8 +43,7 @@ module _ (w : Setup) (me : ℕ) (before : List Heard) (took : Option (Signed Bod
   part_signed f own h p k = elim (in_cons_cases k) [
     | inl e ↦ subst (λ (z : Signed Body). is_signed w z ≡ true) (sym e) own
     | inr deeper ↦ all_each (is_signed w) (known_at before took) signed p
-        (due_inside w.group w.orders (known_at before took) (taken_at before took) (said_before before)
-        (taken_known before took) (known_closed before took) f.body
+        (answer_inside w.group w.orders before took f.body
         (answers_are_due w.group w.orders me before took at_tick f.body h) p deeper)
   ]
 

@@ -32,6 +32,7 @@ group_in c = record {
   k = c.settings.k;
   q = quorum_size c.settings.f c.settings.k;
   clients = proxies_in c + c.settings.screens;
+  rules = c.settings.rules;
 }
 
 -- how many actors a scenario has: its masters, then its clients

@@ -11,6 +11,8 @@ use Rattle.preorder.specs.contracts.preorder.Preorder.{the_view}
 use Rattle.preorder.specs.Index.{HasCertified}
 use Rattle.preorder.proofs.Viewed.{viewed}
 use Rattle.preorder.proofs.Others.{firsts-other, pending-other}
+use Rattle.preorder.proofs.Turning.{lanes-learn}
+use Rattle.preorder.proofs.Holding.{told-learn}
 use Rattle.preorder.proofs.Certified.{certifies-ack}
 use Rattle.preorder.proofs.preorder.Preorder.take_ack.Goals as goal
 
@@ -32,10 +34,16 @@ returns-clause-learned c g me taken known said is =
       group = old.group;
       own = old.own;
       updates = old.updates;
+      numbers = old.numbers;
       firsts = firsts-other g known said (as_frame body.PoAck x) a.firsts.entries (λ j k. refl) old.firsts;
       ballots = ballots;
       certified = certified.0;
       reach = certified.1;
       pending = pending-other known said (as_frame body.PoAck x) a.pending.low a.pending.high (λ j k. refl) old.pending;
       counted = old.counted;
+      lanes = lanes-learn g known said (as_frame body.PoAck x) a.lanes old.lanes;
+      introduced = old.introduced;
+      requested = old.requested;
+      acknowledged = λ live. told-learn g known said (as_frame body.PoAck x) a.firsts.entries old.firsts
+          (old.acknowledged live);
     }

@@ -15,6 +15,8 @@ use Rattle.preorder.specs.contracts.preorder.Preorder.{the_view}
 use Rattle.preorder.specs.Index.{HasFirsts, HasCertified, HasPending}
 use Rattle.preorder.proofs.Viewed.{viewed}
 use Rattle.preorder.proofs.Others.{pending-request}
+use Rattle.preorder.proofs.Turning.{lanes-learn}
+use Rattle.preorder.proofs.Holding.{told-learn}
 use Rattle.preorder.proofs.Certified.{certifies-request}
 use Rattle.preorder.proofs.preorder.Preorder.take_request.Goals as goal
 
@@ -44,6 +46,7 @@ returns-clause-learned c g me taken known said is =
       group = old.group;
       own = old.own;
       updates = old.updates;
+      numbers = old.numbers;
       firsts = c.note_first.ensures g known said in_group
           (subst (HasFirsts g known said) (sym c.reserve.ensures.entries) old.firsts);
       ballots = c.in_ok-note_requested.ensures.noted known old.ballots;
@@ -54,4 +57,9 @@ returns-clause-learned c g me taken known said is =
           (set a.pending.low x.signer (min (slice_index a.pending.low x.signer) x.body.k)) h)
           (sym c.widen.ensures.high) widened);
       counted = old.counted;
+      lanes = lanes-learn g known said (as_frame body.PoRequest x) a.lanes old.lanes;
+      introduced = old.introduced;
+      requested = old.requested;
+      acknowledged = λ live. told-learn g known said (as_frame body.PoRequest x) a.firsts.entries old.firsts
+          (old.acknowledged live);
     }

@@ -17,4 +17,4 @@ returns c g known is =
     (λ j. nat_lt (get_or c.args.offered.now.numbers j 0) (get_or c.eligible.result.numbers j 0))
     (numbers_below n)) n
     ∙ exceeds-known g (latest_rows g known) c.eligible.result.numbers (λ j. get_or c.args.offered.now.numbers j 0)
-    (omega arith) (c.eligible.ensures g known is)
+    (omega arith) (c.eligible.ensures.each g known is)

@@ -36,11 +36,14 @@ invariant_of-self c =
     let few : c.self.inside.sizes.n ≤ 14 = masters_few c.self.inside.sizes in
     let below : c.args.frame.now.signer < c.args.self.now.group.n =
     in_place-signer c.args.self.now.group c.args.frame.now c.requires in
-    let small = in_place-sum c.args.self.now.group c.args.frame.now c.requires (omega arith) in
-    subst (λ (f : Signed PoSummary). (j : ℕ) →
-    sum (row_of (get_or (set c.self.inside.latest c.args.frame.now.signer (Some f)) j None)) ≤ 57344)
-    (sym c.in_ok-copy.ensures)
-    (sums_small c.self.inside.latest c.args.frame.now.signer c.args.frame.now (omega arith) small c.self.invariant)
+    let small = in_place-sum c.args.self.now.group c.args.frame.now c.requires (omega arith) in (
+      subst (λ (f : Signed PoSummary). (j : ℕ) →
+          sum (row_of (get_or (set c.self.inside.latest c.args.frame.now.signer (Some f)) j None)) ≤ 57344)
+          (sym c.in_ok-copy.ensures)
+          (sums_small c.self.inside.latest c.args.frame.now.signer c.args.frame.now (omega arith) small c.self.invariant.0),
+      c.reach_of-self-inside.ensures,
+      c.reach_of-self-inside-2.ensures,
+    )
 
 pub returns-clause-ok : goal.returns-clause-ok
 returns-clause-ok c g known is =

@@ -1,0 +1,3 @@
+pub mod Come
+pub mod Stands
+pub mod Earlier
