@@ -1,4 +1,5 @@
 //! Small plays.
+use crate::asking::executed;
 use crate::scripts::{last_of, last_said, played};
 use message_types::Body;
 use run_scripts::PlayAnswer;
@@ -11,6 +12,9 @@ const ALL_CORRECT: &str = "levels = [5]\nscreens = 1\n";
 
 /// The same, with master 3 intruded.
 const ONE_INTRUDED: &str = "levels = [5]\nintruded = [3]\nscreens = 1\n";
+
+/// All correct, by the rules that stay alive.
+const ALIVE: &str = "levels = [5]\nscreens = 1\nrules = 2\n";
 
 /// The stamps of the frames that an actor took, in order.
 fn taken(alloc: Global, kept: &[Kept], actor: usize) -> Result<Vec<u64>, Fail> {
@@ -68,5 +72,18 @@ fn a_halted_actor_does_nothing_more(rt: HostRuntime) -> Result<(), Fail> {
     )??;
     assert_eq!(rt; last_of(&kept, 4)?.stamp, 0);
     assert!(rt; taken(rt.alloc(), &kept, 0)?.is_empty());
+    Ok(())
+}
+
+#[test]
+fn two_commands_are_executed_by_the_rules_that_stay_alive(rt: HostRuntime) -> Result<(), Fail> {
+    let commands = "command s0 ack 0\ncommand s0 ack 1\nflow 3\n";
+    let ticks = "tick masters\nflow 6\ntick masters\nflow 6\n";
+    let mut script = String::from_str(rt.alloc(), commands)?;
+    script.push_str(ticks)?;
+    let kept = played(rt.alloc(), ALIVE, script.as_str(), "")??;
+    for master in 0..4usize {
+        assert_eq!(rt; executed(&kept, master)?, 2);
+    }
     Ok(())
 }

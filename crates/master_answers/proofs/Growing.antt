@@ -5,7 +5,8 @@ use Rattle.message_types.specs.declared.body.Body.{Body}
 use Rattle.protocol_rules.specs.declared.facts.OrderFact.{OrderFact}
 use Rattle.protocol_rules.specs.Group.{Group}
 use Rattle.protocol_rules.specs.Facts.{facts_of}
-use Rattle.protocol_rules.specs.Measures.{Told}
+use Rattle.reconcile.specs.Shares.{AreSharesOf}
+use Rattle.master_knowledge.specs.Past.{Past}
 use Rattle.protocol_rules.specs.Views.{view}
 use Rattle.agreement.proofs.Lists.{in_left}
 use Rattle.agreement.proofs.Grows.{view_more}
@@ -33,27 +34,31 @@ offers_grow g kept known more said is = subst (λ (facts : List OrderFact). AreO
     (sym (told_more g known more)) (offers-facts kept (facts_of g more) g (facts_of g known) said is)
 
 pub knowledge_may_grow : (g : Group) (me : ℕ) (kept : ReplicaState) (knowledge : Knowledge)
-    (taken then_taken known more : List (Signed Body)) (told then_told : List Told) (said : List Body)
-    → Knows g me knowledge then_taken (known ++ more) then_told said → IsReplicaOf g me kept taken known told said
-    → IsReplicaOf g me (record kept { knowledge = knowledge }) then_taken (known ++ more) then_told said
-knowledge_may_grow g me kept knowledge taken then_taken known more told then_told said knows is_replica = record {
+    (taken then_taken known more : List (Signed Body)) (past then_past : Past) (said : List Body)
+    → Knows g me knowledge then_taken (known ++ more) then_past said → then_past.answered ≡ past.answered
+    → IsReplicaOf g me kept taken known past said
+    → IsReplicaOf g me (record kept { knowledge = knowledge }) then_taken (known ++ more) then_past said
+knowledge_may_grow g me kept knowledge taken then_taken known more past then_past said knows same is_replica = record {
   own = is_replica.own;
   knows = knows;
   summary = is_replica.summary;
   proposer = offers_grow g kept.proposer known more said is_replica.proposer;
   view = view_grows g known more kept.proposer.progress.view is_replica.view;
   vouchers = is_replica.vouchers;
+  shares = λ live. subst (AreSharesOf kept.shares) (sym same) (is_replica.shares live);
 }
 
 pub events_may_grow : (g : Group) (me : ℕ) (kept : ReplicaState) (knowledge : Knowledge)
-    (taken known : List (Signed Body)) (told then_told : List Told) (said : List Body)
-    → Knows g me knowledge taken known then_told said → IsReplicaOf g me kept taken known told said
-    → IsReplicaOf g me (record kept { knowledge = knowledge }) taken known then_told said
-events_may_grow g me kept knowledge taken known told then_told said knows is_replica = record {
+    (taken known : List (Signed Body)) (past then_past : Past) (said : List Body)
+    → Knows g me knowledge taken known then_past said → then_past.answered ≡ past.answered
+    → IsReplicaOf g me kept taken known past said
+    → IsReplicaOf g me (record kept { knowledge = knowledge }) taken known then_past said
+events_may_grow g me kept knowledge taken known past then_past said knows same is_replica = record {
   own = is_replica.own;
   knows = knows;
   summary = is_replica.summary;
   proposer = is_replica.proposer;
   view = is_replica.view;
   vouchers = is_replica.vouchers;
+  shares = λ live. subst (AreSharesOf kept.shares) (sym same) (is_replica.shares live);
 }

@@ -11,5 +11,12 @@ pub mod Splitting
 pub mod Asking
 pub mod Reporting
 pub mod Speaking
+pub mod SpeakingAlive
+pub mod Waited
+pub mod Answered
+pub mod Counted
+pub mod Caught
 pub mod Ordered
 pub mod Vouched
+pub mod Gifting
+pub mod Lacked

@@ -1,5 +1,5 @@
 -- All that a master says at an event, and what it keeps then.
-use Rattle.std.proofs.Common.{◌≡◌, ℕ, ◌≤◌, Bool, List, ◌++◌, Option, sym, ◌∙◌, ap, subst}
+use Rattle.std.proofs.Common.{◌≡◌, ℕ, ◌≤◌, Bool, false, true≢false, List, ◌++◌, Option, sym, ◌∙◌, ap, subst}
 use Rattle.std.specs.List.{flat_map}
 use Rattle.message_types.specs.declared.signed.Signed.{Signed}
 use Rattle.message_types.specs.declared.updates.Update.{Update}
@@ -7,7 +7,7 @@ use Rattle.message_types.specs.declared.vouchers.Order.{Order}
 use Rattle.message_types.specs.declared.body.Body.{Body}
 use Rattle.quorum_sets.specs.Masters.{numbers_below}
 use Rattle.protocol_rules.specs.declared.facts.OrderFact.{OrderFact}
-use Rattle.protocol_rules.specs.Group.{Group}
+use Rattle.protocol_rules.specs.Group.{Group, is_live}
 use Rattle.protocol_rules.specs.Facts.{facts_of}
 use Rattle.protocol_rules.specs.Preorder.{requests_due, acks_due}
 use Rattle.protocol_rules.specs.Order.{stable, marks_for, certificates_below, prepares_due, commits_due, marks_due}
@@ -16,7 +16,7 @@ use Rattle.protocol_rules.specs.Measures.{Told, ticks_of, waited, pings_due, pon
 use Rattle.protocol_rules.specs.Measures.{tat_reports_due, tat_bounds_due, suspects_due}
 use Rattle.protocol_rules.specs.Reconcile.{ask_update_due, ask_order_due, gives_due, gives_ordered_due}
 use Rattle.protocol_rules.specs.Master.{Heard, known_at, taken_at, said_before, waiting_for, gap_of, executed}
-use Rattle.protocol_rules.specs.Master.{summaries_due, preprepares_due, vouchers_from, vouchers_due, answers}
+use Rattle.protocol_rules.specs.Master.{summaries_due, preprepares_due, vouchers_from, vouchers_due, answers, answers_by}
 use Rattle.preorder.specs.PreorderState.{PreorderState, IsPreorderOf}
 use Rattle.global_order.specs.OrderState.{OrderState, IsOrderOf}
 use Rattle.suspect_leader.specs.MeasureState.{MeasureState, IsMeasureOf, measures_due}
@@ -28,6 +28,7 @@ use Rattle.leader_proposals.specs.Saying.{SummedUp, IsSummaryOf, AreVouchersOf}
 use Rattle.master_points.specs.Orders.{Held}
 use Rattle.words_by_part.specs.Laws.{told_at, AreByPart}
 use Rattle.master_knowledge.specs.declared.knowledge.Knowledge.{Knowledge}
+use Rattle.master_knowledge.specs.Past.{Past}
 use Rattle.master_knowledge.specs.Knows.{Knows}
 use Rattle.master_answers.specs.declared.replica_state.ReplicaState.{ReplicaState}
 use Rattle.master_answers.specs.Replica.{IsReplicaOf, HoldsOrders, clients_of}
@@ -38,11 +39,11 @@ use Rattle.master_answers.proofs.Joining.{pair, all_joined}
 -- the parts after an event, each of which counts all that was said at it, are those of the master
 pub speaks_with : (g : Group) (me : ℕ) (kept : ReplicaState) (k : Knowledge) (p : PreorderState) (o : OrderState)
     (m : MeasureState) (v : ViewState) (a : AskState) (su : SummedUp) (proposer : Offered) (vo : Vouchers)
-    (taken known : List (Signed Body)) (told : List Told) (said all : List Body)
-    → kept.me ≡ me → Knows g me k taken known told said
+    (taken known : List (Signed Body)) (past : Past) (answered : List ℕ) (said all : List Body)
+    → is_live g ≡ false → kept.me ≡ me → Knows g me k taken known past said
     → IsPreorderOf g me p taken known (said ++ all)
     → IsOrderOf g o (facts_of g known) (said ++ all)
-    → IsMeasureOf g me m told known (said ++ all)
+    → m.ticks ≡ k.measure.ticks → IsMeasureOf g me m past.told known (said ++ all)
     → AreViewsOf g me v known (said ++ all)
     → AreAsksOf g me a known (said ++ all)
     → IsSummaryOf g su (said ++ all)
@@ -61,19 +62,27 @@ pub speaks_with : (g : Group) (me : ℕ) (kept : ReplicaState) (k : Knowledge) (
       summary = su;
       proposer = proposer;
       vouchers = vo;
-    }) taken known told (said ++ all)
-speaks_with g me kept k p o m v a su proposer vo taken known told said all own knows preorder order measure views asks
+    }) taken known (record past { answered = answered }) (said ++ all)
+speaks_with g me kept k p o m v a su proposer vo taken known past answered said all first own knows preorder order ticks measure views asks
     summary offers_are offers_view vouchers = record {
       own = own;
       knows = record {
         masters = knows.masters;
+        quorum = knows.quorum;
+        rules = knows.rules;
         whole = knows.whole;
         preorder = preorder;
         matrix = knows.matrix;
         order = order;
         run = knows.run;
         views = views;
-        measure = measure;
+        ticks_told = ticks ∙ knows.ticks_told;
+        ticks = ticks ∙ knows.ticks;
+        measure = λ is. measure;
+        patience = λ live. absurd (true≢false (sym live ∙ first));
+        wait = knows.wait;
+        furthest = knows.furthest;
+        earlier = knows.earlier;
         asks = asks;
         gifts = knows.gifts;
       };
@@ -81,6 +90,7 @@ speaks_with g me kept k p o m v a su proposer vo taken known told said all own k
       proposer = offers_are;
       view = offers_view;
       vouchers = vouchers;
+      shares = λ live. absurd (true≢false (sym live ∙ first));
     }
 
 -- what each part says at an event
@@ -124,9 +134,9 @@ pub record AreDue (g : Group) (orders : List Update → ℕ → List Order) (me 
 pub answers_are : (g : Group) (orders : List Update → ℕ → List Order) (me : ℕ) (before : List Heard)
     (took : Option (Signed Body)) (at_tick : Bool) (w : Words)
     → AreDue g orders me (known_at before took) (taken_at before took) (said_before before)
-    (told_at g before took at_tick) at_tick w → joined w ≡ answers g orders me before took at_tick
+    (told_at g before took at_tick) at_tick w → is_live g ≡ false → joined w ≡ answers g orders me before took at_tick
 unfolding answers
-answers_are g orders me before took at_tick w due =
+answers_are g orders me before took at_tick w due first =
     let known : List (Signed Body) = known_at before took in
     let said : List Body = said_before before in
     let facts : List OrderFact = facts_of g known in
@@ -146,19 +156,20 @@ answers_are g orders me before took at_tick w due =
     w.given w.vouchers w.marks
     due.requests due.at_a_tick due.ordered due.measures due.views due.updates_asked due.gives due.orders_asked
     due.given due.vouchers due.marks
+    ∙ ap (λ b. answers_by b g orders me before took at_tick) (sym first)
 
 -- each part counts its own words as said, and so all
 pub speaks_from : (g : Group) (orders : List Update → ℕ → List Order) (me : ℕ) (known taken : List (Signed Body))
-    (said : List Body) (told : List Told) (at_tick : Bool) (all bodies : List Body) (w : Words)
+    (said : List Body) (past : Past) (answered : List ℕ) (at_tick : Bool) (all bodies : List Body) (w : Words)
     (kept : ReplicaState) (k : Knowledge) (p : PreorderState) (o : OrderState) (m : MeasureState) (v : ViewState)
     (a : AskState) (su : SummedUp) (proposer : Offered) (vo : Vouchers)
-    → bodies ≡ all
-    → AreByPart g orders me known taken said told at_tick all
-    → AreDue g orders me known taken said told at_tick w
-    → kept.me ≡ me → Knows g me k taken known told said
+    → is_live g ≡ false → bodies ≡ all
+    → AreByPart g orders me known taken said past.told at_tick all
+    → AreDue g orders me known taken said past.told at_tick w
+    → kept.me ≡ me → Knows g me k taken known past said
     → IsPreorderOf g me p taken known (said ++ all)
     → IsOrderOf g o (facts_of g known) (said ++ all)
-    → IsMeasureOf g me m told known (said ++ w.measures)
+    → m.ticks ≡ k.measure.ticks → IsMeasureOf g me m past.told known (said ++ w.measures)
     → AreViewsOf g me v known (said ++ w.views)
     → AreAsksOf g me a known (((said ++ (w.updates_asked ++ w.orders_asked)) ++ w.gives) ++ w.given)
     → IsSummaryOf g su (said ++ summaries_due g known said at_tick)
@@ -177,9 +188,9 @@ pub speaks_from : (g : Group) (orders : List Update → ℕ → List Order) (me 
       summary = su;
       proposer = proposer;
       vouchers = vo;
-    }) taken known told (said ++ bodies)
-speaks_from g orders me known taken said told at_tick all bodies w kept k p o m v a su proposer vo same by due own
-    knows preorder order measure views asks summary offers_are offers_view vouchers =
+    }) taken known (record past { answered = answered }) (said ++ bodies)
+speaks_from g orders me known taken said past answered at_tick all bodies w kept k p o m v a su proposer vo first same by due own
+    knows preorder order ticks measure views asks summary offers_are offers_view vouchers =
     subst (λ (ws : List Body). IsReplicaOf g me
     (record kept {
       knowledge = record k { preorder = p; order = o; measure = m; views = v; asks = a };
@@ -187,10 +198,10 @@ speaks_from g orders me known taken said told at_tick all bodies w kept k p o m 
           su;
       proposer = proposer;
       vouchers = vo;
-    }) taken known told (said ++ ws)) (sym same)
-    (speaks_with g me kept k p o m v a su proposer vo taken known told said all own knows preorder order
-    (measures_counted g me m told known said all
-    (subst (λ (ws : List Body). IsMeasureOf g me m told known (said ++ ws))
+    }) taken known (record past { answered = answered }) (said ++ ws)) (sym same)
+    (speaks_with g me kept k p o m v a su proposer vo taken known past answered said all first own knows preorder order ticks
+    (measures_counted g me m past.told known said all
+    (subst (λ (ws : List Body). IsMeasureOf g me m past.told known (said ++ ws))
     (due.measures ∙ sym by.measures) measure))
     (views_counted g me v known said all (subst (λ (ws : List Body). AreViewsOf g me v known (said ++ ws))
     (due.views ∙ sym by.views) views))

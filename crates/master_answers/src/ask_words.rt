@@ -1,4 +1,4 @@
-ghost use Rattle.std.specs.Prelude.{◌≡◌, ◌++◌, ℕ, List, IfOk};
+ghost use Rattle.std.specs.Prelude.{◌≡◌, ◌++◌, ℕ, List, [], IfOk, true, false, if◌then◌else◌};
 ghost use Rattle.message_types.specs.declared.signed.Signed.{Signed as SignedWord};
 ghost use Rattle.message_types.specs.declared.body.Body.{Body as Word};
 ghost use Rattle.protocol_rules.specs.declared.facts.OrderFact.{OrderFact as Fact};
@@ -10,7 +10,12 @@ ghost use Rattle.protocol_rules.specs.Master.{certified_requests, waiting_for, g
 ghost use Rattle.global_order.specs.OrderState.{IsOrderOf};
 ghost use Rattle.execution.specs.Ran.{IsRunOf};
 ghost use Rattle.reconcile.specs.AskState.{AreAsksOf};
+ghost use Rattle.reconcile.specs.AskState as asking_at;
+ghost use Rattle.std.specs.List.{list_all, list_any};
+ghost use Rattle.reconcile.specs.Again.{asks_again_due};
+ghost use Rattle.master_answers.specs.Asked.{is_request};
 
+use crate::lacking_words::Lacking;
 use crate::{Split, split_words};
 use execution::Run;
 use global_order::Order;
@@ -40,4 +45,32 @@ pub(crate) fn say_asks(
     let words = asks.due(at_tick, run.waiting_for(), order.gap())?;
     let split = split_words(alloc, words)?;
     Ok(split)
+}
+
+/// By the rules that stay alive, at a tick: asks for what is lacking, for requests and apart for numbers. They count as said
+/// from then on.
+pub(crate) fn say_asks_alive(
+    alloc: Global,
+    asks: &mut Asks,
+    lacking: &Lacking,
+    now: u64,
+    at_tick: bool,
+) -> Result<Split, Want>
+    requires requests { list_all is_request lacking.now.requests.items ≡ true }
+    requires numbers { list_any is_request lacking.now.numbers.items ≡ false }
+    ensures early { IfOk result (λ words. asking_at.Where asks.old (λ g me known said.
+        words.early.items ≡ (if at_tick then asks_again_due said now lacking.now.requests.items 16 else []))) }
+    ensures late { IfOk result (λ words. asking_at.Where asks.old (λ g me known said.
+        words.late.items ≡ (if at_tick then asks_again_due said now lacking.now.numbers.items 64 else []))) }
+    ensures said { IfOk result (λ words. asking_at.Says asks.old asks.new (words.early.items ++ words.late.items)) }
+{
+    if !at_tick {
+        return Ok(Split {
+            early: Vec::new(alloc),
+            late: Vec::new(alloc),
+        });
+    }
+    let early = asks.due_again(now, &lacking.requests, 16)?;
+    let late = asks.due_again(now, &lacking.numbers, 64)?;
+    Ok(Split { early, late })
 }

@@ -81,7 +81,7 @@ fn whole_orders(alloc: Global, order: &Order, wanted: &[Wanted]) -> Result<Vec<B
     Ok(bodies)
 }
 
-fn push_order(bodies: &mut Vec<Body>, whole: Option<GiveOrdered>) -> Result<(), Want>
+pub(crate) fn push_order(bodies: &mut Vec<Body>, whole: Option<GiveOrdered>) -> Result<(), Want>
     ensures { OnOk result (bodies.new.items ≡ bodies.old.items ++ option_to_list (option_map body.GiveOrdered whole)) }
 {
     if let Some(whole) = whole {

@@ -1,6 +1,7 @@
 ghost use Rattle.std.specs.Prelude.{◌≡◌, ◌++◌, IfOk, OnOk};
 ghost use Rattle.std.specs.Option.{option_to_list};
 
+use crate::{GiftsSaid, Split};
 use message_types::Body;
 use plain_lists::{Want, extend_option};
 use std::alloc::Global;
@@ -26,20 +27,18 @@ pub(crate) fn join_first(
 /// The words said so far, then those of the other lists in turn.
 pub(crate) fn join_last(
     first: Vec<Body>,
-    updates_asked: Vec<Body>,
-    gives: Vec<Body>,
-    orders_asked: Vec<Body>,
-    given: Vec<Body>,
+    asks: Split,
+    gifts: GiftsSaid,
     vouchers: Vec<Body>,
     marks: Vec<Body>,
 ) -> Result<Vec<Body>, Want>
-    ensures { IfOk result (λ all. all.items ≡ first.items ++ updates_asked.items ++ gives.items ++ orders_asked.items ++ given.items ++ vouchers.items ++ marks.items) }
+    ensures { IfOk result (λ all. all.items ≡ first.items ++ asks.early.items ++ gifts.gives.items ++ asks.late.items ++ gifts.orders.items ++ vouchers.items ++ marks.items) }
 {
     let mut all = first;
-    add(&mut all, updates_asked)?;
-    add(&mut all, gives)?;
-    add(&mut all, orders_asked)?;
-    add(&mut all, given)?;
+    add(&mut all, asks.early)?;
+    add(&mut all, gifts.gives)?;
+    add(&mut all, asks.late)?;
+    add(&mut all, gifts.orders)?;
     add(&mut all, vouchers)?;
     add(&mut all, marks)?;
     Ok(all)

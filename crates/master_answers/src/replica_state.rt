@@ -1,10 +1,12 @@
 ghost use Rattle.std.specs.Prelude.{◌≡◌, ◌≤◌, [], ℕ, slice_index};
 ghost use Rattle.protocol_rules.specs.Group.{group_of};
+ghost use Rattle.master_knowledge.specs.Past.{no_past};
 ghost use Rattle.master_answers.specs.Replica.{IsReplicaOf};
 
 use leader_proposals::{Proposer, Summary, Vouchers};
 use master_knowledge::Knowledge;
 use quorum_sets::{MOST_CLIENTS, Sizes};
+use reconcile::Shares;
 use std::alloc::Global;
 
 /// What master `me` keeps: all that it knows, and of what it said all that it goes by.
@@ -14,6 +16,7 @@ pub struct ReplicaState {
     pub summary: Summary,
     pub proposer: Proposer,
     pub vouchers: Vouchers,
+    pub shares: Shares,
 }
 
 // Taken apart here once: what holds it lets go of it by one call.
@@ -25,6 +28,7 @@ impl Drop for ReplicaState {
             summary: _,
             proposer: _,
             vouchers: _,
+            shares: _,
         } = self;
     }
 }
@@ -33,7 +37,7 @@ impl ReplicaState {
     /// Of master `me` that heard and said nothing yet.
     pub fn new(alloc: Global, sizes: Sizes, clients: u32, me: u32) -> ReplicaState
         requires { clients ≤ MOST_CLIENTS }
-        ensures is_replica { IsReplicaOf (group_of sizes clients) me result [] [] [] [] }
+        ensures is_replica { IsReplicaOf (group_of sizes clients) me result [] [] no_past [] }
         ensures counts { (c : ℕ) → slice_index result.vouchers.counts c ≡ 0 }
     {
         ReplicaState {
@@ -42,6 +46,7 @@ impl ReplicaState {
             summary: Summary::new(alloc, sizes),
             proposer: Proposer::new(sizes),
             vouchers: Vouchers::none(),
+            shares: Shares::new(),
         }
     }
 }

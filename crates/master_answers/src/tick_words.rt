@@ -23,12 +23,12 @@ pub(crate) fn say_at_a_tick(
 ) -> Result<Vec<Body>, Want>
     requires known { IsKnowledge knowledge.now }
     requires view { proposer.old.progress.view ≤ knowledge.now.views.view }
-    ensures words { IfOk result (λ words. Where knowledge.now (λ g own taken known told said.
+    ensures words { IfOk result (λ words. Where knowledge.now (λ g own taken known past said.
         me ≡ own → IsSummaryOf g summary.old said → AreOffersOf g proposer.old (facts_of g known) said
         → words.items ≡ summaries_due g known said at_tick ++ preprepares_due g own known (facts_of g known) said at_tick)) }
-    ensures summary { OnOk result (Where knowledge.now (λ g own taken known told said.
+    ensures summary { OnOk result (Where knowledge.now (λ g own taken known past said.
         me ≡ own → IsSummaryOf g summary.old said → IsSummaryOf g summary.new (said ++ summaries_due g known said at_tick))) }
-    ensures proposer { OnOk result (Where knowledge.now (λ g own taken known told said.
+    ensures proposer { OnOk result (Where knowledge.now (λ g own taken known past said.
         me ≡ own → AreOffersOf g proposer.old (facts_of g known) said
         → AreOffersOf g proposer.new (facts_of g known) (said ++ preprepares_due g own known (facts_of g known) said at_tick))) }
     ensures view { OnOk result (proposer.new.progress.view ≤ knowledge.now.views.view) }

@@ -7,7 +7,7 @@ use Rattle.protocol_rules.specs.Group.{Group}
 use Rattle.protocol_rules.specs.Places.{are_rows}
 use Rattle.protocol_rules.specs.Facts.{facts_of}
 use Rattle.protocol_rules.specs.Order.{ordered, ordered_run, gapless}
-use Rattle.protocol_rules.specs.Measures.{Told}
+use Rattle.master_knowledge.specs.Past.{Past}
 use Rattle.protocol_rules.specs.Master.{certified_requests}
 use Rattle.global_order.specs.OrderState.{IsOrderOf}
 use Rattle.execution.specs.Ran.{Ran, IsRunOf}
@@ -16,9 +16,9 @@ use Rattle.master_knowledge.specs.Numbers.{IsBehind}
 use Rattle.master_knowledge.specs.declared.knowledge.Knowledge.{Knowledge}
 use Rattle.master_knowledge.proofs.Placed.{ordered_placed}
 
-pub is_behind : (g : Group) (me : ℕ) (kept : Knowledge) (taken known : List (Signed Body)) (told : List Told)
-    (said : List Body) → Knows g me kept taken known told said → IsBehind kept.run kept.order
-is_behind g me kept taken known told said k = record {
+pub is_behind : (g : Group) (me : ℕ) (kept : Knowledge) (taken known : List (Signed Body)) (past : Past)
+    (said : List Body) → Knows g me kept taken known past said → IsBehind kept.run kept.order
+is_behind g me kept taken known past said k = record {
   facts = facts_of g known;
   said = said;
   is = subst (λ (h : Group). IsOrderOf h kept.order (facts_of g known) said) (sym k.run.run.group) k.order;
@@ -34,19 +34,21 @@ is_behind g me kept taken known told said k = record {
 }
 
 pub caught_run : (g : Group) (me : ℕ) (kept : Knowledge) (now : Ran) (taken known : List (Signed Body))
-    (told : List Told) (said : List Body) → (k : Knows g me kept taken known told said)
+    (past : Past) (said : List Body) → (k : Knows g me kept taken known past said)
     → ((before after : List (List (List ℕ))) → ordered_run g (facts_of g known) ≡ before ++ after →
     IsRunOf g kept.run (certified_requests g known) before →
     IsRunOf g now (certified_requests g known) (ordered_run g (facts_of g known)))
     → IsRunOf g now (certified_requests g known) (ordered_run g (facts_of g known))
-caught_run g me kept now taken known told said k step = step k.run.before k.run.after k.run.all k.run.run
+caught_run g me kept now taken known past said k step = step k.run.before k.run.after k.run.all k.run.run
 
 pub knows_caught : (g : Group) (me : ℕ) (kept : Knowledge) (now : Ran) (taken known : List (Signed Body))
-    (told : List Told) (said : List Body) → Knows g me kept taken known told said
+    (past : Past) (said : List Body) → Knows g me kept taken known past said
     → IsRunOf g now (certified_requests g known) (ordered_run g (facts_of g known)) →
-    Knows g me (record kept { run = now }) taken known told said
-knows_caught g me kept now taken known told said k run = record {
+    Knows g me (record kept { run = now }) taken known past said
+knows_caught g me kept now taken known past said k run = record {
   masters = k.masters;
+  quorum = k.quorum;
+  rules = k.rules;
   whole = k.whole;
   preorder = k.preorder;
   matrix = k.matrix;
@@ -59,7 +61,13 @@ knows_caught g me kept now taken known told said k run = record {
     run = run;
   };
   views = k.views;
+  ticks_told = k.ticks_told;
+  ticks = k.ticks;
   measure = k.measure;
+  patience = k.patience;
+  wait = k.wait;
+  furthest = k.furthest;
+  earlier = k.earlier;
   asks = k.asks;
   gifts = k.gifts;
 }

@@ -13,8 +13,9 @@ use Rattle.protocol_rules.specs.Master.{certified_requests}
 use Rattle.preorder.specs.PreorderState.{PreorderState, Takes}
 use Rattle.execution.specs.Ran.{Ran, IsRunOf}
 use Rattle.global_order.specs.OrderState.{OrderState, IsOrderOf}
+use Rattle.lacking.specs.Come.{FurthestState, IsFurthestOf}
 use Rattle.master_knowledge.specs.Whole.{is_whole}
-use Rattle.protocol_rules.specs.Measures.{Told}
+use Rattle.master_knowledge.specs.Past.{Past}
 use Rattle.master_knowledge.specs.declared.knowledge.Knowledge.{Knowledge}
 use Rattle.master_knowledge.specs.Knows.{Knows, IsKnowledge, IsExecutionOf}
 use Rattle.master_knowledge.proofs.Growing.{run_grows}
@@ -28,6 +29,12 @@ pub order_learns : (g : Group) (o : OrderState) (known : List (Signed Body)) (sa
     IsOrderOf g o (facts_of g known ++ tells g f) said → IsOrderOf g o (facts_of g (known ++ f ∷ [])) said
 order_learns g o known said f is =
     subst (λ (facts : List OrderFact). IsOrderOf g o facts said)
+    (ap (λ xs. facts_of g known ++ xs) (sym (told_one g f)) ∙ sym (told_more g known (f ∷ []))) is
+
+pub far_learns : (g : Group) (m : FurthestState) (known : List (Signed Body)) (f : Signed Body) →
+    IsFurthestOf g m (facts_of g known ++ tells g f) → IsFurthestOf g m (facts_of g (known ++ f ∷ []))
+far_learns g m known f is =
+    subst (λ (facts : List OrderFact). IsFurthestOf g m facts)
     (ap (λ xs. facts_of g known ++ xs) (sym (told_one g f)) ∙ sym (told_more g known (f ∷ []))) is
 
 pub run_learns : (g : Group) (m after : Ran) (known : List (Signed Body)) (f : Signed Body)
@@ -44,18 +51,26 @@ whole_more g known f all one = list_all-append (is_whole g) known (f ∷ []) ∙
     (list_all (is_whole g) (f ∷ [])) all (and_from (is_whole g f) true one refl)
 
 pub knows_taken : (g : Group) (me : ℕ) (kept : Knowledge) (after : PreorderState) (taken known : List (Signed Body))
-    (told : List Told) (said : List Body) (f : Signed Body)
-    → Takes kept.preorder after f → Knows g me kept taken known told said →
-    Knows g me (record kept { preorder = after }) (taken ++ f ∷ []) known told said
-knows_taken g me kept after taken known told said f takes k = record {
+    (past : Past) (said : List Body) (f : Signed Body)
+    → Takes kept.preorder after f → Knows g me kept taken known past said →
+    Knows g me (record kept { preorder = after }) (taken ++ f ∷ []) known past said
+knows_taken g me kept after taken known past said f takes k = record {
   masters = k.masters;
+  quorum = k.quorum;
+  rules = k.rules;
   whole = k.whole;
   preorder = takes g me taken known said k.preorder;
   matrix = k.matrix;
   order = k.order;
   run = k.run;
   views = k.views;
+  ticks_told = k.ticks_told;
+  ticks = k.ticks;
   measure = k.measure;
+  patience = k.patience;
+  wait = k.wait;
+  furthest = k.furthest;
+  earlier = k.earlier;
   asks = k.asks;
   gifts = k.gifts;
 }

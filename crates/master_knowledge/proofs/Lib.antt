@@ -8,4 +8,7 @@ pub mod Known
 pub mod NextRows
 pub mod Catching
 pub mod Waiting
+pub mod Rules
+pub mod Events
+pub mod HowFar
 pub mod Starting

@@ -12,8 +12,11 @@ use Rattle.message_types.specs.declared.views.NewView.{NewView}
 use Rattle.message_types.specs.declared.body.Body.{Body}
 use Rattle.message_types.specs.declared.body.Body.TheVariants as body
 use Rattle.message_types.specs.Parts.{parts, inside, as_frame}
+use Rattle.protocol_rules.specs.declared.limits.TheConstants.{MOST_VIEW}
 use Rattle.protocol_rules.specs.Group.{Group, most_number, most_view}
 use Rattle.protocol_rules.specs.Places.{in_place, word_in_place}
+use Rattle.suspect_leader.specs.Sayings.{ticks_of_round_trip}
+use Rattle.leader_patience.specs.PatienceState.{view_of_vote}
 use Rattle.history_rules.specs.Audit.{IsIn}
 use Rattle.agreement.proofs.Lists.{in_cons_cases, all_at}
 use Rattle.agreement.proofs.Inside.{parts_closed}
@@ -73,6 +76,28 @@ suspect_within g f whole = suspect_low g f (first_in_place g (as_frame body.Susp
 pub new_view_within : (g : Group) (f : Signed NewView) → is_whole g (as_frame body.NewView f) ≡ true →
     f.body.v ≤ most_view
 new_view_within g f whole = new_view_low g f (first_in_place g (as_frame body.NewView f) whole)
+
+-- the ticks of a round trip and the view of a vote, of any word that is whole
+pub trip_within : (g : Group) (f : Signed Body) → is_whole g f ≡ true → ticks_of_round_trip f.body ≤ 4294967296
+trip_within g f whole = by f.signer f.body f.sig (first_in_place g f whole)
+  where
+    by : (signer : ℕ) (word : Body) (sig : List ℕ) → in_place g record { signer = signer; body = word; sig = sig } ≡ true →
+        ticks_of_round_trip word ≤ 4294967296
+    by signer (body.Rtt b) sig placed = leb-true b.ticks 4294967296
+        (and_parts (nat_lt b.to g.n) (nat_le b.ticks 4294967296)
+        (and_parts (nat_lt signer g.n) (word_in_place g signer (body.Rtt b)) placed).1).1
+    by signer _ sig placed = omega arith
+
+pub vote_within : (g : Group) (f : Signed Body) → is_whole g f ≡ true → view_of_vote f.body ≤ MOST_VIEW
+unfolding most_view
+vote_within g f whole = by f.signer f.body f.sig (first_in_place g f whole)
+  where
+    by : (signer : ℕ) (word : Body) (sig : List ℕ) → in_place g record { signer = signer; body = word; sig = sig } ≡ true →
+        view_of_vote word ≤ MOST_VIEW
+    by signer (body.Suspect b) sig placed =
+        let low : b.v < most_view = suspect_low g record { signer = signer; body = b; sig = sig } placed in
+        omega arith
+    by signer _ sig placed = omega arith
 
 -- a summary's place goes by the number of masters alone
 pub summary_placed : (g h : Group) (signer : ℕ) (word : PoSummary) (sig : List ℕ) → g.n ≡ h.n →

@@ -1,3 +1,4 @@
+pub mod Past
 pub mod Whole
 pub mod Knows
 pub mod Certifying

@@ -6,11 +6,14 @@ ghost use Rattle.protocol_rules.specs.Group.{Group};
 ghost use Rattle.protocol_rules.specs.Facts.{tells};
 ghost use Rattle.protocol_rules.specs.Matrix.{rows_of_frames};
 ghost use Rattle.protocol_rules.specs.Plans.{plan_of};
+ghost use Rattle.protocol_rules.specs.Parts.{Grows};
 ghost use Rattle.global_order.specs.OrderState.{Learns};
+ghost use Rattle.lacking.specs.Come.{IsFurthestOf};
 ghost use Rattle.view_change.specs.Planning.{is_spelled, are_spelled};
 ghost use Rattle.master_knowledge.specs.Whole.{IsWhole};
 
 use global_order::Order;
+use lacking::Furthest;
 use message_types::{Body, Certificate, Frame, NewView, PrePrepare, Rows, Signed};
 use plain_lists::{Copied, Want};
 use protocol_rules::rows_of;
@@ -49,6 +52,17 @@ pub fn take_order_part(
         Body::GiveOrdered(given) => order.take_rows(&given.rows),
         Body::NewView(new_view) => take_plan(alloc, sizes, order, new_view),
         _ => Ok(()),
+    }
+}
+
+/// Has a part that is a commit or a mark tell how far its master has come.
+pub fn take_furthest_part(furthest: &mut Furthest, part: &Frame)
+    ensures { (g : Group) → Grows (IsFurthestOf g furthest.old) (IsFurthestOf g furthest.new) (tells g part.now) }
+{
+    match &part.body {
+        Body::Commit(commit) => furthest.take(part.signer, commit.s),
+        Body::Mark(mark) => furthest.take(part.signer, mark.s),
+        _ => (),
     }
 }
 

@@ -80,7 +80,7 @@ says_as_histories_do w i own event correct quiet loud =
     (w.client_says i own event) correct loud
 
 pub ticks_are_heard : TicksAreHeard
-ticks_are_heard c kept before is = is.keeps.is_replica.knows.measure.ticks ∙ ticks_told c.group [] before
+ticks_are_heard c kept before is = is.keeps.is_replica.knows.ticks_told ∙ ticks_told c.group [] before
 
 pub nothing_to_sign : NothingToSign
 nothing_to_sign c kept before took at_tick h none =

@@ -1,5 +1,4 @@
 pub mod Events
-pub mod Learning
 pub mod Plants
 pub mod Cutting
 pub mod Steps

@@ -17,6 +17,7 @@ use Rattle.master_points.specs.declared.plant.Plant.{Plant}
 use Rattle.master_points.specs.Orders.{IsPlant, fresh, held_after, orders}
 use Rattle.scenario_file.specs.declared.scenario.Scenario.{Scenario}
 use Rattle.master_knowledge.specs.Knows.{IsExecutionOf, IsCaughtUp}
+use Rattle.master_knowledge.specs.Past.{no_past}
 use Rattle.master_answers.specs.Replica.{IsReplicaOf}
 use Rattle.master_node.specs.declared.running.Running.{Running}
 use Rattle.master_node.specs.Charge.{Charge, IsChargeOf}
@@ -49,7 +50,7 @@ caught_at_start g kept is =
 pub started : (scenario : Scenario) (number given : ℕ) (c : Charge) (kept : Running) →
     IsChargeOf scenario number given c → IsPlant scenario.plant scenario.screens → number < scenario.sizes.n
     → IsReplicaOf (group_of scenario.sizes (length scenario.plant.devices + scenario.screens))
-    number kept.replica [] [] [] []
+    number kept.replica [] [] no_past []
     → ((n : ℕ) → slice_index kept.replica.vouchers.counts n ≡ 0)
     → kept.points ≡ fresh scenario.plant scenario.screens → kept.unheard ≡ [] → kept.leaves ≡ given →
     kept.shared_leaves ≡ nat_eq scenario.frames 2
@@ -63,7 +64,7 @@ started scenario number given c kept charge plant few is_replica counts points u
       let n : c.group.n ≡ scenario.sizes.n = ap (λ (g : Group). g.n) charge.group in
       omega arith;
   ticks = omega arith;
-  keeps = record { counted = []; is_replica = own; all = λ _. refl };
+  keeps = record { counted = []; answered = []; is_replica = own; all = λ _. refl; all_answered = λ _. refl };
   caught = caught_at_start c.group kept own.knows.run;
   points = record {
     plant = scenario.plant;
@@ -80,9 +81,9 @@ started scenario number given c kept charge plant few is_replica counts points u
   shared = shared ∙ sym charge.shared;
 }
   where
-    own : IsReplicaOf c.group c.me kept.replica [] [] [] []
-    own = subst (λ m. IsReplicaOf c.group m kept.replica [] [] [] []) (sym charge.me)
-        (subst (λ (g : Group). IsReplicaOf g number kept.replica [] [] [] []) (sym charge.group) is_replica)
+    own : IsReplicaOf c.group c.me kept.replica [] [] no_past []
+    own = subst (λ m. IsReplicaOf c.group m kept.replica [] [] no_past []) (sym charge.me)
+        (subst (λ (g : Group). IsReplicaOf g number kept.replica [] [] no_past []) (sym charge.group) is_replica)
 
 pub few_clients_at_start : (plant : Plant) (screens : ℕ) → IsPlant plant screens → length plant.devices + screens ≤ 12
 few_clients_at_start plant screens is =

@@ -14,9 +14,9 @@ use Rattle.protocol_rules.specs.Group.{Group}
 use Rattle.protocol_rules.specs.Places.{in_place}
 use Rattle.protocol_rules.specs.Facts.{facts_of}
 use Rattle.protocol_rules.specs.Order.{ordered_run}
+use Rattle.protocol_rules.specs.Measures.{ticks_of}
 use Rattle.protocol_rules.specs.Execution.{Request, executed_of}
-use Rattle.protocol_rules.specs.Measures.{Told}
-use Rattle.protocol_rules.specs.Master.{Heard, learned, taken_frames, known_at, taken_at, said_before, told_of}
+use Rattle.protocol_rules.specs.Master.{Heard, learned, taken_frames, known_at, taken_at, said_before, answered_in}
 use Rattle.protocol_rules.specs.Master.{certified_requests, executed, answers}
 use Rattle.history_rules.specs.Legal.{known_of}
 use Rattle.history_rules.specs.Audit.{IsIn}
@@ -27,22 +27,23 @@ use Rattle.words_in_place.specs.Laws.{ticks_heard, IsSaid}
 use Rattle.words_in_place.proofs.Measuring.{ticks_told}
 use Rattle.words_in_place.proofs.Limits.{filter_more}
 use Rattle.words_in_place.proofs.Speaking.{own_parts_are_in_place}
-use Rattle.words_by_part.specs.Laws.{told_at}
 use Rattle.execution.specs.Ran.{Ran, IsRunOf}
 use Rattle.master_points.specs.Orders.{Held, held_after}
 use Rattle.master_knowledge.specs.declared.knowledge.Knowledge.{Knowledge}
 use Rattle.master_knowledge.specs.Whole.{is_whole}
+use Rattle.master_knowledge.specs.Past.{Past, past_with}
 use Rattle.master_knowledge.specs.Knows.{Knows, IsCaughtUp}
 use Rattle.master_answers.specs.declared.replica_state.ReplicaState.{ReplicaState}
-use Rattle.master_answers.specs.Replica.{IsReplicaOf, clients_of}
+use Rattle.master_answers.specs.Asked.{answered_by}
+use Rattle.master_answers.specs.Replica.{IsReplicaOf, IsReplicaState, past_at, past_after, clients_of}
 use Rattle.master_answers.proofs.Growing.{knowledge_may_grow, events_may_grow}
 use Rattle.master_node.specs.declared.running.Running.{Running}
 use Rattle.history_rules.specs.Leaves.{leaves_for, room_of}
 use Rattle.master_node.specs.Charge.{Charge, leaves_left, says_at, taken_by}
 use Rattle.master_node.specs.Running.{HoldsPlant, group_in, ticks_in, IsRunning, HasLearned, IsReady, HasSpoken}
-use Rattle.master_node.specs.Running.{AreItsFrames}
-use Rattle.master_node.proofs.Events.{told_now, told_at_end, told_with, taken_more, said_more, learned_more}
-use Rattle.master_node.proofs.Events.{used_more}
+use Rattle.master_node.specs.Running.{AreItsFrames, past_then, past_of}
+use Rattle.master_node.proofs.Events.{past_at_end, past_said, answered_more, taken_more, said_more, learned_more}
+use Rattle.master_node.proofs.Events.{used_more, told_with}
 use Rattle.master_node.proofs.Plants.{clients_are, plant_grows, orders_grow, some_done, rest_passes, executed_there}
 use Rattle.master_node.proofs.Cutting.{uncut}
 use Rattle.history_rules.proofs.Entries.{all_from}
@@ -82,16 +83,17 @@ known_placed g before took one two = list_all-append (in_place g) (flat_map lear
 
 -- the measures were told of as many ticks as there were
 pub ticks_are : (g : Group) (me : ℕ) (k : Knowledge) (before : List Heard) (taken known : List (Signed Body))
-    (said : List Body) → Knows g me k taken known (told_of g [] before) said → k.measure.ticks ≡ ticks_heard before
-ticks_are g me k before taken known said knows = knows.measure.ticks ∙ ticks_told g [] before
+    (answered : List ℕ) (said : List Body) → Knows g me k taken known (past_then g before answered) said →
+    k.measure.ticks ≡ ticks_heard before
+ticks_are g me k before taken known answered said knows = knows.ticks_told ∙ ticks_told g [] before
 
 -- A master that learned its own last frames and the frame taken.
 learned_so : (c : Charge) (kept : Running) (k : Knowledge) (u : List (Signed Body)) (before : List Heard)
     (took : Option (Signed Body)) (at_tick : Bool) (done : ℕ) → (is : IsRunning c kept before)
-    → ((said : List Body) → Knows c.group c.me kept.replica.knowledge (taken_by before) (known_of before)
-    (told_of c.group [] before) said
+    → ((past : Past) (said : List Body) → Knows c.group c.me kept.replica.knowledge (taken_by before) (known_of before)
+    past said
     → Knows c.group c.me k (taken_at before took) ((known_of before ++ flat_map parts kept.unheard)
-    ++ flat_map parts (taken_frames took)) (told_of c.group [] before) said)
+    ++ flat_map parts (taken_frames took)) past said)
     → list_all (in_place c.group) (flat_map parts (taken_frames took)) ≡ true
     → ticks_heard before + cond at_tick 1 0 ≤ 2 ^ 32
     → length (executed c.group (known_of before)) ≡ done
@@ -106,7 +108,13 @@ learned_so c kept k u before took at_tick done is step placed ticks many none = 
     placed =
         known_placed c.group before took is.placed placed;
   };
-  keeps = record { counted = is.keeps.counted; is_replica = is_replica; all = is.keeps.all };
+  keeps = record {
+    counted = is.keeps.counted;
+    answered = is.keeps.answered;
+    is_replica = is_replica;
+    all = is.keeps.all;
+    all_answered = is.keeps.all_answered;
+  };
   earlier = known_of before;
   points = is.points;
   grown = subst (λ (xs : List (Signed Body)). Begins (executed c.group (known_of before)) (executed c.group xs))
@@ -123,19 +131,20 @@ learned_so c kept k u before took at_tick done is step placed ticks many none = 
     more = flat_map parts kept.unheard ++ flat_map parts (taken_frames took)
 
     knows : Knows c.group c.me k (taken_at before took) (known_of before ++ more)
-        (told_of c.group [] before) is.keeps.counted
+        (past_then c.group before is.keeps.answered) is.keeps.counted
     knows = subst (λ (xs : List (Signed Body)). Knows c.group c.me k (taken_at before took) xs
-        (told_of c.group [] before) is.keeps.counted)
+        (past_then c.group before is.keeps.answered) is.keeps.counted)
         (append_assoc (known_of before) (flat_map parts kept.unheard) (flat_map parts (taken_frames took)))
-        (step is.keeps.counted is.keeps.is_replica.knows)
+        (step (past_then c.group before is.keeps.answered) is.keeps.counted is.keeps.is_replica.knows)
 
     is_replica : IsReplicaOf c.group c.me (record kept.replica { knowledge = k }) (taken_at before took)
-        (known_at before took) (told_of c.group [] before) is.keeps.counted
+        (known_at before took) (past_then c.group before is.keeps.answered) is.keeps.counted
     is_replica = subst (λ (xs : List (Signed Body)). IsReplicaOf c.group c.me (record kept.replica { knowledge = k })
-        (taken_at before took) xs (told_of c.group [] before) is.keeps.counted)
+        (taken_at before took) xs (past_then c.group before is.keeps.answered) is.keeps.counted)
         (known_then before took kept.unheard is.unheard)
         (knowledge_may_grow c.group c.me kept.replica k (taken_by before) (taken_at before took) (known_of before)
-        more (told_of c.group [] before) (told_of c.group [] before) is.keeps.counted knows is.keeps.is_replica)
+        more (past_then c.group before is.keeps.answered) (past_then c.group before is.keeps.answered) is.keeps.counted
+        knows refl is.keeps.is_replica)
 
 -- the list of what is executed, where the execution has caught up
 pub executed_listed : (g : Group) (k : Knowledge) (known : List (Signed Body)) (list : List Update) →
@@ -148,12 +157,12 @@ executed_listed g k known list caught e = e g (certified_requests g known) (orde
 -- A master that learned its own last frames and a frame that it takes.
 pub heard_so : (c : Charge) (kept : Running) (own_known then_known : Knowledge) (u : List (Signed Body))
     (frame : Signed Body) (before : List Heard) (list : List Update) → (is : IsRunning c kept before)
-    → ((g : Group) (me : ℕ) (taken known : List (Signed Body)) (told : List Told) (said : List Body) →
-    Knows g me kept.replica.knowledge taken known told said →
-    Knows g me own_known taken (known ++ flat_map parts kept.unheard) told said)
-    → ((g : Group) (me : ℕ) (taken known : List (Signed Body)) (told : List Told) (said : List Body) →
-    Knows g me own_known taken known told said →
-    Knows g me then_known (taken ++ frame ∷ []) (known ++ parts frame) told said)
+    → ((g : Group) (me : ℕ) (taken known : List (Signed Body)) (past : Past) (said : List Body) →
+    Knows g me kept.replica.knowledge taken known past said →
+    Knows g me own_known taken (known ++ flat_map parts kept.unheard) past said)
+    → ((g : Group) (me : ℕ) (taken known : List (Signed Body)) (past : Past) (said : List Body) →
+    Knows g me own_known taken known past said →
+    Knows g me then_known (taken ++ frame ∷ []) (known ++ parts frame) past said)
     → is_whole (group_in kept) frame ≡ true
     → u ≡ []
     → ((h : Group) (certified : Request → Option Update) (runs : List (List (List ℕ))) →
@@ -162,12 +171,12 @@ pub heard_so : (c : Charge) (kept : Running) (own_known then_known : Knowledge) 
     (Some frame) false (length list)
 heard_so c kept own_known then_known u frame before list is recalled heard whole none listed =
     learned_so c kept then_known u before (Some frame) false (length list) is
-    (λ said knows. subst (λ (xs : List (Signed Body)). Knows c.group c.me then_known (taken_at before (Some frame))
-    ((known_of before ++ flat_map parts kept.unheard) ++ xs) (told_of c.group [] before) said)
+    (λ past said knows. subst (λ (xs : List (Signed Body)). Knows c.group c.me then_known (taken_at before (Some frame))
+    ((known_of before ++ flat_map parts kept.unheard) ++ xs) past said)
     (sym (append-nil (parts frame)))
     (heard c.group c.me (taken_by before) (known_of before ++ flat_map parts kept.unheard)
-    (told_of c.group [] before) said
-    (recalled c.group c.me (taken_by before) (known_of before) (told_of c.group [] before) said knows)))
+    past said
+    (recalled c.group c.me (taken_by before) (known_of before) past said knows)))
     (ap (list_all (in_place c.group)) (append-nil (parts frame)) ∙ ap (λ (h : Group). is_whole h frame)
     (sym is.keeps.is_replica.knows.preorder.group) ∙ whole)
     (let few : ticks_heard before ≤ 2 ^ 32 = is.ticks in omega arith)
@@ -177,9 +186,9 @@ heard_so c kept own_known then_known u frame before list is recalled heard whole
 -- A master that learned its own last frames, at a tick.
 pub ticked_so : (c : Charge) (kept : Running) (own_known : Knowledge) (u : List (Signed Body)) (before : List Heard)
     (list : List Update) → (is : IsRunning c kept before)
-    → ((g : Group) (me : ℕ) (taken known : List (Signed Body)) (told : List Told) (said : List Body) →
-    Knows g me kept.replica.knowledge taken known told said →
-    Knows g me own_known taken (known ++ flat_map parts kept.unheard) told said)
+    → ((g : Group) (me : ℕ) (taken known : List (Signed Body)) (past : Past) (said : List Body) →
+    Knows g me kept.replica.knowledge taken known past said →
+    Knows g me own_known taken (known ++ flat_map parts kept.unheard) past said)
     → ticks_in kept < 2 ^ 32
     → u ≡ []
     → ((h : Group) (certified : Request → Option Update) (runs : List (List (List ℕ))) →
@@ -188,15 +197,15 @@ pub ticked_so : (c : Charge) (kept : Running) (own_known : Knowledge) (u : List 
     before None true (length list)
 ticked_so c kept own_known u before list is recalled ticks none listed =
     learned_so c kept own_known u before None true (length list) is
-    (λ said knows. subst (λ (xs : List (Signed Body)). Knows c.group c.me own_known xs
-    ((known_of before ++ flat_map parts kept.unheard) ++ []) (told_of c.group [] before) said)
+    (λ past said knows. subst (λ (xs : List (Signed Body)). Knows c.group c.me own_known xs
+    ((known_of before ++ flat_map parts kept.unheard) ++ []) past said)
     (sym (append-nil (taken_by before)))
-    (subst (λ (xs : List (Signed Body)). Knows c.group c.me own_known (taken_by before) xs (told_of c.group [] before)
-    said) (sym (append-nil (known_of before ++ flat_map parts kept.unheard)))
-    (recalled c.group c.me (taken_by before) (known_of before) (told_of c.group [] before) said knows)))
+    (subst (λ (xs : List (Signed Body)). Knows c.group c.me own_known (taken_by before) xs past said)
+    (sym (append-nil (known_of before ++ flat_map parts kept.unheard)))
+    (recalled c.group c.me (taken_by before) (known_of before) past said knows)))
     refl
     (let same : ticks_in kept ≡ ticks_heard before = ticks_are c.group c.me kept.replica.knowledge before
-    (taken_by before) (known_of before) is.keeps.counted is.keeps.is_replica.knows in omega arith)
+    (taken_by before) (known_of before) is.keeps.answered is.keeps.counted is.keeps.is_replica.knows in omega arith)
     (ap length (sym (executed_listed c.group kept.replica.knowledge (known_of before) list is.caught listed)))
     none
 
@@ -204,7 +213,7 @@ ticked_so c kept own_known u before list is recalled ticks none listed =
 pub ready_so : (c : Charge) (kept : Running) (k : Knowledge) (points : Held) (before : List Heard)
     (took : Option (Signed Body)) (at_tick : Bool) (done : ℕ) → (h : HasLearned c kept before took at_tick done)
     → Knows c.group c.me k (taken_at before took) (known_at before took)
-    (told_of c.group [] before ++ told_now c.group (known_at before took) at_tick ∷ []) h.keeps.counted
+    (past_with c.group (known_at before took) at_tick (past_then c.group before h.keeps.answered)) h.keeps.counted
     → IsCaughtUp c.group k (known_at before took)
     → points ≡ held_after kept.points (drop done (executed c.group (known_at before took)))
     → IsReady c (record kept { replica = record kept.replica { knowledge = k }; points = points }) before took at_tick
@@ -212,13 +221,16 @@ ready_so c kept k points before took at_tick done h knows caught applied = recor
   is_replica = h.is_replica;
   keeps = record {
     counted = h.keeps.counted;
-    is_replica = subst (λ (told : List Told). IsReplicaOf c.group c.me (record kept.replica { knowledge = k })
-        (taken_at before took) (known_at before took) told h.keeps.counted)
-        (sym (told_at_end c.group before took at_tick))
+    answered = h.keeps.answered;
+    is_replica = subst (λ (past : Past). IsReplicaOf c.group c.me (record kept.replica { knowledge = k })
+        (taken_at before took) (known_at before took) past h.keeps.counted)
+        (sym (past_at_end c.group before took at_tick h.keeps.answered))
         (events_may_grow c.group c.me kept.replica k (taken_at before took) (known_at before took)
-        (told_of c.group [] before) (told_of c.group [] before ++ told_now c.group (known_at before took) at_tick
-        ∷ []) h.keeps.counted knows h.keeps.is_replica);
+        (past_then c.group before h.keeps.answered)
+        (past_with c.group (known_at before took) at_tick (past_then c.group before h.keeps.answered)) h.keeps.counted
+        knows refl h.keeps.is_replica);
     all = h.keeps.all;
+    all_answered = h.keeps.all_answered;
   };
   caught = caught;
   points = grown;
@@ -243,14 +255,14 @@ ready_so c kept k points before took at_tick done h knows caught applied = recor
 -- what is executed, once the execution has caught up
 pub caught_list : (c : Charge) (kept : Running) (k : Knowledge) (before : List Heard) (took : Option (Signed Body))
     (at_tick : Bool) (done : ℕ) (list : List Update) → HasLearned c kept before took at_tick done
-    → ((g : Group) (me : ℕ) (taken known : List (Signed Body)) (told : List Told) (said : List Body) →
-    Knows g me kept.replica.knowledge taken known told said → IsCaughtUp g k known)
+    → ((g : Group) (me : ℕ) (taken known : List (Signed Body)) (past : Past) (said : List Body) →
+    Knows g me kept.replica.knowledge taken known past said → IsCaughtUp g k known)
     → ((h : Group) (certified : Request → Option Update) (runs : List (List (List ℕ))) →
     IsRunOf h k.run certified runs → list ≡ executed_of h certified runs)
     → list ≡ executed c.group (known_at before took)
 caught_list c kept k before took at_tick done list h caught listed =
     executed_listed c.group k (known_at before took) list
-    (caught c.group c.me (taken_at before took) (known_at before took) (told_of c.group [] before)
+    (caught c.group c.me (taken_at before took) (known_at before took) (past_then c.group before h.keeps.answered)
     h.keeps.counted h.keeps.is_replica.knows) listed
 
 pub done_within : (c : Charge) (kept : Running) (before : List Heard) (took : Option (Signed Body)) (at_tick : Bool)
@@ -274,13 +286,13 @@ clients_there c kept before took at_tick done list h e =
 
 pub few_ticks : (c : Charge) (kept : Running) (k : Knowledge) (before : List Heard) (took : Option (Signed Body))
     (at_tick : Bool) (done : ℕ) → (h : HasLearned c kept before took at_tick done)
-    → ((g : Group) (me : ℕ) (taken known : List (Signed Body)) (told : List Told) (said : List Body) →
-    Knows g me kept.replica.knowledge taken known told said → Knows g me k taken known told said)
+    → ((g : Group) (me : ℕ) (taken known : List (Signed Body)) (past : Past) (said : List Body) →
+    Knows g me kept.replica.knowledge taken known past said → Knows g me k taken known past said)
     → at_tick ≡ true → k.measure.ticks < 2 ^ 32
 few_ticks c kept k before took at_tick done h knows e =
     let same : k.measure.ticks ≡ ticks_heard before = ticks_are c.group c.me k before (taken_at before took)
-    (known_at before took) h.keeps.counted
-    (knows c.group c.me (taken_at before took) (known_at before took) (told_of c.group [] before)
+    (known_at before took) h.keeps.answered h.keeps.counted
+    (knows c.group c.me (taken_at before took) (known_at before took) (past_then c.group before h.keeps.answered)
     h.keeps.counted h.keeps.is_replica.knows) in
     let few : ticks_heard before + 1 ≤ 2 ^ 32 =
     subst (λ b. ticks_heard before + cond b 1 0 ≤ 2 ^ 32) e h.is_replica.ticks in
@@ -290,29 +302,29 @@ few_ticks c kept k before took at_tick done h knows e =
 pub gone_on : (c : Charge) (kept : Running) (k then_k : Knowledge) (points : Held) (before : List Heard)
     (took : Option (Signed Body)) (at_tick : Bool) (done : ℕ) (list : List Update) →
     (h : HasLearned c kept before took at_tick done)
-    → ((g : Group) (me : ℕ) (taken known : List (Signed Body)) (told : List Told) (said : List Body) →
-    Knows g me kept.replica.knowledge taken known told said → Knows g me k taken known told said)
-    → ((g : Group) (me : ℕ) (taken known : List (Signed Body)) (told : List Told) (said : List Body) →
-    Knows g me kept.replica.knowledge taken known told said → IsCaughtUp g k known)
+    → ((g : Group) (me : ℕ) (taken known : List (Signed Body)) (past : Past) (said : List Body) →
+    Knows g me kept.replica.knowledge taken known past said → Knows g me k taken known past said)
+    → ((g : Group) (me : ℕ) (taken known : List (Signed Body)) (past : Past) (said : List Body) →
+    Knows g me kept.replica.knowledge taken known past said → IsCaughtUp g k known)
     → list ≡ executed c.group (known_at before took)
     → points ≡ held_after kept.points (drop done list)
-    → ((g : Group) (me : ℕ) (taken known : List (Signed Body)) (told : List Told) (said : List Body) →
-    Knows g me k taken known told said → IsCaughtUp g k known →
-    Knows g me then_k taken known (told ++ told_now g known at_tick ∷ []) said)
+    → ((g : Group) (me : ℕ) (taken known : List (Signed Body)) (past : Past) (said : List Body) →
+    Knows g me k taken known past said → IsCaughtUp g k known →
+    Knows g me then_k taken known (past_with g known at_tick past) said)
     → then_k.run ≡ k.run
     → IsReady c (record kept { replica = record kept.replica { knowledge = then_k }; points = points })
     before took at_tick
-gone_on c kept k then_k points before took at_tick done list h knows caught listed applied told same =
+gone_on c kept k then_k points before took at_tick done list h knows caught listed applied tells same =
     ready_so c kept then_k points before took at_tick done h
-    (told c.group c.me (taken_at before took) (known_at before took) (told_of c.group [] before) h.keeps.counted
-    (knows c.group c.me (taken_at before took) (known_at before took) (told_of c.group [] before)
+    (tells c.group c.me (taken_at before took) (known_at before took) (past_then c.group before h.keeps.answered) h.keeps.counted
+    (knows c.group c.me (taken_at before took) (known_at before took) (past_then c.group before h.keeps.answered)
     h.keeps.counted h.keeps.is_replica.knows) up)
     (subst (λ (r : Ran). IsRunOf c.group r (certified_requests c.group (known_at before took))
     (ordered_run c.group (facts_of c.group (known_at before took)))) (sym same) up)
     (applied ∙ ap (λ (us : List Update). held_after kept.points (drop done us)) listed)
   where
     up : IsCaughtUp c.group k (known_at before took)
-    up = caught c.group c.me (taken_at before took) (known_at before took) (told_of c.group [] before)
+    up = caught c.group c.me (taken_at before took) (known_at before took) (past_then c.group before h.keeps.answered)
         h.keeps.counted h.keeps.is_replica.knows
 
 -- Where no leaf is left a master says nothing.
@@ -330,7 +342,13 @@ pub silent_so : (c : Charge) (kept : Running) (before : List Heard) (took : Opti
     (r : IsReady c kept before took at_tick) → kept.leaves ≡ 0 → HasSpoken c kept before took at_tick
 silent_so c kept before took at_tick r none = record {
   is_replica = r.is_replica;
-  keeps = record { counted = r.keeps.counted; is_replica = r.keeps.is_replica; all = λ some. absurd (omega arith) };
+  keeps = record {
+    counted = r.keeps.counted;
+    answered = r.keeps.answered;
+    is_replica = r.keeps.is_replica;
+    all = λ some. absurd (omega arith);
+    all_answered = λ some. absurd (omega arith);
+  };
   caught = r.caught;
   points = r.points;
   vouchers = r.vouchers;
@@ -341,15 +359,43 @@ silent_so c kept before took at_tick r none = record {
   shared = r.shared;
 }
 
+-- a master that may speak has had no more ticks than it may have
+pub ticks_had : (c : Charge) (kept : Running) (before : List Heard) (took : Option (Signed Body)) (at_tick : Bool) →
+    IsReady c kept before took at_tick → ticks_in kept ≤ 2 ^ 32
+ticks_had c kept before took at_tick r =
+    subst (λ n. n ≤ 2 ^ 32) (sym (r.keeps.is_replica.knows.ticks_told
+    ∙ ap ticks_of (told_with c.group before took at_tick []) ∙ ticks_told c.group [] (before ++ event ∷ [])
+    ∙ filter_more (λ (e : Heard). e.is_tick) before event)) r.is_replica.ticks
+  where
+    event : Heard
+    event = record { took = took; is_tick = at_tick; said = [] }
+
+-- a state that is ready to speak is that of some master
+pub is_state : (c : Charge) (kept : Running) (before : List Heard) (took : Option (Signed Body)) (at_tick : Bool) →
+    IsReady c kept before took at_tick → IsReplicaState kept.replica
+is_state c kept before took at_tick r = record {
+  group = c.group;
+  own = c.me;
+  taken = taken_at before took;
+  known = known_at before took;
+  past = record (past_at c.group before took at_tick) { answered = r.keeps.answered };
+  said = r.keeps.counted;
+  is_replica = r.keeps.is_replica;
+  caught = r.caught;
+}
+
 -- what its parts count as said is what it said, as long as a leaf is left
 pub still_counts : (c : Charge) (kept : Running) (before : List Heard) (took : Option (Signed Body))
     (at_tick : Bool) → IsReady c kept before took at_tick → (kept.leaves ≡ 0 → ⊥)
     → IsReplicaOf c.group c.me kept.replica (taken_at before took) (known_at before took)
-    (told_at c.group before took at_tick) (said_before before)
+    (past_at c.group before took at_tick) (said_before before)
 still_counts c kept before took at_tick r some =
-    subst (λ (said : List Body). IsReplicaOf c.group c.me kept.replica (taken_at before took) (known_at before took)
-    (told_at c.group before took at_tick) said)
-    (r.keeps.all (omega arith)) r.keeps.is_replica
+    subst (λ (answered : List ℕ). IsReplicaOf c.group c.me kept.replica (taken_at before took) (known_at before took)
+    (record (past_at c.group before took at_tick) { answered = answered }) (said_before before))
+    (r.keeps.all_answered (omega arith))
+    (subst (λ (said : List Body). IsReplicaOf c.group c.me kept.replica (taken_at before took) (known_at before took)
+    (record (past_at c.group before took at_tick) { answered = r.keeps.answered }) said)
+    (r.keeps.all (omega arith)) r.keeps.is_replica)
 
 pub cut_so : (c : Charge) (kept : Running) (before : List Heard) (took : Option (Signed Body)) (at_tick : Bool)
     (bodies cut : List Body) → IsReady c kept before took at_tick
@@ -368,7 +414,7 @@ pub spoken_so : (c : Charge) (kept : Running) (replica : ReplicaState) (used : �
     → cut ≡ take (room_of kept.shared_leaves kept.leaves) bodies
     → used ≡ leaves_for kept.shared_leaves (length cut)
     → IsReplicaOf c.group c.me replica (taken_at before took) (known_at before took)
-    (told_at c.group before took at_tick) (said_before before ++ bodies)
+    (past_after c.group before took at_tick bodies) (said_before before ++ bodies)
     → replica.knowledge.run ≡ kept.replica.knowledge.run
     → ((n : ℕ) → n < clients_of kept.points →
     slice_index replica.vouchers.counts n ≡ length (slice_index_or kept.points.lists n []))
@@ -377,8 +423,11 @@ spoken_so c kept replica used before took at_tick bodies cut r due e many is_rep
   is_replica = r.is_replica;
   keeps = record {
     counted = said_before before ++ bodies;
+    answered = answered_in before ++ answered_by took bodies;
     is_replica = is_replica;
     all = λ some. ap (λ (bs : List Body). said_before before ++ bs)
+        (whole (subst (λ n. 0 < kept.leaves - n) many some) ∙ sym e ∙ says);
+    all_answered = λ some. ap (λ (bs : List Body). answered_in before ++ answered_by took bs)
         (whole (subst (λ n. 0 < kept.leaves - n) many some) ∙ sym e ∙ says);
   };
   caught = subst (λ (run : Ran). IsRunOf c.group run (certified_requests c.group (known_at before took))
@@ -418,17 +467,22 @@ handed_so c kept before took at_tick frames h own = record {
   ticks = subst (λ n. n ≤ 2 ^ 32) (sym (filter_more (λ (e : Heard). e.is_tick) before event)) h.is_replica.ticks;
   keeps = record {
     counted = h.keeps.counted;
-    is_replica = subst (λ (told : List Told). IsReplicaOf c.group c.me kept.replica (taken_by (before ++ event ∷ []))
-        (known_of (before ++ event ∷ [])) told h.keeps.counted)
-        (told_with c.group before took at_tick frames)
+    answered = h.keeps.answered;
+    is_replica = subst (λ (past : Past). IsReplicaOf c.group c.me kept.replica (taken_by (before ++ event ∷ []))
+        (known_of (before ++ event ∷ [])) past h.keeps.counted)
+        (past_said c.group before took at_tick frames h.keeps.answered)
         (subst (λ (known : List (Signed Body)). IsReplicaOf c.group c.me kept.replica
-        (taken_by (before ++ event ∷ [])) known (told_at c.group before took at_tick) h.keeps.counted)
+        (taken_by (before ++ event ∷ [])) known
+        (record (past_at c.group before took at_tick) { answered = h.keeps.answered }) h.keeps.counted)
         (sym known_is)
         (subst (λ (taken : List (Signed Body)). IsReplicaOf c.group c.me kept.replica taken (known_at before took)
-        (told_at c.group before took at_tick) h.keeps.counted)
+        (record (past_at c.group before took at_tick) { answered = h.keeps.answered }) h.keeps.counted)
         (sym (taken_more before event)) h.keeps.is_replica));
     all = λ some. h.keeps.all some ∙ ap (λ (bs : List Body). said_before before ++ bs) (sym own.words)
         ∙ sym (said_more before event);
+    all_answered = λ some. h.keeps.all_answered some
+        ∙ ap (λ (bs : List Body). answered_in before ++ answered_by took bs) (sym own.words)
+        ∙ sym (answered_more before event);
   };
   caught = subst (λ (known : List (Signed Body)). IsCaughtUp c.group kept.replica.knowledge known)
       (sym known_is) h.caught;

@@ -8,16 +8,16 @@ use Rattle.message_types.specs.declared.body.Body.{Body}
 use Rattle.message_types.specs.Parts.{parts}
 use Rattle.protocol_rules.specs.Group.{Group}
 use Rattle.protocol_rules.specs.Places.{in_place}
-use Rattle.protocol_rules.specs.Measures.{Told}
-use Rattle.protocol_rules.specs.Master.{Heard, learned, known_at, taken_at, said_before, told_of, executed}
+use Rattle.protocol_rules.specs.Master.{Heard, learned, known_at, taken_at, said_before, told_of, moments_of}
+use Rattle.protocol_rules.specs.Master.{answered_in, executed}
 use Rattle.history_rules.specs.Legal.{known_of}
 use Rattle.agreement.specs.Laws.{HasSizes, Begins}
 use Rattle.words_in_place.specs.Laws.{ticks_heard, MaySpeak}
-use Rattle.words_by_part.specs.Laws.{told_at}
 use Rattle.master_points.specs.declared.plant.Plant.{Plant}
 use Rattle.master_points.specs.Orders.{Held, IsPlant, fresh, held_after, orders}
+use Rattle.master_knowledge.specs.Past.{Past}
 use Rattle.master_knowledge.specs.Knows.{IsCaughtUp}
-use Rattle.master_answers.specs.Replica.{IsReplicaOf, clients_of}
+use Rattle.master_answers.specs.Replica.{IsReplicaOf, past_at, past_after, clients_of}
 use Rattle.history_rules.specs.Leaves.{leaves_for}
 use Rattle.master_node.specs.Charge.{Charge, leaves_left, says_at, taken_by}
 use Rattle.master_node.specs.declared.running.Running.{Running}
@@ -31,13 +31,26 @@ pub record HoldsPlant (c : Charge) (known : List (Signed Body)) (points : Held) 
   pub orders : (updates : List Update) (client : ℕ) → c.orders updates client ≡ orders plant screens updates client
   pub held : points ≡ held_after (fresh plant screens) (executed c.group known)
 
--- What a master keeps where it took these frames, knows these words, was told of these events, and said these bodies.
--- Once no leaf is left it says nothing any more, so what its parts count as said doesn't matter then.
-pub record Keeps (c : Charge) (kept : Running) (taken known : List (Signed Body)) (told : List Told)
+-- the past after these events, where the asks of these masters were answered
+abbrev pub past_then : Group → List Heard → List ℕ → Past
+past_then g before answered = record {
+  told = told_of g [] before;
+  moments = moments_of g [] before;
+  answered = answered;
+}
+
+abbrev pub past_of : Group → List Heard → Past
+past_of g before = past_then g before (answered_in before)
+
+-- What a master keeps where it took these frames, knows these words, has this past, and said these bodies. Once no leaf is
+-- left it says nothing any more, so what its parts count as said and answered doesn't matter then.
+pub record Keeps (c : Charge) (kept : Running) (taken known : List (Signed Body)) (past : Past)
     (said : List Body) : Type 0 where
   pub counted : List Body
-  pub is_replica : IsReplicaOf c.group c.me kept.replica taken known told counted
+  pub answered : List ℕ
+  pub is_replica : IsReplicaOf c.group c.me kept.replica taken known (record past { answered = answered }) counted
   pub all : 0 < kept.leaves → counted ≡ said
+  pub all_answered : 0 < kept.leaves → answered ≡ past.answered
 
 -- No more vouchers are counted for a client than it has orders.
 abbrev pub FewVouchers : Running → Type 0
@@ -49,7 +62,7 @@ pub record IsRunning (c : Charge) (kept : Running) (before : List Heard) : Type 
   pub sizes : HasSizes c.group
   pub master : c.me < c.group.n
   pub ticks : ticks_heard before ≤ 2 ^ 32
-  pub keeps : Keeps c kept (taken_by before) (known_of before) (told_of c.group [] before) (said_before before)
+  pub keeps : Keeps c kept (taken_by before) (known_of before) (past_of c.group before) (said_before before)
   pub caught : IsCaughtUp c.group kept.replica.knowledge (known_of before)
   pub points : HoldsPlant c (known_of before) kept.points
   pub vouchers : FewVouchers kept
@@ -62,7 +75,8 @@ pub record IsRunning (c : Charge) (kept : Running) (before : List Heard) : Type 
 pub record HasSpoken (c : Charge) (kept : Running) (before : List Heard) (took : Option (Signed Body))
     (at_tick : Bool) : Type 0 where
   pub is_replica : MaySpeak c.group c.me before took at_tick
-  pub keeps : Keeps c kept (taken_at before took) (known_at before took) (told_at c.group before took at_tick)
+  pub keeps : Keeps c kept (taken_at before took) (known_at before took)
+      (past_after c.group before took at_tick (says_at c before took at_tick))
       (said_before before ++ says_at c before took at_tick)
   pub caught : IsCaughtUp c.group kept.replica.knowledge (known_at before took)
   pub points : HoldsPlant c (known_at before took) kept.points
@@ -76,7 +90,7 @@ pub record HasSpoken (c : Charge) (kept : Running) (before : List Heard) (took :
 pub record HasLearned (c : Charge) (kept : Running) (before : List Heard) (took : Option (Signed Body))
     (at_tick : Bool) (done : ℕ) : Type 0 where
   pub is_replica : MaySpeak c.group c.me before took at_tick
-  pub keeps : Keeps c kept (taken_at before took) (known_at before took) (told_of c.group [] before)
+  pub keeps : Keeps c kept (taken_at before took) (known_at before took) (past_of c.group before)
       (said_before before)
   pub earlier : List (Signed Body)
   pub points : HoldsPlant c earlier kept.points
@@ -91,7 +105,7 @@ pub record HasLearned (c : Charge) (kept : Running) (before : List Heard) (took 
 pub record IsReady (c : Charge) (kept : Running) (before : List Heard) (took : Option (Signed Body))
     (at_tick : Bool) : Type 0 where
   pub is_replica : MaySpeak c.group c.me before took at_tick
-  pub keeps : Keeps c kept (taken_at before took) (known_at before took) (told_at c.group before took at_tick)
+  pub keeps : Keeps c kept (taken_at before took) (known_at before took) (past_at c.group before took at_tick)
       (said_before before)
   pub caught : IsCaughtUp c.group kept.replica.knowledge (known_at before took)
   pub points : HoldsPlant c (known_at before took) kept.points

@@ -3,17 +3,17 @@ ghost use Rattle.std.specs.List.{list_all};
 ghost use Rattle.message_types.specs.declared.signed.Signed.{Signed as SignedWord};
 ghost use Rattle.message_types.specs.declared.body.Body.{Body as Word};
 ghost use Rattle.protocol_rules.specs.Master.{Heard, said_before, known_at, taken_at};
-ghost use Rattle.words_by_part.specs.Laws.{told_at};
 ghost use Rattle.master_knowledge.specs.Knows.{IsCaughtUp};
 ghost use Rattle.master_knowledge.specs.Whole.{is_whole};
+ghost use Rattle.master_answers.specs.Asked.{ask_of};
 ghost use Rattle.master_points.specs.Orders.{IsPlant};
 ghost use Rattle.master_node.specs.Charge.{Charge, IsChargeOf, says_at};
 ghost use Rattle.master_node.specs.Running.{IsRunning, IsSomeRunning, HasLearned, IsSomeLearned, IsReady, IsSomeReady, HasSpoken, AreItsFrames, group_in, ticks_in};
 
 use crate::cut::cut;
 use crate::execute::apply_all;
-use crate::learn::{recall_all, tell};
-use master_answers::ReplicaState;
+use crate::learn::recall_all;
+use master_answers::{Ask, ReplicaState, ask_in};
 use master_points::Master;
 use message_types::{Body, Frame};
 use plain_lists::{Items, Want};
@@ -80,7 +80,7 @@ impl Running {
         recall_all(&mut self.replica.knowledge, &self.unheard)?;
         self.unheard = Items::new(self.alloc);
         self.replica.knowledge.hear(frame)?;
-        self.go_on(done, false)
+        self.go_on(done, ask_in(frame), false)
     }
 
     /// Has a tick, and says what is due then. After want of memory the state is of no use.
@@ -93,7 +93,7 @@ impl Running {
         let done = self.replica.knowledge.run.list().len();
         recall_all(&mut self.replica.knowledge, &self.unheard)?;
         self.unheard = Items::new(self.alloc);
-        self.go_on(done, true)
+        self.go_on(done, None, true)
     }
 
     /// Keeps the frames of what the master just said, until its next event.
@@ -106,33 +106,33 @@ impl Running {
         Ok(())
     }
 
-    /// Executes what the words known make executed, and says what is due at the event.
-    fn go_on(&mut self, done: usize, at_tick: bool) -> Result<Vec<Body>, Want>
+    /// Executes what the words known make executed, and says what is due at the event, where the frame taken asks for this.
+    fn go_on(&mut self, done: usize, asked: Option<Ask>, at_tick: bool) -> Result<Vec<Body>, Want>
         requires learned { IsSomeLearned self.old at_tick done }
-        ensures said { IfOk result (λ bodies. (c : Charge) (before : List Heard) (took : Option (SignedWord Word)) → HasLearned c self.old before took at_tick done
+        ensures said { IfOk result (λ bodies. (c : Charge) (before : List Heard) (took : Option (SignedWord Word)) → asked ≡ ask_of took → HasLearned c self.old before took at_tick done
             → bodies.items ≡ says_at c before took at_tick) }
-        ensures spoken { OnOk result ((c : Charge) (before : List Heard) (took : Option (SignedWord Word)) → HasLearned c self.old before took at_tick done
+        ensures spoken { OnOk result ((c : Charge) (before : List Heard) (took : Option (SignedWord Word)) → asked ≡ ask_of took → HasLearned c self.old before took at_tick done
             → HasSpoken c self.new before took at_tick) }
     {
         self.replica.knowledge.catch_up()?;
         let executed = self.replica.knowledge.run.list();
         apply_all(&mut self.points, &executed[done..])?;
-        tell(&mut self.replica.knowledge, at_tick)?;
-        self.say(at_tick)
+        self.replica.knowledge.tell(at_tick)?;
+        self.say(asked, at_tick)
     }
 
     /// Says what is due, as far as leaves are left for it.
-    fn say(&mut self, at_tick: bool) -> Result<Vec<Body>, Want>
+    fn say(&mut self, asked: Option<Ask>, at_tick: bool) -> Result<Vec<Body>, Want>
         requires ready { IsSomeReady self.old at_tick }
-        ensures said { IfOk result (λ bodies. (c : Charge) (before : List Heard) (took : Option (SignedWord Word)) → IsReady c self.old before took at_tick
+        ensures said { IfOk result (λ bodies. (c : Charge) (before : List Heard) (took : Option (SignedWord Word)) → asked ≡ ask_of took → IsReady c self.old before took at_tick
             → bodies.items ≡ says_at c before took at_tick) }
-        ensures spoken { OnOk result ((c : Charge) (before : List Heard) (took : Option (SignedWord Word)) → IsReady c self.old before took at_tick
+        ensures spoken { OnOk result ((c : Charge) (before : List Heard) (took : Option (SignedWord Word)) → asked ≡ ask_of took → IsReady c self.old before took at_tick
             → HasSpoken c self.new before took at_tick) }
     {
         if self.leaves == 0 {
             return Ok(Vec::new(self.alloc));
         }
-        let mut bodies = self.replica.answer(&self.points, at_tick)?;
+        let mut bodies = self.replica.answer(&self.points, asked, at_tick)?;
         let used = cut(&mut bodies, self.leaves, self.shared_leaves);
         self.leaves -= used;
         Ok(bodies)

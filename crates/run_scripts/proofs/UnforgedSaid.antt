@@ -21,7 +21,7 @@ use Rattle.agreement.proofs.Lists.{Each, each_one, each_none, each_map, in_cons_
 use Rattle.agreement.proofs.Known.{learned_by, known_then, known_then_from}
 use Rattle.agreement.proofs.Spoken.{Due}
 use Rattle.agreement.proofs.Inside.{due_inside}
-use Rattle.agreement.proofs.Origin.{known_closed, said_due, learned_all, taken_known}
+use Rattle.agreement.proofs.Origin.{DueThen, first_said, known_closed, learned_all, taken_known}
 use Rattle.own_histories.proofs.BenchLists.{intruded_say_nothing}
 use Rattle.world_rules.specs.Clients.{front_of, desk_of, proxy_says, screen_says}
 use Rattle.world_rules.specs.Scenarios.{setup_of, masters_in, proxies_in, client_in}
@@ -52,22 +52,30 @@ learned_borne w i history is correct = learned_all w i history (IsBorne w histor
 abbrev pub IsSaidWell : Setup → List Entry → Body → Type 0
 IsSaidWell w history b = Each (IsBorne w history) (inside b) × HasDigest b
 
+-- so it is where a correct master's body was due
+due_well : (w : Setup) (history before : List Entry) (e : Entry) (i : ℕ) (b : Body) → IsHonest w history →
+    Stands history before e → is_correct_master w i ≡ true → DueThen w i before e b → IsSaidWell w history b
+due_well w history before e i b is s correct due =
+    let known = known_then w before i e in
+    let taken = taken_at (heard w before i) (frame_taken e.event) in
+    let said = said_before (heard w before i) in
+    let earlier : IsHonest w before = honest_before w before (e ∷ s.after) (subst (IsHonest w) s.whole is) in (
+      (λ p k. elim (known_then_from w before i e p
+          (due_inside w.group w.orders known taken said (taken_known (heard w before i) (frame_taken e.event))
+          (known_closed (heard w before i) (frame_taken e.event)) b due p k)) [
+            | inl learned ↦ borne_whole s (learned_borne w i before earlier correct p learned)
+            | inr part ↦ borne_whole s (taken_borne w history before e is s p part)
+          ]),
+      digest_due w.group w.orders known taken said b due,
+    )
+
+-- What a master says again was due where it said it first.
 by_master : (w : Setup) (history before : List Entry) (e : Entry) → IsHonest w history → Stands history before e →
     is_correct_master w e.actor ≡ true → Each (IsSaidWell w history) e.said
 by_master w history before e is s correct b h =
-    let due = said_due w e.actor b is.legal s refl correct h in
-    let known = known_then w before e.actor e in
-    let taken = taken_at (heard w before e.actor) (frame_taken e.event) in
-    let said = said_before (heard w before e.actor) in
-    let earlier : IsHonest w before = honest_before w before (e ∷ s.after) (subst (IsHonest w) s.whole is) in (
-      (λ p k. elim (known_then_from w before e.actor e p
-          (due_inside w.group w.orders known taken said (taken_known (heard w before e.actor) (frame_taken e.event))
-          (known_closed (heard w before e.actor) (frame_taken e.event)) b due.1 p k)) [
-            | inl learned ↦ borne_whole s (learned_borne w e.actor before earlier correct p learned)
-            | inr part ↦ borne_whole s (taken_borne w history before e is s p part)
-          ]),
-      digest_due w.group w.orders known taken said b due.1,
-    )
+    let first = first_said w e.actor b correct history is.legal
+    (record { before = before; entry = e; place = s; by = refl; among = h }) in
+    due_well w history first.said.before first.said.entry e.actor b is first.said.place correct first.due
 
 -- a client says updates
 abbrev IsPlain : Body → Type 0

@@ -119,6 +119,7 @@ group_same s =
       q = s.sizes.q;
       clients =
           (group_in (contents s)).clients;
+      rules = s.sizes.rules;
     }) s.sizes.all
     ∙ ap (λ (q : ℕ). record {
       n = (group_in (contents s)).n;
@@ -127,6 +128,7 @@ group_same s =
       q = q;
       clients =
           (group_in (contents s)).clients;
+      rules = s.sizes.rules;
     }) s.sizes.quorum
     ∙ sym (group_is (contents s))
 

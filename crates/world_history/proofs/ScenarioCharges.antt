@@ -7,10 +7,10 @@ use Rattle.world_history.specs.Laws.{ChargedBySetup}
 use Rattle.world_rules.specs.Scenarios.{setup_of}
 
 abbrev sized : Sizes → ℕ → Group
-sized s clients = record { n = group_size s.f s.k; f = s.f; k = s.k; q = quorum_size s.f s.k; clients = clients }
+sized s clients = record { n = group_size s.f s.k; f = s.f; k = s.k; q = quorum_size s.f s.k; clients = clients; rules = s.rules }
 
 same_group : (s : Sizes) (clients : ℕ) → sized s clients ≡ group_of s clients
-same_group s clients = λ i. record { n = sym s.all i; f = s.f; k = s.k; q = sym s.quorum i; clients = clients }
+same_group s clients = λ i. record { n = sym s.all i; f = s.f; k = s.k; q = sym s.quorum i; clients = clients; rules = s.rules }
 
 pub charged_by_setup : ChargedBySetup
 unfolding setup_of

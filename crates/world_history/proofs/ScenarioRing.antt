@@ -13,7 +13,7 @@ use Rattle.world_history.specs.Signed.{ring_in}
 pub ring_seen : (s : Scenario) (clients : ℕ) → clients ≡ length s.plant.devices + s.screens
     → ring_of (group_of s.sizes clients) (public_keys s.seed s.heights (s.sizes.n + clients)) ≡ ring_in (contents s)
 ring_seen s clients are =
-    λ i. ring_of (record { n = s.sizes.all i; f = s.sizes.f; k = s.sizes.k; q = s.sizes.quorum i; clients = are i })
+    λ i. ring_of (record { n = s.sizes.all i; f = s.sizes.f; k = s.sizes.k; q = s.sizes.quorum i; clients = are i; rules = s.sizes.rules })
     (public_keys s.seed s.heights (s.sizes.all i + are i))
 
 -- as many clients as a scenario has, and few actors

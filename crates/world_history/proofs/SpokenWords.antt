@@ -88,6 +88,7 @@ sizes_are s = λ i. record {
   q = s.sizes.quorum i;
   clients =
       proxies_in (contents s) + s.screens;
+  rules = s.sizes.rules;
 }
 
 abbrev unless : Bool → Option Body → Option Body

@@ -6,7 +6,7 @@ use Rattle.message_types.specs.declared.signed.Signed.{Signed}
 use Rattle.message_types.specs.declared.body.Body.{Body}
 use Rattle.protocol_rules.specs.Group.{Group, leader_of}
 use Rattle.protocol_rules.specs.Facts.{facts_of}
-use Rattle.protocol_rules.specs.Measures.{Told}
+use Rattle.master_knowledge.specs.Past.{Past}
 use Rattle.protocol_rules.specs.Master.{summaries_due, preprepares_due}
 use Rattle.leader_proposals.specs.Offering.{AreOffersOf}
 use Rattle.leader_proposals.specs.Saying.{IsSummaryOf}
@@ -38,8 +38,8 @@ due-requires-2-clause-rows c = let r = c.requires.known in record {
       r.knows.whole;
 }
 
-module _ (c : goal.In_ok-words) (g : Group) (own : ℕ) (taken known : List (Signed Body)) (told : List Told)
-    (said : List Body) (is : c.args.me ≡ own) (k : Knows g own c.args.knowledge.now taken known told said) where
+module _ (c : goal.In_ok-words) (g : Group) (own : ℕ) (taken known : List (Signed Body)) (past : Past)
+    (said : List Body) (is : c.args.me ≡ own) (k : Knows g own c.args.knowledge.now taken known past said) where
   summed_up : IsSummaryOf g c.args.summary.now said →
       option_to_list c.in_ok-summed_up.summed_up ≡ summaries_due g known said c.args.at_tick
   summed_up sum = c.in_ok-summed_up.ensures.due g known said sum
@@ -54,19 +54,19 @@ module _ (c : goal.In_ok-words) (g : Group) (own : ℕ) (taken known : List (Sig
       (c.is_leader-leads.ensures g k.masters ∙ ap (λ m. nat_eq m (leader_of g c.view-view.result)) is) proposer
 
 pub returns-clause-words : goal.returns-clause-words
-returns-clause-words c g own taken known told said k is sum proposer =
+returns-clause-words c g own taken known past said k is sum proposer =
     c.in_ok-words.ensures ∙ pair (option_to_list c.in_ok-summed_up.summed_up) (option_to_list c.in_ok-offer.offer) _ _
-    (summed_up c g own taken known told said is k sum) (offered c g own taken known told said is k proposer)
+    (summed_up c g own taken known past said is k sum) (offered c g own taken known past said is k proposer)
 
 pub returns-clause-summary : goal.returns-clause-summary
-returns-clause-summary c g own taken known told said k is sum =
+returns-clause-summary c g own taken known past said k is sum =
     subst (λ (ws : List Body). IsSummaryOf g c.due.new.self (said ++ ws))
-    (summed_up c g own taken known told said is k sum) (c.in_ok-summed_up.ensures.said g said sum)
+    (summed_up c g own taken known past said is k sum) (c.in_ok-summed_up.ensures.said g said sum)
 
 pub returns-clause-proposer : goal.returns-clause-proposer
-returns-clause-proposer c g own taken known told said k is proposer =
+returns-clause-proposer c g own taken known past said k is proposer =
     subst (λ (ws : List Body). AreOffersOf g c.due-2.new.self (facts_of g known) (said ++ ws))
-    (offered c g own taken known told said is k proposer)
+    (offered c g own taken known past said is k proposer)
     (c.in_ok-offer.ensures.said g (facts_of g known) said said k.order proposer)
 
 pub returns-clause-view : goal.returns-clause-view

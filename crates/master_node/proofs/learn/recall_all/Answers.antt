@@ -18,8 +18,8 @@ use Rattle.plain_lists.proofs.Lists.{take_whole}
 use Rattle.master_node.proofs.learn.recall_all.Goals as goal
 
 pub loop-frame-init : goal.loop-frame-init
-loop-frame-init c g me taken known told said k =
-    subst (λ (xs : List (Signed Body)). Knows g me c.args.knowledge.now taken xs told said) (sym (append-nil known)) k
+loop-frame-init c g me taken known past said k =
+    subst (λ (xs : List (Signed Body)). Knows g me c.args.knowledge.now taken xs past said) (sym (append-nil known)) k
 
 pub recall-requires-clause-known : goal.recall-requires-clause-known
 recall-requires-clause-known c = record {
@@ -27,16 +27,16 @@ recall-requires-clause-known c = record {
   own = c.requires.known.own;
   taken = c.requires.known.taken;
   known = c.requires.known.known ++ flat_map parts (take c.loop-frame.frame-index c.as_slice-frame-items.result.now);
-  told = c.requires.known.told;
+  past = c.requires.known.past;
   said = c.requires.known.said;
   knows = c.loop-frame.invariant c.requires.known.group c.requires.known.own c.requires.known.taken
-      c.requires.known.known c.requires.known.told c.requires.known.said c.requires.known.knows;
+      c.requires.known.known c.requires.known.past c.requires.known.said c.requires.known.knows;
 }
 
 pub recall-requires-clause-whole : goal.recall-requires-clause-whole
 recall-requires-clause-whole c =
     let k = c.loop-frame.invariant c.requires.known.group c.requires.known.own c.requires.known.taken
-    c.requires.known.known c.requires.known.told c.requires.known.said c.requires.known.knows in
+    c.requires.known.known c.requires.known.past c.requires.known.said c.requires.known.knows in
     ap (λ (h : Group). is_whole h c.frame-item.result) (k.preorder.group ∙ sym c.requires.known.knows.preorder.group)
     ∙ all_at (is_whole c.args.knowledge.now.preorder.group)
     (subst (λ (xs : List (Signed Body)). IsIn c.frame-item.result xs) c.as_slice-frame-items.ensures
@@ -44,22 +44,22 @@ recall-requires-clause-whole c =
     c.frame-item.is)) c.requires.whole
 
 pub loop-frame-preserved : goal.loop-frame-preserved
-loop-frame-preserved c g me taken known told said k =
+loop-frame-preserved c g me taken known past said k =
     let next : suc c.loop-frame.frame-index ≡ c.loop-frame.frame-index + 1 = omega arith in
     let items : List (Signed Body) = c.as_slice-frame-items.result.now in
-    subst (λ (xs : List (Signed Body)). Knows g me c.recall.new.self taken xs told said)
+    subst (λ (xs : List (Signed Body)). Knows g me c.recall.new.self taken xs past said)
     (append_assoc known (flat_map parts (take c.loop-frame.frame-index items)) (parts c.frame-item.result)
     ∙ ap (λ (xs : List (Signed Body)). known ++ xs)
     (sym (flat_more parts (take c.loop-frame.frame-index items) c.frame-item.result)
     ∙ ap (flat_map parts) (take_next items c.loop-frame.frame-index c.frame-item.result
     c.loop-frame-test.true c.frame-item.is)
     ∙ ap (λ n. flat_map parts (take n items)) next))
-    (c.in_ok-recall.ensures g me taken (known ++ flat_map parts (take c.loop-frame.frame-index items)) told said
-    (c.loop-frame.invariant g me taken known told said k))
+    (c.in_ok-recall.ensures g me taken (known ++ flat_map parts (take c.loop-frame.frame-index items)) past said
+    (c.loop-frame.invariant g me taken known past said k))
 
 pub returns : goal.returns
-returns c g me taken known told said k =
-    subst (λ (xs : List (Signed Body)). Knows g me c.loop-frame.knowledge taken (known ++ flat_map parts xs) told said)
+returns c g me taken known past said k =
+    subst (λ (xs : List (Signed Body)). Knows g me c.loop-frame.knowledge taken (known ++ flat_map parts xs) past said)
     (take_whole c.as_slice-frame-items.result.now c.loop-frame.frame-index (omega arith)
     ∙ c.as_slice-frame-items.ensures)
-    (c.loop-frame.invariant g me taken known told said k)
+    (c.loop-frame.invariant g me taken known past said k)

@@ -6,11 +6,11 @@ use Rattle.message_types.specs.declared.signed.Signed.{Signed}
 use Rattle.message_types.specs.declared.body.Body.{Body}
 use Rattle.message_types.specs.Parts.{parts}
 use Rattle.protocol_rules.specs.Group.{Group}
-use Rattle.protocol_rules.specs.Measures.{Told}
+use Rattle.master_knowledge.specs.Past.{Past}
 use Rattle.master_knowledge.specs.Knows.{Knows}
 use Rattle.master_node.proofs.learn.recall_all.Given as goal
 
 abbrev pub invariant-loop-frame : goal.invariant-loop-frame
-invariant-loop-frame l = (g : Group) (me : ℕ) (taken known : List (Signed Body)) (told : List Told) (said : List Body)
-    → Knows g me l.fn.knowledge taken known told said →
-    Knows g me l.knowledge taken (known ++ flat_map parts (take l.frame-index l.frame-items)) told said
+invariant-loop-frame l = (g : Group) (me : ℕ) (taken known : List (Signed Body)) (past : Past) (said : List Body)
+    → Knows g me l.fn.knowledge taken known past said →
+    Knows g me l.knowledge taken (known ++ flat_map parts (take l.frame-index l.frame-items)) past said

@@ -15,4 +15,5 @@ returns-clause-is_replica c = record {
       (c.new-3.ensures.nothing c.args.clients);
   view = from_zero c.new-3.result.progress.view (view (group_of c.args.sizes c.args.clients) []) c.new-3.ensures.view;
   vouchers = c.none.ensures.nothing;
+  shares = λ live. c.new-4.ensures;
 }

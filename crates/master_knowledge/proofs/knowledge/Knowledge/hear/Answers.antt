@@ -13,10 +13,10 @@ recall-requires-clause-known c = record {
   own = c.requires.known.own;
   taken = c.requires.known.taken ++ c.args.frame.now ∷ [];
   known = c.requires.known.known;
-  told = c.requires.known.told;
+  past = c.requires.known.past;
   said = c.requires.known.said;
   knows = knows_taken c.requires.known.group c.requires.known.own c.args.self.now c.take_update.new.preorder
-      c.requires.known.taken c.requires.known.known c.requires.known.told c.requires.known.said c.args.frame.now
+      c.requires.known.taken c.requires.known.known c.requires.known.past c.requires.known.said c.args.frame.now
       c.in_ok-take_update.ensures.ok c.requires.known.knows;
 }
 
@@ -25,7 +25,7 @@ recall-requires-clause-whole c = ap (λ (g : Group). is_whole g c.args.frame.now
     ∙ c.requires.whole
 
 pub returns : goal.returns
-returns c = on_ok_weaker c.recall.result (λ recalled g me taken known told said k.
-    recalled g me (taken ++ c.args.frame.now ∷ []) known told said
-    (knows_taken g me c.args.self.now c.take_update.new.preorder taken known told said c.args.frame.now
+returns c = on_ok_weaker c.recall.result (λ recalled g me taken known past said k.
+    recalled g me (taken ++ c.args.frame.now ∷ []) known past said
+    (knows_taken g me c.args.self.now c.take_update.new.preorder taken known past said c.args.frame.now
     c.in_ok-take_update.ensures.ok k)) c.recall.ensures

@@ -19,16 +19,16 @@ learn-requires-clause-known c = record {
   own = c.requires.known.own;
   taken = c.requires.known.taken;
   known = c.requires.known.known ++ take c.loop-part.part-index c.deref-part-items.result.now;
-  told = c.requires.known.told;
+  past = c.requires.known.past;
   said = c.requires.known.said;
   knows = c.loop-part.invariant c.requires.known.group c.requires.known.own c.requires.known.taken
-      c.requires.known.known c.requires.known.told c.requires.known.said c.requires.known.knows;
+      c.requires.known.known c.requires.known.past c.requires.known.said c.requires.known.knows;
 }
 
 pub learn-requires-clause-whole : goal.learn-requires-clause-whole
 learn-requires-clause-whole c =
     let k = c.loop-part.invariant c.requires.known.group c.requires.known.own c.requires.known.taken
-    c.requires.known.known c.requires.known.told c.requires.known.said c.requires.known.knows in
+    c.requires.known.known c.requires.known.past c.requires.known.said c.requires.known.knows in
     let whole : is_whole c.requires.known.group c.args.frame.now ≡ true =
     ap (λ (h : Group). is_whole h c.args.frame.now) (sym c.requires.known.knows.preorder.group)
     ∙ c.requires.whole in
@@ -40,20 +40,20 @@ learn-requires-clause-whole c =
     c.loop-part-test.true c.part-item.is))
 
 pub loop-part-preserved : goal.loop-part-preserved
-loop-part-preserved c g me taken known told said k =
+loop-part-preserved c g me taken known past said k =
     let next : suc c.loop-part.part-index ≡ c.loop-part.part-index + 1 = omega arith in
-    subst (λ (xs : List (Signed Body)). Knows g me c.learn.new.self taken xs told said)
+    subst (λ (xs : List (Signed Body)). Knows g me c.learn.new.self taken xs past said)
     (append_assoc known (take c.loop-part.part-index c.deref-part-items.result.now) (c.part-item.result ∷ [])
     ∙ ap (λ (xs : List (Signed Body)). known ++ xs)
     (take_next c.deref-part-items.result.now c.loop-part.part-index c.part-item.result
     c.loop-part-test.true c.part-item.is)
     ∙ ap (λ n. known ++ take n c.deref-part-items.result.now) next)
-    (c.in_ok-learn.ensures g me taken (known ++ take c.loop-part.part-index c.deref-part-items.result.now) told said
-    (c.loop-part.invariant g me taken known told said k))
+    (c.in_ok-learn.ensures g me taken (known ++ take c.loop-part.part-index c.deref-part-items.result.now) past said
+    (c.loop-part.invariant g me taken known past said k))
 
 pub returns : goal.returns
-returns c g me taken known told said k =
-    subst (λ (xs : List (Signed Body)). Knows g me c.loop-part.self taken (known ++ xs) told said)
+returns c g me taken known past said k =
+    subst (λ (xs : List (Signed Body)). Knows g me c.loop-part.self taken (known ++ xs) past said)
     (take_whole c.deref-part-items.result.now c.loop-part.part-index (omega arith) ∙ c.deref-part-items.ensures.value
     ∙ c.in_ok-parts.ensures)
-    (c.loop-part.invariant g me taken known told said k)
+    (c.loop-part.invariant g me taken known past said k)

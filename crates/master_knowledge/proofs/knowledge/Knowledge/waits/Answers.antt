@@ -6,12 +6,12 @@ use Rattle.quorum_sets.proofs.Numbered.{masters_few}
 use Rattle.master_knowledge.proofs.knowledge.Knowledge.waits.Goals as goal
 
 pub returns-then-not-is_open : goal.returns-then-not-is_open
-returns-then-not-is_open c g me taken known told said k caught =
+returns-then-not-is_open c g me taken known past said k caught =
     ap not c.if-not-is_open.true
     ∙ sym (waits_closed g known (sym (c.is_open.ensures g me known said k.views) ∙ c.if-not-is_open.true))
 
 pub returns-else-not-is_open : goal.returns-else-not-is_open
-returns-else-not-is_open c g me taken known told said k caught =
+returns-else-not-is_open c g me taken known past said k caught =
     c.exceeds.ensures g known k.matrix
     ∙ waits_open g known c.reach.result.numbers (subst (λ n. n ≤ 14) k.masters (masters_few c.args.self.now.sizes))
     (sym (c.is_open.ensures g me known said k.views) ∙ c.if-not-is_open.false)

@@ -4,9 +4,9 @@ use Rattle.std.proofs.Common.{◌≡◌, ◌<◌, ◌≤◌, ◌*◌, List, Opti
 use Rattle.std.proofs.lemmas.Result.{on_ok_weaker, IfOk-weaker}
 use Rattle.message_types.specs.declared.signed.Signed.{Signed}
 use Rattle.message_types.specs.declared.body.Body.{Body}
-use Rattle.protocol_rules.specs.Master.{Heard, known_at, executed}
+use Rattle.protocol_rules.specs.Master.{Heard, known_at, taken_at, executed}
 use Rattle.master_node.specs.Charge.{Charge}
-use Rattle.master_node.specs.Running.{HasLearned}
+use Rattle.master_node.specs.Running.{HasLearned, past_then}
 use Rattle.master_node.proofs.Plants.{tail_applied, tail_passes}
 use Rattle.master_node.proofs.Steps.{caught_list, done_within, clients_there, few_ticks, gone_on}
 use Rattle.master_node.proofs.running.Running.go_on.Goals.{After-list-executed}
@@ -53,6 +53,17 @@ pub tell-requires : goal.tell-requires
 tell-requires c =
     let l = c.requires.learned in
     record {
+      known = record {
+        group = l.charge.group;
+        own = l.charge.me;
+        taken = taken_at l.before l.took;
+        known = known_at l.before l.took;
+        past = past_then l.charge.group l.before l.is.keeps.answered;
+        said = l.is.keeps.counted;
+        knows = c.in_ok-catch_up.ensures.knows l.charge.group l.charge.me (taken_at l.before l.took)
+            (known_at l.before l.took) (past_then l.charge.group l.before l.is.keeps.answered) l.is.keeps.counted
+            l.is.keeps.is_replica.knows;
+      };
       ticks = few_ticks l.charge c.args.self.now c.catch_up.new.self l.before l.took c.args.at_tick c.args.done
           l.is c.in_ok-catch_up.ensures.knows;
     }
@@ -65,7 +76,7 @@ say-requires c =
         charge = l.charge;
         before = l.before;
         took = l.took;
-        is = gone_on l.charge c.args.self.now c.catch_up.new.self c.tell.new.knowledge c.apply_all.new.points l.before
+        is = gone_on l.charge c.args.self.now c.catch_up.new.self c.tell.new.self c.apply_all.new.points l.before
             l.took c.args.at_tick c.args.done c.list-executed.result.now l.is
             c.in_ok-catch_up.ensures.knows c.in_ok-catch_up.ensures.caught
             (all_executed (goal.at.say-requires c).After-list-executed l.charge l.before l.took l.is)
@@ -75,8 +86,8 @@ say-requires c =
     }
 
 pub returns-clause-said : goal.returns-clause-said
-returns-clause-said c = IfOk-weaker c.say.result _ _ (λ bodies said charge before took is. said charge before took
-    (gone_on charge c.args.self.now c.catch_up.new.self c.tell.new.knowledge c.apply_all.new.points before took
+returns-clause-said c = IfOk-weaker c.say.result _ _ (λ bodies said charge before took asked is. said charge before took asked
+    (gone_on charge c.args.self.now c.catch_up.new.self c.tell.new.self c.apply_all.new.points before took
     c.args.at_tick c.args.done c.list-executed.result.now is
     c.in_ok-catch_up.ensures.knows c.in_ok-catch_up.ensures.caught
     (all_executed (goal.at.returns-clause-said c).After-list-executed charge before took is)
@@ -84,8 +95,8 @@ returns-clause-said c = IfOk-weaker c.say.result _ _ (λ bodies said charge befo
     c.in_ok-apply_all.ensures) c.in_ok-tell.ensures.told c.in_ok-tell.ensures.run)) c.say.ensures.said
 
 pub returns-clause-spoken : goal.returns-clause-spoken
-returns-clause-spoken c = on_ok_weaker c.say.result (λ spoken charge before took is. spoken charge before took
-    (gone_on charge c.args.self.now c.catch_up.new.self c.tell.new.knowledge c.apply_all.new.points before took
+returns-clause-spoken c = on_ok_weaker c.say.result (λ spoken charge before took asked is. spoken charge before took asked
+    (gone_on charge c.args.self.now c.catch_up.new.self c.tell.new.self c.apply_all.new.points before took
     c.args.at_tick c.args.done c.list-executed.result.now is
     c.in_ok-catch_up.ensures.knows c.in_ok-catch_up.ensures.caught
     (all_executed (goal.at.returns-clause-spoken c).After-list-executed charge before took is)

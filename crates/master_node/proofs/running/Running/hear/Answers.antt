@@ -1,14 +1,14 @@
 -- Own words said at earlier events are learned first, and then the frame, so the words known are those of the
 -- rules in their order. From there on it is as at any event.
-use Rattle.std.proofs.Common.{[], ◌++◌, Some, sym, ◌∙◌, ap}
+use Rattle.std.proofs.Common.{◌++◌, Some, sym, ◌∙◌, ap}
 use Rattle.std.specs.List.{list_all, flat_map}
 use Rattle.std.proofs.lemmas.Result.{on_ok_weaker, IfOk-weaker}
 use Rattle.message_types.specs.Parts.{parts}
 use Rattle.protocol_rules.specs.Group.{Group}
-use Rattle.protocol_rules.specs.Master.{told_of}
 use Rattle.history_rules.specs.Legal.{known_of}
 use Rattle.master_knowledge.specs.Whole.{is_whole}
 use Rattle.master_node.specs.Charge.{taken_by}
+use Rattle.master_node.specs.Running.{past_then}
 use Rattle.master_node.proofs.Steps.{own_whole, heard_so}
 use Rattle.master_node.proofs.running.Running.hear.Goals as goal
 
@@ -26,17 +26,17 @@ hear-requires-clause-known c =
       own = r.charge.me;
       taken = taken_by r.before;
       known = known_of r.before ++ flat_map parts c.args.self.now.unheard;
-      told = told_of r.charge.group [] r.before;
+      past = past_then r.charge.group r.before r.is.keeps.answered;
       said = r.is.keeps.counted;
       knows = c.in_ok-recall_all.ensures r.charge.group r.charge.me (taken_by r.before) (known_of r.before)
-          (told_of r.charge.group [] r.before) r.is.keeps.counted r.is.keeps.is_replica.knows;
+          (past_then r.charge.group r.before r.is.keeps.answered) r.is.keeps.counted r.is.keeps.is_replica.knows;
     }
 
 pub hear-requires-clause-whole : goal.hear-requires-clause-whole
 hear-requires-clause-whole c =
     let r = c.requires.running in
     let k = c.in_ok-recall_all.ensures r.charge.group r.charge.me (taken_by r.before) (known_of r.before)
-    (told_of r.charge.group [] r.before) r.is.keeps.counted r.is.keeps.is_replica.knows in
+    (past_then r.charge.group r.before r.is.keeps.answered) r.is.keeps.counted r.is.keeps.is_replica.knows in
     ap (λ (h : Group). is_whole h c.args.frame.now)
     (k.preorder.group ∙ sym r.is.keeps.is_replica.knows.preorder.group) ∙ c.requires.whole
 
@@ -56,7 +56,7 @@ go_on-requires c =
 
 pub returns-clause-said : goal.returns-clause-said
 returns-clause-said c = IfOk-weaker c.go_on.result _ _
-    (λ bodies said charge before is. said charge before (Some c.args.frame.now)
+    (λ bodies said charge before is. said charge before (Some c.args.frame.now) c.ask_in.ensures
     (heard_so charge c.args.self.now c.recall_all.new.knowledge c.hear.new.self c.new.result c.args.frame.now
     before c.list-done.result.now is
     c.in_ok-recall_all.ensures c.in_ok-hear.ensures c.requires.whole c.new.ensures c.list-done.ensures))
@@ -64,7 +64,7 @@ returns-clause-said c = IfOk-weaker c.go_on.result _ _
 
 pub returns-clause-spoken : goal.returns-clause-spoken
 returns-clause-spoken c =
-    on_ok_weaker c.go_on.result (λ spoken charge before is. spoken charge before (Some c.args.frame.now)
+    on_ok_weaker c.go_on.result (λ spoken charge before is. spoken charge before (Some c.args.frame.now) c.ask_in.ensures
     (heard_so charge c.args.self.now c.recall_all.new.knowledge c.hear.new.self c.new.result c.args.frame.now
     before c.list-done.result.now is
     c.in_ok-recall_all.ensures c.in_ok-hear.ensures c.requires.whole c.new.ensures c.list-done.ensures))

@@ -2,6 +2,7 @@
 -- most 12 clients, as its state asks.
 use Rattle.std.proofs.Common.{◌+◌, ◌≤◌, [], refl, sym, subst}
 use Rattle.protocol_rules.specs.Group.{group_of}
+use Rattle.master_knowledge.specs.Past.{no_past}
 use Rattle.master_answers.specs.Replica.{IsReplicaOf}
 use Rattle.master_node.proofs.Starting.{few_clients_at_start, started}
 use Rattle.master_node.proofs.running.Running.start.Goals as goal
@@ -14,5 +15,5 @@ pub returns : goal.returns
 returns c charge is = started c.args.scenario.now c.args.number c.args.leaves charge _ is
     c.requires.plant c.requires.number
     (subst (λ n. IsReplicaOf (group_of c.args.scenario.now.sizes (n + c.args.scenario.now.screens))
-    c.args.number c.new.result [] [] [] []) c.len.ensures c.new.ensures.is_replica)
+    c.args.number c.new.result [] [] no_past []) c.len.ensures c.new.ensures.is_replica)
     c.new.ensures.counts c.in_ok-points.ensures c.new-2.ensures refl refl

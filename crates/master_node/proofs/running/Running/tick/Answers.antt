@@ -1,6 +1,6 @@
 -- A tick takes no frame, so only the own words said at earlier events are learned before it goes on. The count
 -- of ticks has room for one more.
-use Rattle.std.proofs.Common.{None, ◌∙◌, ap}
+use Rattle.std.proofs.Common.{None, refl, ◌∙◌, ap}
 use Rattle.std.specs.List.{list_all}
 use Rattle.std.proofs.lemmas.Result.{on_ok_weaker, IfOk-weaker}
 use Rattle.protocol_rules.specs.Group.{Group}
@@ -29,11 +29,11 @@ go_on-requires c =
     }
 
 pub returns-clause-said : goal.returns-clause-said
-returns-clause-said c = IfOk-weaker c.go_on.result _ _ (λ bodies said charge before is. said charge before None
+returns-clause-said c = IfOk-weaker c.go_on.result _ _ (λ bodies said charge before is. said charge before None refl
     (ticked_so charge c.args.self.now c.recall_all.new.knowledge c.new.result before c.list-done.result.now is
     c.in_ok-recall_all.ensures c.requires.ticks c.new.ensures c.list-done.ensures)) c.go_on.ensures.said
 
 pub returns-clause-spoken : goal.returns-clause-spoken
-returns-clause-spoken c = on_ok_weaker c.go_on.result (λ spoken charge before is. spoken charge before None
+returns-clause-spoken c = on_ok_weaker c.go_on.result (λ spoken charge before is. spoken charge before None refl
     (ticked_so charge c.args.self.now c.recall_all.new.knowledge c.new.result before c.list-done.result.now is
     c.in_ok-recall_all.ensures c.requires.ticks c.new.ensures c.list-done.ensures)) c.go_on.ensures.spoken
