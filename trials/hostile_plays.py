@@ -156,9 +156,10 @@ class Seen:
 class Play:
     """A play that grows by stages. `run(scenario, script, words)` gives a status, a text and a line on the error output."""
 
-    def __init__(self, seed, run):
+    def __init__(self, seed, run, rules=1):
         self.random = random.Random(seed)
         self.run = run
+        self.rules = rules
         draw = self.random
         self.f = draw.choice([1] * 14 + [2] * 4 + [3] * 2)
         self.k = draw.choice([0, 0, 0, 1, 1, 2])
@@ -183,7 +184,8 @@ class Play:
 
     def scenario(self):
         text = f'f = {self.f}\nk = {self.k}\nseed = "{self.seed.hex()}"\nlevels = {self.levels}\nframes = {self.frames}\n'
-        text += f'intruded = {self.intruded}\nscreens = {self.screens}\n' + (PLANT if self.has_plant else '')
+        text += f'intruded = {self.intruded}\nscreens = {self.screens}\n' + ('rules = 2\n' if self.rules == 2 else '')
+        text += PLANT if self.has_plant else ''
         return text + ''.join(f'[[keeper]]\nactor = "{actor}"\nfailing = {calls}\n' for actor, calls in self.keepers)
 
     def choose_keepers(self):
