@@ -1,12 +1,13 @@
 -- Time in a history.
 use Rattle.std.proofs.Common.{◌≡◌, ℕ, List, [], ◌∷◌, ◌++◌, refl, sym, ◌∙◌, ap, subst, inl, inr, ◌⊎◌, append_assoc}
 use Rattle.std.proofs.lemmas.List.{append-nil}
+use Rattle.plain_lists.specs.Lists.{IsIn}
+use Rattle.plain_lists.proofs.Members.{none_in, in_cons_cases}
 use Rattle.message_types.specs.declared.body.Body.{Body}
 use Rattle.history_rules.specs.Events.{Entry}
 use Rattle.history_rules.specs.Setup.{Setup}
 use Rattle.history_rules.specs.Legal.{Stands, IsLegal}
-use Rattle.history_rules.specs.Audit.{HasSaid, NothingForged, IsIn}
-use Rattle.agreement.proofs.Lists.{none_in, in_cons_cases}
+use Rattle.history_rules.specs.Audit.{HasSaid, NothingForged}
 
 grow : {X : Type 0} (P : List X → Type 0) → ((before : List X) (x : X) → P before → P (before ++ x ∷ [])) →
     (before rest : List X) → P before → P (before ++ rest)

@@ -19,12 +19,13 @@ use Rattle.protocol_rules.specs.Plans.{certificates_of, planned, base_of}
 use Rattle.protocol_rules.specs.Order.{ordered, is_voted, prepare_by, commit_by}
 use Rattle.protocol_rules.specs.Master.{learned}
 use Rattle.std.specs.List.{flat_map}
+use Rattle.plain_lists.specs.Lists.{IsIn, Begins}
 use Rattle.vouched_orders.specs.declared.vote.Vote.{Vote}
 use Rattle.vouched_orders.specs.Vouching.{votes_in, orders_done}
 use Rattle.history_rules.specs.Events.{Entry}
 use Rattle.history_rules.specs.Setup.{Setup, is_correct_master, own}
 use Rattle.history_rules.specs.Legal.{Stands, IsLegal, heard, known_of, executions}
-use Rattle.history_rules.specs.Audit.{IsIn, HasSaid, parts_taken, NothingForged, NoSharedDigest, FewIntruded}
+use Rattle.history_rules.specs.Audit.{HasSaid, parts_taken, NothingForged, NoSharedDigest, FewIntruded}
 
 -- the sizes are those of a group
 pub record HasSizes (g : Group) : Type 0 where
@@ -39,11 +40,6 @@ pub record IsSound (w : Setup) (history : List Entry) : Type 0 where
   pub few : FewIntruded w
   pub unforged : NothingForged w history
   pub alike : NoSharedDigest w.group history
-
--- the first list begins the second
-pub record Begins {X : Type 0} (beginning whole : List X) : Type 0 where
-  pub rest : List X
-  pub same : whole ≡ beginning ++ rest
 
 -- Two quorums share a master that isn't one of the at most f intruded ones.
 abbrev pub QuorumsMeet : Type 0

@@ -5,6 +5,8 @@ use Rattle.std.proofs.Common.{inr, ◌⊎◌, arith}
 use Rattle.std.proofs.lemmas.Bool.{and_parts, ltb-true, eq-eqb, cases_Bool}
 use Rattle.std.proofs.lemmas.Grind.{flat_map-append}
 use Rattle.std.specs.List.{list_all, flat_map}
+use Rattle.plain_lists.specs.Lists.{IsIn, Each}
+use Rattle.plain_lists.proofs.Members.{each_none, each_append, none_in, in_cases, in_take, in_flat_map_from}
 use Rattle.message_types.specs.declared.signed.Signed.{Signed}
 use Rattle.message_types.specs.declared.body.Body.{Body}
 use Rattle.message_types.specs.Parts.{parts}
@@ -15,20 +17,17 @@ use Rattle.history_rules.specs.Events.{Entry, frame_taken, is_tick, is_silent}
 use Rattle.history_rules.specs.Leaves.{leaves_for}
 use Rattle.history_rules.specs.Setup.{Setup, stands, is_correct_master, leaves_used, room, signed_from}
 use Rattle.history_rules.specs.Legal.{heard_in}
-use Rattle.history_rules.specs.Audit.{IsIn}
 use Rattle.agreement.specs.Laws.{HasSizes}
-use Rattle.agreement.proofs.Lists.{Each, each_none, each_append, none_in, in_cases, in_take}
-use Rattle.agreement.proofs.Lists.{in_flat_map_from}
 use Rattle.agreement.proofs.Places.{by_growth, stands_on, stands_last}
-use Rattle.agreement.proofs.Known.{hears, signed_from_in, signed_from_bodies}
-use Rattle.agreement.proofs.Once.{correct_actor}
+use Rattle.agreement.proofs.KnownAsItGrows.{hears, signed_from_in, signed_from_bodies}
+use Rattle.agreement.proofs.SaidOnce.{correct_actor}
 use Rattle.words_in_place.specs.Laws.{ticks_heard, MaySpeak, IsSaid}
 use Rattle.words_in_place.specs.Spellings.{is_signed}
 use Rattle.words_in_place.specs.Signing.{SignsWell}
 use Rattle.words_in_place.proofs.Limits.{all_from, all_each}
 use Rattle.words_in_place.proofs.Spelled.{answers_are_spelled}
 use Rattle.words_in_place.proofs.Standing.{own_frames_stand}
-use Rattle.own_histories.specs.Lists.{AddsEntry, IsBenchList}
+use Rattle.history_laws.specs.BenchLists.{AddsEntry, IsBenchList}
 use Rattle.bench_rules.specs.Lists.{frames_after}
 use Rattle.bench_rules.specs.Laws.{MasterFramesStand, MasterWordsFit}
 use Rattle.bench_rules.proofs.HeardEvents.{heard_next, heard_same, heard_none, few_ticks, rule_of, silent_says_nothing}

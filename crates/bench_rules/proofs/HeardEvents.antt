@@ -11,11 +11,11 @@ use Rattle.history_rules.specs.Events.{Entry, frame_taken, is_tick, is_silent}
 use Rattle.history_rules.specs.Leaves.{leaves_for}
 use Rattle.history_rules.specs.Setup.{Setup, is_correct_master, heard_from, leaves_used, room}
 use Rattle.history_rules.specs.Legal.{heard_in, says_in}
-use Rattle.agreement.proofs.Known.{hears, heard_step}
+use Rattle.agreement.proofs.KnownAsItGrows.{hears, heard_step}
 use Rattle.agreement.proofs.Places.{by_growth}
 use Rattle.words_in_place.specs.Laws.{ticks_heard}
 use Rattle.words_in_place.proofs.Limits.{filter_more}
-use Rattle.own_histories.specs.Lists.{AddsEntry}
+use Rattle.history_laws.specs.BenchLists.{AddsEntry}
 use Rattle.bench_rules.specs.Laws.{FewTicks, SilentSaysNothing, HeardNext, HeardSame}
 use Rattle.quorum_sets.proofs.MastersLemmas.{at_most_one}
 use Rattle.words_in_place.proofs.Signing.{rule_of as rule_if}

@@ -8,7 +8,7 @@ use Rattle.history_rules.specs.Legal.{heard_in}
 use Rattle.agreement.specs.Laws.{HasSizes}
 use Rattle.words_in_place.specs.Laws.{ticks_heard}
 use Rattle.words_in_place.specs.Signing.{SignsWell}
-use Rattle.own_histories.specs.Lists.{AddsEntry, IsBenchList}
+use Rattle.history_laws.specs.BenchLists.{AddsEntry, IsBenchList}
 use Rattle.bench_rules.specs.Lists.{frames_after}
 
 -- A correct master has no more ticks than entries.

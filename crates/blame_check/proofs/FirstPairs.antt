@@ -4,11 +4,10 @@ use Rattle.std.proofs.Common.{sym, ◌∙◌, ap, subst, inl, inr, append_assoc,
 use Rattle.std.proofs.lemmas.List.{append-nil}
 use Rattle.std.specs.List.{find}
 use Rattle.std.specs.Option.{option_map, option_or}
+use Rattle.plain_lists.specs.Lists.{IsIn, here, there}
+use Rattle.plain_lists.proofs.Members.{none_in, in_cons_cases, in_cases, find_some, some_same, none_some, in_left, in_first}
 use Rattle.message_types.specs.declared.signed.Signed.{Signed}
 use Rattle.message_types.specs.declared.body.Body.{Body}
-use Rattle.history_rules.specs.Audit.{IsIn, here, there}
-use Rattle.agreement.proofs.Lists.{none_in, in_cons_cases, in_cases, find_some, some_same, none_some, in_left}
-use Rattle.agreement.proofs.Lists.{in_first}
 use Rattle.agreement.proofs.Places.{by_growth}
 use Rattle.blame_check.specs.declared.pairs.Named.{Named}
 use Rattle.blame_check.specs.Contradictions.{are_rivals, contradict, pair_of, pair_with, first_pair}

@@ -11,14 +11,14 @@ use Rattle.std.proofs.lemmas.List.Sums.{prefix_len-le-length}
 use Rattle.std.proofs.lemmas.List.Folds.{list_any_more}
 use Rattle.std.specs.List.{cons_option, list_any, position_or_len, insert}
 use Rattle.std.specs.Option.{option_or}
+use Rattle.plain_lists.proofs.Members.{none_some, any_in, in_filter_map}
 use Rattle.quorum_sets.specs.Masters.{numbers_below}
 use Rattle.message_types.specs.declared.signed.Signed.{Signed}
 use Rattle.message_types.specs.declared.body.Body.{Body}
 use Rattle.blame_check.specs.declared.pairs.Named.{Named}
 use Rattle.blame_check.specs.Contradictions.{pair_of, rising, IsOwnPair}
-use Rattle.agreement.proofs.Lists.{none_some, any_in, in_filter_map}
 use Rattle.blame_check.proofs.FirstPairs.{or_none}
-use Rattle.agreement.proofs.Committed.{in_below}
+use Rattle.agreement.proofs.CommittedStays.{in_below}
 
 pub rising_zero : (f : ℕ → Option Named) → rising f 0 ≡ []
 unfolding numbers_below

@@ -7,7 +7,7 @@ use Rattle.message_types.specs.declared.signed.Signed.{Signed}
 use Rattle.message_types.specs.declared.body.Body.{Body}
 use Rattle.message_types.specs.declared.body.Body.TheVariants as body
 use Rattle.history_rules.specs.Sameness.{is_same_body}
-use Rattle.audit_counts.proofs.Same.{body_test}
+use Rattle.history_laws.proofs.Same.{body_test}
 use Rattle.blame_check.specs.Contradictions.{are_rivals, contradict}
 use Rattle.protocol_rules.specs.Keys.{Key, same_key}
 use Rattle.blame_check.specs.Slots.{Slot, key_for, slot_of, fills}

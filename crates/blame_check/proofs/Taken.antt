@@ -12,13 +12,13 @@ use Rattle.std.specs.declared.hash.FoldHasher.{FoldHasher}
 use Rattle.std.specs.declared.hash.BuildHasherDefault.{BuildHasherDefault}
 use Rattle.std.specs.declared.alloc.Global.{Global}
 use Rattle.std.specs.declared.vec.Vec.{Vec}
+use Rattle.plain_lists.specs.Lists.{IsIn}
+use Rattle.plain_lists.proofs.Members.{find_some, none_some}
 use Rattle.indexmap.specs.IndexMap.{get}
 use Rattle.message_types.specs.declared.signed.Signed.{Signed}
 use Rattle.message_types.specs.declared.body.Body.{Body}
-use Rattle.history_rules.specs.Audit.{IsIn}
 use Rattle.history_rules.specs.Sameness.{is_same_body}
-use Rattle.audit_counts.proofs.Same.{body_test}
-use Rattle.agreement.proofs.Lists.{find_some, none_some}
+use Rattle.history_laws.proofs.Same.{body_test}
 use Rattle.blame_check.specs.declared.pairs.Named.{Named}
 use Rattle.blame_check.specs.declared.blame.Blame.{Blame}
 use Rattle.blame_check.specs.Contradictions.{are_rivals, contradict, pair_of, pair_with, first_pair, rising, named}

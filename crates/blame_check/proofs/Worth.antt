@@ -4,6 +4,8 @@ use Rattle.std.proofs.Common.{Some, None, length, filter, nat_eq, nat_lt, refl, 
 use Rattle.std.proofs.Common.{eqb-true, eq-eqb}
 use Rattle.std.proofs.lemmas.Bool.{false≢true, and_parts, and_from, not-true}
 use Rattle.std.specs.List.{list_all, list_any, filter_map, flat_map, cons_option}
+use Rattle.plain_lists.specs.Lists.{IsIn}
+use Rattle.plain_lists.proofs.Members.{none_in, in_cases, in_flat_map_from, in_filter_map_from, any_from, all_at}
 use Rattle.quorum_sets.specs.Masters.{numbers_below, voters}
 use Rattle.quorum_sets.proofs.MastersLemmas.{voters_meet}
 use Rattle.message_types.specs.declared.signed.Signed.{Signed}
@@ -17,14 +19,13 @@ use Rattle.protocol_rules.specs.Master.{taken_frames}
 use Rattle.history_rules.specs.Events.{Event, Took, Entry, frame_taken}
 use Rattle.history_rules.specs.Setup.{Setup, is_correct_master, stands}
 use Rattle.history_rules.specs.Legal.{Stands, IsLegal, TakesWell}
-use Rattle.history_rules.specs.Audit.{IsIn, HasSaid, parts_taken, NothingForged}
+use Rattle.history_rules.specs.Audit.{HasSaid, parts_taken, NothingForged}
 use Rattle.history_rules.specs.Sameness.{is_same_body}
-use Rattle.agreement.proofs.Lists.{none_in, in_cases, in_flat_map_from, in_filter_map_from, any_from, all_at}
 use Rattle.agreement.proofs.Places.{said_whole, stands_in}
-use Rattle.agreement.proofs.Once.{correct_actor}
-use Rattle.agreement.proofs.Quorums.{below_from}
-use Rattle.agreement.proofs.Blame.{acknowledges_once, proposes_once, prepares_once, commits_once}
-use Rattle.audit_counts.proofs.Same.{body_test}
+use Rattle.agreement.proofs.SaidOnce.{correct_actor}
+use Rattle.agreement.proofs.QuorumsMeet.{below_from}
+use Rattle.agreement.proofs.SaidOneWay.{acknowledges_once, proposes_once, prepares_once, commits_once}
+use Rattle.history_laws.proofs.Same.{body_test}
 use Rattle.blame_check.specs.declared.pairs.Named.{Named}
 use Rattle.blame_check.specs.Contradictions.{are_rivals, first_pair, named}
 use Rattle.blame_check.specs.Laws.{words_taken, NamedContradict, ContraryAreNamed, has_commit, QuorumsNameMany}

@@ -2,6 +2,7 @@
 -- digests show f + 1 masters at fault is PBFT's argument for safety, turned round.)
 use Rattle.std.specs.Prelude.{◌≡◌, ℕ, ◌+◌, ◌<◌, ◌≤◌, Bool, true, ◌&&◌, List, length, nat_eq}
 use Rattle.std.specs.List.{flat_map, list_any}
+use Rattle.plain_lists.specs.Lists.{IsIn}
 use Rattle.quorum_sets.specs.Masters.{voters}
 use Rattle.message_types.specs.declared.signed.Signed.{Signed}
 use Rattle.message_types.specs.declared.body.Body.{Body}
@@ -11,7 +12,7 @@ use Rattle.protocol_rules.specs.Group.{Group}
 use Rattle.history_rules.specs.Events.{Entry}
 use Rattle.history_rules.specs.Setup.{Setup, is_correct_master}
 use Rattle.history_rules.specs.Legal.{IsLegal}
-use Rattle.history_rules.specs.Audit.{IsIn, parts_taken, NothingForged}
+use Rattle.history_rules.specs.Audit.{parts_taken, NothingForged}
 use Rattle.history_rules.specs.Sameness.{is_same_body}
 use Rattle.agreement.specs.Laws.{HasSizes}
 use Rattle.blame_check.specs.declared.pairs.Named.{Named}

@@ -18,7 +18,7 @@ use Rattle.field_proxy.specs.Front.{Front, fresh, polled, after_vote}
 use Rattle.field_proxy.specs.Happenings.{Vouched, front_after}
 use Rattle.history_rules.specs.Events.{Event, Took, Tick, Command, Field, Poll, Cry, Skip, Restart, Entry}
 use Rattle.history_rules.specs.Audit.{parts_taken}
-use Rattle.own_histories.specs.Lists.{IsBenchList}
+use Rattle.history_laws.specs.BenchLists.{IsBenchList}
 use Rattle.scenario_file.specs.Reading.{Contents}
 use Rattle.world_rules.specs.Clients.{happenings_of, device_of, front_of, desk_of}
 use Rattle.world_rules.specs.Scenarios.{proxies_in, setup_of}

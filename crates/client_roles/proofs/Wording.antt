@@ -7,6 +7,7 @@ use Rattle.std.specs.Option.{option_and_then}
 use Rattle.std.specs.List.{list_all, flat_map, range_with_len}
 use Rattle.std.proofs.lemmas.Bool.{and_from, and_parts, lt-ltb, ltb-true, ltb-false}
 use Rattle.std.proofs.lemmas.Option.{slice_get_within}
+use Rattle.plain_lists.proofs.Members.{some_same, none_some, in_flat_map_from}
 use Rattle.message_types.specs.declared.updates.Op.{Op}
 use Rattle.message_types.specs.declared.updates.Op.TheVariants as op
 use Rattle.message_types.specs.declared.body.Body.{Body}
@@ -23,7 +24,6 @@ use Rattle.field_proxy.specs.Readings.{is_i64, in_64_bits, given, was_said, read
 use Rattle.field_proxy.specs.Readings.{numbered}
 use Rattle.field_proxy.specs.Front.{Front}
 use Rattle.operator_screen.specs.Board.{Desk}
-use Rattle.agreement.proofs.Lists.{some_same, none_some, in_flat_map_from}
 use Rattle.words_in_place.proofs.Limits.{all_from, all_each}
 use Rattle.history_rules.specs.Events.{Event, Took, Tick, Command, Field, Poll, Cry, Skip, Restart, Entry}
 use Rattle.history_rules.specs.Setup.{room}

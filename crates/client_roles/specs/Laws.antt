@@ -12,7 +12,7 @@ use Rattle.scenario_file.specs.Valid.{IsScenario}
 use Rattle.history_rules.specs.Events.{Event, Entry}
 use Rattle.history_rules.specs.Setup.{room, leaves_used, signed_from, stands}
 use Rattle.history_rules.specs.Legal.{says_in}
-use Rattle.own_histories.specs.Lists.{AddsEntry, IsBenchList}
+use Rattle.history_laws.specs.BenchLists.{AddsEntry, IsBenchList}
 use Rattle.world_rules.specs.Clients.{front_of, desk_of, proxy_says, screen_says}
 use Rattle.world_rules.specs.Scenarios.{masters_in, proxies_in, setup_of}
 use Rattle.client_roles.specs.Roles.{carries_well}

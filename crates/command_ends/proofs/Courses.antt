@@ -1,12 +1,12 @@
 -- The steps of a command after one file more.
-use Rattle.std.proofs.Common.{◌≡◌, ◌≤◌, ℕ, List, [], ◌∷◌, ◌++◌, Option, Result, Ok, Err, sym, ◌∙◌, subst, ap, length}
+use Rattle.std.proofs.Common.{◌≡◌, ◌≤◌, ℕ, List, [], ◌∷◌, ◌++◌, Option, Result, Ok, Err, sym, subst, length}
 use Rattle.std.proofs.Common.{append_assoc, append-nil}
 use Rattle.std.specs.declared.vec.Vec.{Vec}
 use Rattle.std.specs.declared.alloc.Global.{Global}
 use Rattle.outside.specs.Faults.{HasRisen}
 use Rattle.command_ends.specs.Steps.{Step}
 use Rattle.command_ends.specs.Steps.Step.{Load, Gives, Refuses}
-use Rattle.command_ends.specs.Calls.{IsContent, IsTooLong, Loaded, Comes, TextCause, CountsStay, FaultsOfFiles}
+use Rattle.command_ends.specs.Calls.{IsContent, IsTooLong, Loaded, Comes, TextCause, CountsStay}
 use Rattle.command_ends.specs.Calls.{most_bytes}
 use Rattle.command_ends.specs.Loaded.{LoadCause}
 use Rattle.command_ends.specs.declared.refusal.Refusal.{Refusal}
@@ -115,21 +115,3 @@ load-failed next held first last before name refusal.NotVerified due cause = abs
 load-failed next held first last before name (refusal.NoAnswer lack) due cause = absurd cause
 load-failed next held first last before name (refusal.Pieces at) due cause = absurd cause
 load-failed next held first last before name refusal.Output due cause = absurd cause
-
--- the counts of faults are the same from before, where none rose until then
-pub faults-after : {V : Type 0} (first second last : List ℕ → ℕ) (result : Result V Refusal) →
-    CountsStay first second → FaultsOfFiles result second last
-    → FaultsOfFiles result first last
-faults-after first second last (Ok value) stay faults = λ name. faults name ∙ stay name
-faults-after first second last (Err (refusal.Fault failed)) stay faults = tt
-faults-after first second last (Err (refusal.TooLong long)) stay faults = λ name. faults name ∙ stay name
-faults-after first second last (Err refusal.Memory) stay faults = λ name. faults name ∙ stay name
-faults-after first second last (Err refusal.Usage) stay faults = λ name. faults name ∙ stay name
-faults-after first second last (Err (refusal.Scenario fault)) stay faults = λ name. faults name ∙ stay name
-faults-after first second last (Err (refusal.Script fault number)) stay faults = λ name. faults name ∙ stay name
-faults-after first second last (Err (refusal.Words fault number)) stay faults = λ name. faults name ∙ stay name
-faults-after first second last (Err (refusal.History fault number)) stay faults = λ name. faults name ∙ stay name
-faults-after first second last (Err refusal.NotVerified) stay faults = λ name. faults name ∙ stay name
-faults-after first second last (Err (refusal.NoAnswer lack)) stay faults = λ name. faults name ∙ stay name
-faults-after first second last (Err (refusal.Pieces at)) stay faults = λ name. faults name ∙ stay name
-faults-after first second last (Err refusal.Output) stay faults = λ name. faults name ∙ stay name

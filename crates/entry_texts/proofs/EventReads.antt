@@ -4,7 +4,7 @@ use Rattle.std.proofs.Common.{length-append}
 use Rattle.std.specs.Prelude.{IsTrue, IfOk, Option, None, Some, Result, Ok, Err}
 use Rattle.plain_lists.specs.declared.want.Want.{Want}
 use Rattle.wire_parts.specs.View.{View, Takes}
-use Rattle.wire_parts.specs.Fields.{u8_bytes, u64_bytes}
+use Rattle.wire_parts.specs.Fields.{u64_bytes}
 use Rattle.wire_parts.specs.FieldLaws.{length-u64_bytes, u64_bytes-inj}
 use Rattle.message_types.specs.declared.signed.Signed.{Signed}
 use Rattle.message_types.specs.declared.body.Body.{Body}
@@ -89,11 +89,6 @@ took_is ring rest s p text f is fs fp found = (
 )
 
 -- an event, by the number of its kind
-
-pub with_kind : (ring : Ring) (v w : View) (k n : ℕ) (r : Option KeptEvent) → Takes v w (u8_bytes k) → k ≡ n
-    → ReadsEvent ring (n ∷ w.rest) r → ReadsEvent ring v.rest r
-with_kind ring v w k n r takes is found =
-    subst (λ b. ReadsEvent ring b r) (sym (takes.bytes ∙ ap (λ m. m ∷ w.rest) is)) found
 
 -- an entry
 

@@ -4,6 +4,7 @@
 
 mod bits;
 pub mod device;
+pub mod laws;
 pub mod limits;
 mod registers;
 

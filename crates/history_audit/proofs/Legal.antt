@@ -3,6 +3,7 @@ use Rattle.std.proofs.Common.{◌≡◌, ℕ, ◌+◌, ◌-◌, ◌^◌, ◌<◌
 use Rattle.std.proofs.Common.{length-append, nat_lt, refl, sym, ◌∙◌, ap, subst, arith}
 use Rattle.std.specs.List.{list_all}
 use Rattle.std.proofs.lemmas.Bool.{false≢true, and_from, ltb-true}
+use Rattle.plain_lists.proofs.Members.{all_at, in_take}
 use Rattle.message_types.specs.declared.body.Body.{Body}
 use Rattle.message_types.specs.Spelling.{body_fits}
 use Rattle.scenario_file.specs.Reading.{Contents}
@@ -10,15 +11,14 @@ use Rattle.scenario_file.specs.Valid.{IsScenario}
 use Rattle.history_rules.specs.Events.{Event, Entry}
 use Rattle.history_rules.specs.Setup.{Setup, is_correct_master, room, own}
 use Rattle.history_rules.specs.Legal.{Stands, IsLegal, intruded_says, master_says, says_in}
-use Rattle.agreement.proofs.Lists.{all_at, in_take}
 use Rattle.agreement.proofs.Places.{stands_on, stands_in}
-use Rattle.own_histories.proofs.OwnEntries.{own_stands, own_of_legal}
+use Rattle.history_laws.proofs.OwnEntries.{own_stands, own_of_legal}
 use Rattle.world_rules.specs.Clients.{proxy_says, screen_says, front_of, desk_of}
 use Rattle.world_rules.specs.Scenarios.{masters_in, proxies_in, client_in, setup_of}
 use Rattle.world_rules.proofs.Fields.{setup_goes_by, sizes_of_group}
 use Rattle.world_rules.proofs.Signed.{signatures_sign}
-use Rattle.own_histories.specs.Lists.{IsBenchList}
-use Rattle.own_histories.proofs.BenchLists.{own_history_is_bench_list, intruded_say_nothing}
+use Rattle.history_laws.specs.BenchLists.{IsBenchList}
+use Rattle.history_laws.proofs.BenchLists.{own_history_is_bench_list, intruded_say_nothing}
 use Rattle.bench_rules.proofs.FramesStand.{master_words_fit}
 use Rattle.history_audit.specs.Legal.{LegalAreSpelled}
 use Rattle.history_rules.proofs.Entries.{all_from, own_fewer}

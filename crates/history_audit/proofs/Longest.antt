@@ -10,15 +10,15 @@ use Rattle.std.proofs.lemmas.List.Sums.{fold_push}
 use Rattle.std.specs.Bool.{Decides}
 use Rattle.std.specs.List.{list_all, filter_map, cons_option, starts_with}
 use Rattle.std.specs.Cmp.Lexicographic.{pointwise}
+use Rattle.plain_lists.specs.Lists.{IsIn, here, there}
+use Rattle.plain_lists.proofs.Members.{none_in, in_cons_cases, all_at}
 use lib.Pointwise.{pointwise_decides}
 use Rattle.message_types.specs.declared.updates.Update.{Update}
 use Rattle.quorum_sets.specs.Masters.{numbers_below}
 use Rattle.history_rules.specs.Setup.{is_correct_master}
 use Rattle.history_rules.specs.Legal.{executions}
-use Rattle.history_rules.specs.Audit.{IsIn, here, there}
 use Rattle.history_rules.specs.Sameness.{is_same_update}
-use Rattle.agreement.proofs.Lists.{none_in, in_cons_cases, all_at}
-use Rattle.audit_counts.proofs.Same.{update_test}
+use Rattle.history_laws.proofs.Same.{update_test}
 use Rattle.world_rules.specs.Headline.{are_prefixes, agrees}
 use Rattle.history_audit.specs.Prefixes.{all_prefixes, longer_of, longest, begins_if, AgreesByLists}
 use Rattle.plain_lists.proofs.Booleans.{same_truth}

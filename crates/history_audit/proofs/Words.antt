@@ -16,7 +16,7 @@ use Rattle.message_types.specs.declared.body.Body.{Body}
 use Rattle.history_rules.specs.Events.{Entry}
 use Rattle.history_rules.specs.Sameness.{is_same_body}
 use Rattle.history_rules.specs.Counts.{has_said}
-use Rattle.audit_counts.proofs.Same.{body_test}
+use Rattle.history_laws.proofs.Same.{body_test}
 use Rattle.protocol_rules.proofs.Keys.{same_key-same}
 use Rattle.protocol_rules.specs.Keys.{Key, same_key}
 use Rattle.history_audit.specs.Said.{key_of, WordMap, lent, bodies_at, words_said, was_said, HasWords}

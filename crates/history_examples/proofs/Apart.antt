@@ -1,7 +1,7 @@
 -- Of two lists that begin with updates of different clients neither begins the other.
 use Rattle.std.proofs.Common.{◌≡◌, ℕ, List, [], ◌∷◌, ap, inl, inr, ◌⊎◌, arith}
+use Rattle.plain_lists.specs.Lists.{Begins}
 use Rattle.message_types.specs.declared.updates.Update.{Update}
-use Rattle.agreement.specs.Laws.{Begins}
 use Rattle.history_examples.specs.Words.{update, other_update}
 
 abbrev first_client : List Update → ℕ

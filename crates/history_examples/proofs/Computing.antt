@@ -24,9 +24,9 @@ use Rattle.history_rules.specs.Legal.{IsLegal, heard_in, known_of}
 use Rattle.history_rules.specs.Audit.{NothingForged, NoSharedDigest}
 use Rattle.history_rules.specs.Counts.{forged, alike, intruded_masters}
 use Rattle.agreement.specs.Laws.{HasSizes, IsSound}
-use Rattle.audit_counts.proofs.Forged.{forged_counts}
-use Rattle.audit_counts.proofs.Alike.{alike_counts}
-use Rattle.audit_counts.proofs.Sound.{sound_by_counts}
+use Rattle.history_laws.proofs.Forged.{forged_counts}
+use Rattle.history_laws.proofs.Alike.{alike_counts}
+use Rattle.history_laws.proofs.Sound.{sound_by_counts}
 use Rattle.history_examples.specs.Signing.{four_masters}
 use Rattle.history_examples.proofs.Minds.{short_answers, short_says, each_says}
 use Rattle.history_examples.proofs.Entries.{each_may_come, legal_history}

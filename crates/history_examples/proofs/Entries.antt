@@ -8,7 +8,7 @@ use Rattle.history_rules.specs.Events.{Event, Entry, Took}
 use Rattle.history_rules.specs.Setup.{Setup, stands, own}
 use Rattle.history_rules.specs.Keeping.{is_halted}
 use Rattle.history_rules.specs.Legal.{says, TakesWell, IsLegalEntry, IsLegal}
-use Rattle.own_histories.proofs.EntryByEntry.{none_is_legal, one_more_is_legal}
+use Rattle.history_laws.proofs.EntryByEntry.{none_is_legal, one_more_is_legal}
 use Rattle.history_examples.proofs.Minds.{EachSays, each_says, says_by_minds}
 
 -- all that legality asks of an entry but what was said

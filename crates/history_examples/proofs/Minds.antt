@@ -32,8 +32,8 @@ use Rattle.history_rules.specs.Events.{Event, Entry, frame_taken, is_tick, is_si
 use Rattle.history_rules.specs.Setup.{Setup, room, own, signed_from, leaves_used}
 use Rattle.history_rules.specs.Legal.{heard, intruded_says, says_in, says}
 use Rattle.history_rules.specs.Sameness.{is_same_body}
-use Rattle.audit_counts.proofs.Same.{body_test}
-use Rattle.agreement.proofs.Known.{hears, heard_then, heard_other, heard_silent}
+use Rattle.history_laws.proofs.Same.{body_test}
+use Rattle.agreement.proofs.KnownAsItGrows.{hears, heard_then, heard_other, heard_silent}
 use Rattle.history_examples.proofs.Short.{short_acks, short_gives, short_gives_ordered, acks_same, gives_same}
 use Rattle.history_examples.proofs.Short.{gives_ordered_same, short_gap, gap_same}
 

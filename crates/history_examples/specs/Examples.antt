@@ -1,5 +1,6 @@
 -- What the examples show of the laws of agreement: that their premises can be met, and that they are needed.
 use Rattle.std.specs.Prelude.{◌≡◌, ℕ, ◌⊎◌, ◌+◌, true, false, List, [], ◌∷◌, length}
+use Rattle.plain_lists.specs.Lists.{Begins}
 use Rattle.message_types.specs.declared.updates.Update.{Update}
 use Rattle.protocol_rules.specs.Group.{leader_of}
 use Rattle.history_rules.specs.Events.{Entry}
@@ -8,7 +9,7 @@ use Rattle.history_rules.specs.Keeping.{is_halted}
 use Rattle.history_rules.specs.Legal.{IsLegalEntry, IsLegal, executions, view_by}
 use Rattle.history_rules.specs.Audit.{NothingForged, NoSharedDigest}
 use Rattle.history_rules.specs.Counts.{forged, intruded_masters}
-use Rattle.agreement.specs.Laws.{HasSizes, IsSound, Begins}
+use Rattle.agreement.specs.Laws.{HasSizes, IsSound}
 use Rattle.history_examples.specs.Words.{update, other_update}
 use Rattle.history_examples.specs.Plain as plain
 use Rattle.history_examples.specs.Relayed as relayed

@@ -6,9 +6,9 @@ use Rattle.std.proofs.lemmas.Bool.{eq-eqb, ne_eqb, and_from}
 use Rattle.std.proofs.lemmas.List.Elements.{filter-append}
 use Rattle.std.proofs.lemmas.List.{append-nil}
 use Rattle.std.specs.List.{list_all}
+use Rattle.plain_lists.specs.Lists.{IsIn, here, there}
 use Rattle.history_rules.specs.Events.{Entry}
 use Rattle.history_rules.specs.Setup.{own}
-use Rattle.history_rules.specs.Audit.{IsIn, here, there}
 
 pub own_fewer : (history : List Entry) (actor : ℕ) → length (own history actor) ≤ length history
 unfolding own

@@ -3,6 +3,7 @@
 -- the two stand in place of what can't be proved of signatures and of SHA-256.)
 use Rattle.std.specs.Prelude.{◌≡◌, ℕ, ◌≤◌, true, List, [], ◌∷◌, ◌++◌, length, map}
 use Rattle.std.specs.List.{flat_map}
+use Rattle.plain_lists.specs.Lists.{IsIn}
 use Rattle.sha2.specs.Sha256.{sha256}
 use Rattle.message_types.specs.declared.signed.Signed.{Signed}
 use Rattle.message_types.specs.declared.body.Body.{Body}
@@ -17,11 +18,6 @@ use Rattle.protocol_rules.specs.Plans.{plan_of}
 use Rattle.history_rules.specs.Events.{Entry, frame_taken}
 use Rattle.history_rules.specs.Setup.{Setup, is_correct}
 use Rattle.history_rules.specs.Legal.{Stands}
-
--- x is one of the list
-pub data IsIn {X : Type 0} (x : X) : List X → Type 0 where
-  here : (rest : List X) → IsIn x (x ∷ rest)
-  there : (y : X) (rest : List X) → IsIn x rest → IsIn x (y ∷ rest)
 
 -- the actor said the body at an entry of this history
 pub record HasSaid (history : List Entry) (actor : ℕ) (b : Body) : Type 0 where

@@ -1,5 +1,5 @@
 -- Whether two bodies are one and the same, part by part, frames with their signatures. (That this is equality is a law
--- of the crate audit_counts.)
+-- of the crate history_laws.)
 use Rattle.std.specs.Prelude.{ℕ, Bool, false, ◌&&◌, List, nat_eq}
 use Rattle.std.specs.Cmp.Lexicographic.{pointwise}
 use Rattle.std.specs.Ordering.{int_eq}

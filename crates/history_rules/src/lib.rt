@@ -2,6 +2,7 @@
 //! its entries, which histories are legal, and what an audit finds in one.
 #![tactic(auto)]
 
+pub mod laws;
 pub mod limits;
 
 pub use limits::MOST_SHARING;

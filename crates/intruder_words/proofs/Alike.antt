@@ -9,6 +9,8 @@ use Rattle.std.proofs.Math.Path.{fun_ext}
 use Rattle.std.proofs.lemmas.Bool.{and_parts, and_from, eq-eqb, true≢false}
 use Rattle.std.proofs.lemmas.Grind.{flat_map-append}
 use Rattle.std.proofs.lemmas.List.Elements.{filter-append}
+use Rattle.plain_lists.specs.Lists.{IsIn, here, there}
+use Rattle.plain_lists.proofs.Members.{any_in}
 use Rattle.message_types.specs.declared.signed.Signed.{Signed}
 use Rattle.message_types.specs.declared.ordering.Prepare.{Prepare}
 use Rattle.message_types.specs.declared.ordering.Commit.{Commit}
@@ -27,8 +29,6 @@ use Rattle.protocol_rules.specs.Facts.{tells, facts_of, rows_in, rows_known}
 use Rattle.protocol_rules.specs.Order.{prepare_by, commit_by, first_votes, is_voted, quorum_of, prepared, ordered}
 use Rattle.protocol_rules.specs.Order.{commit_views, is_committed, certificate_of, certificate_at}
 use Rattle.protocol_rules.specs.Reconcile.{committed_views}
-use Rattle.history_rules.specs.Audit.{IsIn, here, there}
-use Rattle.agreement.proofs.Lists.{any_in}
 use Rattle.global_order.specs.Giving.{last_view, whole_order, given_order}
 use Rattle.global_order.proofs.Booleans.{find-append}
 use Rattle.play_words.specs.declared.words.Item.{Item}

@@ -6,6 +6,8 @@ use Rattle.std.specs.Str.{bytes_eq}
 use Rattle.std.proofs.Math.Path.{fun_ext}
 use Rattle.std.proofs.lemmas.List.Elements.{filter-append}
 use Rattle.std.proofs.lemmas.Map.Views.{any-filter_same}
+use Rattle.plain_lists.specs.Lists.{IsIn, Within}
+use Rattle.plain_lists.proofs.Members.{in_left}
 use Rattle.message_types.specs.declared.signed.Signed.{Signed}
 use Rattle.message_types.specs.declared.body.Body.{Body}
 use Rattle.message_types.specs.declared.body.Body.TheVariants as body
@@ -14,8 +16,6 @@ use Rattle.quorum_sets.specs.Quorum.{has_quorum}
 use Rattle.protocol_rules.specs.Words.{or_else, first_met}
 use Rattle.protocol_rules.specs.Group.{Group}
 use Rattle.protocol_rules.specs.Preorder.{certified, is_ack, is_acked, update_requested, updates_requested}
-use Rattle.history_rules.specs.Audit.{IsIn}
-use Rattle.agreement.proofs.Lists.{Within, in_left}
 use Rattle.intruder_words.specs.Certifying.{is_about, first_acked}
 use Rattle.protocol_rules.proofs.FirstMet.{met-again}
 use Rattle.plain_lists.proofs.Lists.{filter_map-filter}

@@ -3,6 +3,9 @@ use Rattle.std.proofs.Common.{◌≡◌, ℕ, ◌≤◌, true, ◌&&◌, List, [
 use Rattle.std.proofs.Common.{sym, ◌∙◌, ap, subst, inl, inr, arith, append-nil}
 use Rattle.std.specs.List.{list_all, find, filter_map, take-map}
 use Rattle.std.proofs.lemmas.Bool.{and_parts, and_from, le-leb}
+use Rattle.plain_lists.specs.Lists.{IsIn}
+use Rattle.plain_lists.proofs.Members.{none_in, in_cons_cases, in_map_from, in_filter_map_from, in_take, find_some, all_at}
+use Rattle.protocol_rules.proofs.FirstMet.{first_in, first_met_from}
 use Rattle.message_types.specs.declared.signed.Signed.{Signed}
 use Rattle.message_types.specs.declared.preordering.PoSummary.{PoSummary}
 use Rattle.message_types.specs.declared.ordering.Certificate.{Certificate}
@@ -21,12 +24,10 @@ use Rattle.protocol_rules.specs.Group.{Group}
 use Rattle.protocol_rules.specs.Matrix.{rows_of_frames}
 use Rattle.protocol_rules.specs.Facts.{facts_of, rows_known}
 use Rattle.protocol_rules.specs.Order.{prepare_by, commit_by, mark_by, is_voted, quorum_of, prepared, ordered}
-use Rattle.history_rules.specs.Audit.{IsIn, rows_held}
-use Rattle.agreement.proofs.Lists.{none_in, in_cons_cases, in_map_from, in_filter_map_from, in_take, first_in}
-use Rattle.agreement.proofs.Lists.{find_some, all_at, first_met_from}
-use Rattle.agreement.proofs.Quorums.{Rising, rising_take, rising_by_master}
-use Rattle.agreement.proofs.Inside.{fact_from, rows_from, rows_more, prepare_by_from, commit_by_from}
-use Rattle.agreement.proofs.Good.{ordered_from}
+use Rattle.history_rules.specs.Audit.{rows_held}
+use Rattle.agreement.proofs.QuorumsMeet.{Rising, rising_take, rising_by_master}
+use Rattle.agreement.proofs.FramesInside.{fact_from, rows_from, rows_more, prepare_by_from, commit_by_from}
+use Rattle.agreement.proofs.LearnedInPlace.{ordered_from}
 use Rattle.view_change.specs.Planning.{is_spelled}
 use Rattle.words_in_place.proofs.Limits.{all_from}
 use Rattle.words_in_place.proofs.Ordering.{mark_by_at}

@@ -6,11 +6,6 @@ use Rattle.std.proofs.lemmas.List.{map-append}
 use Rattle.intruder_words.specs.Speaking.{all_of}
 use Rattle.intruder_words.proofs.Walks.{take-next}
 
-none-in : {X : Type 0} (xs : List (Option X)) (ys : List (Option X)) → all_of (xs ++ None ∷ ys) ≡ None
-none-in [] ys = refl
-none-in (None ∷ xs) ys = refl
-none-in {X} (Some x ∷ xs) ys = ap (option_map (λ zs. x ∷ zs)) (none-in xs ys)
-
 more_step : {X : Type 0} (y : X) (xs : List (Option X)) (found : List X) (x : X) (o : Option (List X)) →
     all_of xs ≡ o → option_map (λ zs. y ∷ zs) o ≡ Some found →
     ((zs : List X) → all_of xs ≡ Some zs → all_of (xs ++ Some x ∷ []) ≡ Some (zs ++ x ∷ [])) →

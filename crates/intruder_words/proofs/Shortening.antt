@@ -10,6 +10,8 @@ use Rattle.std.proofs.lemmas.Bool.{and_parts, and_from, eq-eqb, leb-true, leb-fa
 use Rattle.std.proofs.lemmas.Grind.{flat_map-append}
 use Rattle.std.proofs.lemmas.List.{map-append, take_all}
 use Rattle.std.proofs.lemmas.List.Elements.{filter-append}
+use Rattle.plain_lists.specs.Lists.{IsIn, here, there}
+use Rattle.plain_lists.proofs.Members.{none_in, in_cons_cases, in_left, in_right, in_cases, in_filter, in_filter_from}
 use Rattle.message_types.specs.declared.signed.Signed.{Signed}
 use Rattle.message_types.specs.declared.ordering.Certificate.{Certificate}
 use Rattle.message_types.specs.declared.views.Report.{Report}
@@ -20,8 +22,6 @@ use Rattle.protocol_rules.specs.Group.{Group}
 use Rattle.protocol_rules.specs.Plans.{goes_before, certificates_of, chosen, planned, no_rows, base_of, last_of}
 use Rattle.protocol_rules.specs.Plans.{plan_of}
 use Rattle.view_change.specs.Planning.{is_for, is_spelled}
-use Rattle.history_rules.specs.Audit.{IsIn, here, there}
-use Rattle.agreement.proofs.Lists.{none_in, in_cons_cases, in_left, in_right, in_cases, in_filter, in_filter_from}
 use Rattle.intruder_words.specs.Telling.{HasSameRows, bare, report_on, rows_for}
 use Rattle.intruder_words.specs.Numbering.{lesser, IsNextNumber}
 use Rattle.intruder_words.proofs.Walks.{take-next}

@@ -1,7 +1,7 @@
 -- Lists gone over from the front: what one element more adds.
-use Rattle.std.proofs.Common.{◌≡◌, ℕ, ◌+◌, ◌-◌, zero, suc, ◌<◌, Bool, true, false, ◌||◌, List, [], ◌∷◌, ◌++◌, Option}
+use Rattle.std.proofs.Common.{◌≡◌, ℕ, ◌+◌, ◌-◌, zero, suc, ◌<◌, List, [], ◌∷◌, ◌++◌, Option}
 use Rattle.std.proofs.Common.{Some, None, ◌≤◌, length, take, drop, get_or, refl, sym, ◌∙◌, ap, arith, add-one}
-use Rattle.std.specs.List.{list_any, filter_map, cons_option}
+use Rattle.std.specs.List.{filter_map, cons_option}
 use Rattle.std.proofs.lemmas.List.{take_all, get_or_default}
 use Rattle.protocol_rules.specs.Words.{or_else, first_met}
 use Rattle.protocol_rules.proofs.FirstMet.{met-again}
@@ -16,15 +16,6 @@ take-suc (y ∷ xs) (suc i) x below is = ap (λ zs. y ∷ zs) (take-suc xs i x (
 pub take-next : {X : Type 0} (xs : List X) (i : ℕ) (x : X) → i < length xs → x ≡ get_or xs i x →
     take (i + 1) xs ≡ take i xs ++ x ∷ []
 take-next xs i x below is = ap (λ n. take n xs) (add-one i) ∙ take-suc xs i x below is
-
-pub any-append : {X : Type 0} (p : X → Bool) (xs ys : List X) → list_any p (xs ++ ys) ≡ (list_any p xs || list_any p ys)
-any-append p [] ys = refl
-any-append {X} p (x ∷ xs) ys = by (p x) (any-append p xs ys)
-  where
-    by : (b : Bool) → list_any p (xs ++ ys) ≡ (list_any p xs || list_any p ys) →
-        (b || list_any p (xs ++ ys)) ≡ ((b || list_any p xs) || list_any p ys)
-    by true e = refl
-    by false e = e
 
 -- the first of what a function gives, once it gave nothing before
 pub first_none : {X Y : Type 0} (f : X → Option Y) (xs ys : List X) → filter_map f xs ≡ [] →
@@ -76,7 +67,3 @@ met-end {F} {X} met xs i over = ap (λ (zs : List F). first_met met (take i xs) 
 
 pub met-start : {F X : Type 0} (met : List F → Option X) (xs : List F) → met_from met xs 0 ≡ first_met met [] xs
 met-start met xs = refl
-
--- a slice up to a place is the beginning of that length
-pub up_to : {X : Type 0} (xs : List X) (n : ℕ) → take (n - 0) xs ≡ take n xs
-up_to xs n = ap (λ k. take k xs) (let e : n - 0 ≡ n = omega arith in e)

@@ -7,6 +7,9 @@ use Rattle.std.specs.List.{list_all, list_any, filter_map}
 use Rattle.std.specs.Option.{option_map, option_and_then, IfSome}
 use Rattle.std.proofs.lemmas.Bool.{and_parts, and_from}
 use Rattle.std.proofs.lemmas.List.{length-map}
+use Rattle.plain_lists.specs.Lists.{IsIn, here, there}
+use Rattle.plain_lists.proofs.Members.{in_filter_map_from, in_filter_from, in_cons_cases, none_some, some_same}
+use Rattle.protocol_rules.proofs.FirstMet.{first_in}
 use Rattle.message_types.specs.declared.signed.Signed.{Signed}
 use Rattle.message_types.specs.declared.updates.Update.{Update}
 use Rattle.message_types.specs.declared.preordering.PoRequest.{PoRequest}
@@ -30,11 +33,9 @@ use Rattle.protocol_rules.specs.Preorder.{certified}
 use Rattle.protocol_rules.specs.Order.{prepared, ordered, certificate_of, is_voted, mark_by, quorum_of, marks_at}
 use Rattle.protocol_rules.specs.Reconcile.{request_of, ack_of, quorum_of_acks}
 use Rattle.global_order.specs.Giving.{whole_order, given_order, last_view}
-use Rattle.history_rules.specs.Audit.{IsIn, here, there}
 use Rattle.history_rules.specs.Sameness.{is_same_body}
-use Rattle.agreement.proofs.Lists.{in_filter_map_from, in_filter_from, first_in, in_cons_cases, none_some, some_same}
-use Rattle.agreement.proofs.Spoken.{if_some}
-use Rattle.agreement.proofs.Inside.{option_map_from}
+use Rattle.agreement.proofs.SpokenByKind.{if_some}
+use Rattle.agreement.proofs.FramesInside.{option_map_from}
 use Rattle.words_in_place.proofs.Limits.{slice_in}
 use Rattle.words_in_place.proofs.Requesting.{ack_from_word}
 use Rattle.play_words.specs.declared.words.Item.{Item}

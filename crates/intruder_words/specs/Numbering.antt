@@ -1,7 +1,7 @@
 -- The numbers of certificates, one after another.
 use Rattle.std.specs.Prelude.{◌≡◌, ◌≤◌, ◌<◌, ◌⊎◌, ℕ, List, Option, Some, None, ◌||◌, nat_le, if◌then◌else◌}
+use Rattle.plain_lists.specs.Lists.{IsIn}
 use Rattle.message_types.specs.declared.ordering.Certificate.{Certificate}
-use Rattle.history_rules.specs.Audit.{IsIn}
 
 -- the lesser of a number and one more, where that is above `at`
 abbrev pub lesser : ℕ → Option ℕ → ℕ → Option ℕ

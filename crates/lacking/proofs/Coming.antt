@@ -14,9 +14,9 @@ use Rattle.quorum_sets.proofs.Numbered.{below_none_at, below_one_more}
 use Rattle.protocol_rules.specs.declared.facts.OrderFact.{OrderFact}
 use Rattle.protocol_rules.specs.declared.facts.OrderFact.TheVariants as fact
 use Rattle.protocol_rules.specs.Group.{Group}
+use Rattle.protocol_rules.specs.Words.{greatest_reached}
 use Rattle.protocol_rules.specs.Lacking.{reached_by, committed_to, some_committed_to}
 use Rattle.protocol_rules.proofs.Greatest.{greatest-push, or_zero}
-use Rattle.summary_matrix.specs.Held as held
 use Rattle.summary_matrix.proofs.Falling.{ranked-reached}
 use Rattle.lacking.specs.Come.{FurthestState, IsFurthestOf}
 
@@ -87,11 +87,11 @@ numbers_told f (suc n) numbers many told =
 
 pub some_come : (g : Group) (state : FurthestState) (facts : List OrderFact) (numbers : List ℕ) →
     numbers ≡ take state.group.n state.numbers → state.group.n ≤ length state.numbers → IsFurthestOf g state facts →
-    held.reached_by (state.group.f + 1) numbers ≡ some_committed_to g facts
+    greatest_reached (state.group.f + 1) numbers ≡ some_committed_to g facts
 some_come g state facts numbers first many is =
     let masters : state.group.n ≡ g.n = is.masters in
-    ap (λ f. held.reached_by (f + 1) numbers) is.intruded
-    ∙ ap (held.reached_by (g.f + 1)) (first ∙ ap (λ n. take n state.numbers) is.masters
+    ap (λ f. greatest_reached (f + 1) numbers) is.intruded
+    ∙ ap (greatest_reached (g.f + 1)) (first ∙ ap (λ n. take n state.numbers) is.masters
     ∙ numbers_told (committed_to facts) g.n state.numbers (omega arith) is.numbers)
     ∙ ranked-reached (map (committed_to facts) (numbers_below g.n)) g.f
 

@@ -1,15 +1,14 @@
 ghost use Rattle.std.specs.Prelude.{◌≡◌, ◌≤◌, ◌%◌, ◌&&◌, [], nat_eq, reverse, if◌then◌else◌};
 ghost use Rattle.quorum_sets.specs.declared.limits.TheConstants.{MOST_MASTERS};
 ghost use Rattle.protocol_rules.specs.Group.{Group};
+ghost use Rattle.protocol_rules.specs.declared.limits.TheConstants.{SHOWN_STEP};
 ghost use Rattle.lacking.specs.Earlier.{IsShownOf, IsTold, Where, TellsBelow};
 ghost use Rattle.protocol_rules.specs.Lacking.{shown_before};
 ghost use Rattle.protocol_rules.specs.Patience.{ticks_in};
 
+use protocol_rules::SHOWN_STEP;
 use std::marker::Model;
 use summary_matrix::Reach;
-
-/// What the summaries show at every so many ticks is kept.
-const SHOWN_STEP: u64 = 4;
 
 /// What `f + 1` of a master's latest summaries had certified at the last tick that is a multiple of 4, and at the last one
 /// before the present moment.
@@ -57,7 +56,7 @@ impl ShownBefore {
 }
 
 fn kept_at(now: u64, at_tick: bool, latest: &Reach, shown: &Reach) -> Reach
-    ensures { result ≡ (if at_tick && nat_eq (now % 4) 0 then shown.now else latest.now) }
+    ensures { result ≡ (if at_tick && nat_eq (now % SHOWN_STEP) 0 then shown.now else latest.now) }
 {
     if at_tick && now % SHOWN_STEP == 0 {
         *shown

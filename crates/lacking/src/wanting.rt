@@ -2,14 +2,11 @@ ghost use Rattle.std.specs.Prelude.{◌≡◌, ◌+◌, ◌<◌, ◌%◌, ◌^�
 ghost use Rattle.message_types.specs.declared.body.Body.{Body};
 ghost use Rattle.protocol_rules.specs.declared.facts.OrderFact.{OrderFact};
 ghost use Rattle.protocol_rules.specs.Group.{Group};
+ghost use Rattle.protocol_rules.specs.declared.limits.TheConstants.{LONG_WAIT, BLIND_STEP};
 ghost use Rattle.protocol_rules.specs.Lacking as rule;
 ghost use Rattle.lacking.specs.Stands.{IsStanding};
 
-/// A master that has waited for longer than this, in ticks, asks for numbers.
-const LONG_WAIT: u64 = 16;
-
-/// At every so many ticks the next number is asked for, whatever is known of it.
-const BLIND_STEP: u64 = 128;
+use protocol_rules::{BLIND_STEP, LONG_WAIT};
 
 /// Where a master stands with the numbers.
 #[derive(Clone, Copy)]
@@ -38,14 +35,14 @@ pub fn wanted_to(standing: Standing, waiting: u64, now: u64) -> u64
 
 /// Whether it wants the numbers that others have.
 fn is_behind(standing: Standing, waiting: u64) -> bool
-    ensures { result ≡ (nat_lt 16 waiting || nat_lt standing.gapless standing.base) }
+    ensures { result ≡ (nat_lt LONG_WAIT waiting || nat_lt standing.gapless standing.base) }
 {
     waiting > LONG_WAIT || standing.gapless < standing.base
 }
 
 /// Whether it wants the next number, even where nobody is known to have it.
 fn is_next_wanted(standing: Standing, waiting: u64, now: u64) -> bool
-    ensures { result ≡ (nat_lt 16 waiting || (nat_eq (now % 128) 0 || standing.is_next_after_ask)) }
+    ensures { result ≡ (nat_lt LONG_WAIT waiting || (nat_eq (now % BLIND_STEP) 0 || standing.is_next_after_ask)) }
 {
     waiting > LONG_WAIT || now % BLIND_STEP == 0 || standing.is_next_after_ask
 }

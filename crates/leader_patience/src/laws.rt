@@ -1,4 +1,4 @@
-ghost use Rattle.std.specs.Prelude.{◌≡◌, ℕ, List, filter};
+ghost use Rattle.std.specs.Prelude.{List, filter};
 ghost use Rattle.message_types.specs.declared.signed.Signed.{Signed};
 ghost use Rattle.message_types.specs.declared.body.Body.{Body};
 ghost use Rattle.protocol_rules.specs.Group.{Group};

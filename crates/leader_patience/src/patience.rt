@@ -9,23 +9,11 @@ ghost use Rattle.leader_patience.specs.PatienceState.{IsPatienceOf, Learns, Says
 
 use message_types::{Body, Suspect};
 use plain_lists::{Want, extend_option};
-use protocol_rules::MOST_VIEW;
+use protocol_rules::{BEAT, FIRST_PATIENCE, FORGIVEN_STEP, MOST_DOUBLINGS, MOST_VIEW};
 use quorum_sets::{MASTER_PLACES, Sizes};
 use std::alloc::Global;
 use std::marker::Model;
 use suspect_leader::ranked::Ranked;
-
-/// The wait above which a master votes in the first views, in ticks.
-const FIRST_PATIENCE: u64 = 32;
-
-/// Patience is doubled no more often than this.
-const MOST_ROUNDS: u64 = 16;
-
-/// One view is forgiven for each so many ticks.
-const FORGIVEN_STEP: u64 = 1024;
-
-/// While patience is at its end, a vote is said again at every so many ticks.
-const BEAT: u64 = 16;
 
 /// How far each master voted, as one more than the greatest view that it voted against, and how far this one did: against
 /// each view below that.
@@ -100,7 +88,7 @@ impl Patience {
         ensures { Where self.now (λ g known said. result ≡ patience_of g view now) }
     {
         let unforgiven = view.saturating_sub(now / FORGIVEN_STEP);
-        let rounds = (unforgiven / u64::from(self.sizes.n)).min(MOST_ROUNDS);
+        let rounds = (unforgiven / u64::from(self.sizes.n)).min(MOST_DOUBLINGS);
         FIRST_PATIENCE << rounds
     }
 

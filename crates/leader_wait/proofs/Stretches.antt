@@ -1,7 +1,7 @@
 -- Why the demands kept tell how long a master waits. A moment more adds its ticks to the wait, where something lacked before,
 -- and else the wait begins with it; the same goes for a demand more. A demand for the same as the last one adds nothing, since
 -- where it lacks something the last one does. And a demand of which all is ordered may go, since it stays so.
-use Rattle.std.proofs.Common.{◌≡◌, ℕ, zero, suc, ◌+◌, ◌-◌, ◌<◌, ◌≤◌, Bool, true, false, cond, not, ◌&&◌, ◌||◌, List, []}
+use Rattle.std.proofs.Common.{◌≡◌, ℕ, zero, suc, ◌+◌, ◌-◌, ◌<◌, ◌≤◌, Bool, true, false, cond, ◌&&◌, ◌||◌, List, []}
 use Rattle.std.proofs.Common.{◌∷◌, ◌++◌, filter, reverse, length, get_or, nat_eq, nat_le, nat_lt, refl, sym, ◌∙◌, ap}
 use Rattle.std.proofs.Common.{subst, inl, inr, ◌⊎◌, arith}
 use Rattle.std.specs.List.{list_any, list_all}
@@ -201,16 +201,13 @@ since-later p now t (x ∷ rest) times any =
     by false both e more = more both.1 e
 
 -- the last demand lacks something where one for the same does
-bytes_same : (xs ys : List ℕ) → bytes_eq xs ys ≡ true → xs ≡ ys
-bytes_same xs ys e = (bytes_eq-Decides xs ys).0 e
-
 last_unmet : (n : ℕ) (later : ℕ → ℕ) (ws : List Demand) (w : Demand) → ends_with ws w.eligible.numbers ≡ true →
     is_unmet n later w ≡ true → list_any (is_unmet n later) ws ≡ true
 last_unmet n later [] w ends lacking = absurd (true≢false (sym ends))
 last_unmet n later (x ∷ []) w ends lacking =
     or_left (is_unmet n later x) false
     (ap (λ (es : List ℕ). list_any (λ j. nat_lt (later j) (get_or es j 0)) (numbers_below n))
-    (bytes_same x.eligible.numbers w.eligible.numbers ends) ∙ lacking)
+    ((bytes_eq-Decides x.eligible.numbers w.eligible.numbers).0 ends) ∙ lacking)
 last_unmet n later (x ∷ y ∷ rest) w ends lacking =
     or_right (is_unmet n later x) (list_any (is_unmet n later) (y ∷ rest)) (last_unmet n later (y ∷ rest) w ends lacking)
 

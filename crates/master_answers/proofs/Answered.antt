@@ -1,6 +1,6 @@
 -- Whose ask is answered at an event: that of the frame taken, just where something is given. A gift gives what it was asked
 -- for, so that the words said answer the ask where the gift isn't empty.
-use Rattle.std.proofs.Common.{◌≡◌, ℕ, Bool, true, false, cond, ◌&&◌, ◌||◌, not, List, [], ◌∷◌, ◌++◌, Option, Some, None}
+use Rattle.std.proofs.Common.{◌≡◌, ℕ, Bool, true, false, cond, ◌&&◌, List, [], ◌∷◌, ◌++◌, Option, Some, None}
 use Rattle.std.proofs.Common.{filter, nat_eq, refl, sym, ◌∙◌, ap, subst}
 use Rattle.std.specs.List.{list_any, filter_map}
 use Rattle.std.proofs.lemmas.Bool.{and_parts, eq-eqb}
@@ -10,21 +10,21 @@ use Rattle.message_types.specs.declared.preordering.PoRequest.{PoRequest}
 use Rattle.message_types.specs.declared.updates.Update.{Update}
 use Rattle.message_types.specs.declared.body.Body.{Body}
 use Rattle.message_types.specs.declared.body.Body.TheVariants as body
-use Rattle.message_types.specs.Digests.{digest_of_update}
 use Rattle.message_types.specs.Texts.{update_text}
 use Rattle.std.specs.Str.{bytes_eq}
+use Rattle.plain_lists.proofs.Members.{in_filter_map_from, none_some}
+use Rattle.protocol_rules.proofs.FirstMet.{first_in}
 use Rattle.protocol_rules.specs.declared.facts.OrderFact.{OrderFact}
 use Rattle.protocol_rules.specs.Words.{first_of_list}
 use Rattle.protocol_rules.specs.Group.{Group}
 use Rattle.protocol_rules.specs.Preorder.{certified}
 use Rattle.protocol_rules.specs.Order.{ordered}
-use Rattle.protocol_rules.specs.Reconcile.{updates_given, orders_given, request_of, quorum_of_acks, whole_order}
+use Rattle.protocol_rules.specs.Reconcile.{updates_given, orders_given, request_of}
 use Rattle.protocol_rules.specs.Reconcile.{request_gift, order_gift}
 use Rattle.protocol_rules.specs.Lacking.{answers_ask, gift_for, gift_due}
 use Rattle.protocol_rules.specs.Master.{is_give, is_order_given}
 use Rattle.reconcile.specs.Asking.{wanted_in}
-use Rattle.agreement.proofs.Lists.{in_filter_map_from, first_in, none_some}
-use Rattle.agreement.proofs.Spoken.{if_some}
+use Rattle.agreement.proofs.SpokenByKind.{if_some}
 use Rattle.words_by_part.specs.Kinds.{is_of, giving}
 use Rattle.words_by_part.proofs.Telling.{own_words_tell}
 use Rattle.master_answers.specs.declared.ask.Ask.{Ask}

@@ -1,5 +1,6 @@
 -- What a master keeps in order to speak, before anything is known, and as more becomes known.
 use Rattle.std.proofs.Common.{◌≡◌, ℕ, ◌≤◌, List, [], ◌++◌, sym, subst, arith}
+use Rattle.plain_lists.proofs.Members.{in_left}
 use Rattle.message_types.specs.declared.signed.Signed.{Signed}
 use Rattle.message_types.specs.declared.body.Body.{Body}
 use Rattle.protocol_rules.specs.declared.facts.OrderFact.{OrderFact}
@@ -8,8 +9,7 @@ use Rattle.protocol_rules.specs.Facts.{facts_of}
 use Rattle.reconcile.specs.Shares.{AreSharesOf}
 use Rattle.master_knowledge.specs.Past.{Past}
 use Rattle.protocol_rules.specs.Views.{view}
-use Rattle.agreement.proofs.Lists.{in_left}
-use Rattle.agreement.proofs.Grows.{view_more}
+use Rattle.agreement.proofs.QuorumsStay.{view_more}
 use Rattle.leader_proposals.specs.Offering.{Offered, AreOffersOf}
 use Rattle.leader_proposals.proofs.Offering.{offers-facts}
 use Rattle.master_knowledge.specs.declared.knowledge.Knowledge.{Knowledge}

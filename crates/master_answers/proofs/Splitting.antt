@@ -3,9 +3,8 @@ use Rattle.std.proofs.Common.{◌≡◌, ℕ, true, false, cond, not, List, [], 
 use Rattle.std.specs.List.{list_any}
 use Rattle.std.proofs.lemmas.List.{append-nil}
 use Rattle.std.proofs.lemmas.List.Elements.{filter-append}
+use Rattle.plain_lists.specs.Lists.{here, there, Each}
 use Rattle.message_types.specs.declared.body.Body.{Body}
-use Rattle.history_rules.specs.Audit.{here, there}
-use Rattle.agreement.proofs.Lists.{Each}
 use Rattle.words_by_part.specs.Kinds.{is_of}
 use Rattle.words_by_part.proofs.Sorting.{Of, all_kept, none_kept}
 

@@ -1,6 +1,6 @@
 -- How long a master has waited in the view that it is in: the wait is that of the last moment's view, and the last moment is
 -- the present event.
-use Rattle.std.proofs.Common.{◌≡◌, ℕ, ◌+◌, Bool, cond, List, [], ◌∷◌, ◌++◌, Option, length, length-append, nat_eq, refl, sym, ◌∙◌}
+use Rattle.std.proofs.Common.{◌≡◌, ℕ, ◌+◌, Bool, cond, List, [], ◌∷◌, ◌++◌, Option, length, length-append, refl, sym, ◌∙◌}
 use Rattle.std.proofs.Common.{ap, inl, inr, ◌⊎◌, subst, append_assoc, arith}
 use Rattle.std.proofs.lemmas.List.{append-nil}
 use Rattle.std.proofs.lemmas.Bool.{cases_eq, eq-eqb}
@@ -32,7 +32,7 @@ last_view g kept ordered moments m is = by (cases_eq kept.view m.view)
         ∙ sym (stretch-push m.view moments m) ∙ is.others m.view apart))
 
 -- the moments of all events are those of the events before and the present one
-moments_more : (g : Group) (first before : List Heard) (e : Heard) →
+pub moments_more : (g : Group) (first before : List Heard) (e : Heard) →
     moments_of g first (before ++ e ∷ []) ≡ moments_of g first before
     ++ moment g (known_at (first ++ before) e.took) e.is_tick ∷ []
 moments_more g first [] e = ap (λ (hs : List Heard). moment g (known_at hs e.took) e.is_tick ∷ [])

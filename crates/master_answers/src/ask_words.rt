@@ -3,6 +3,7 @@ ghost use Rattle.message_types.specs.declared.signed.Signed.{Signed as SignedWor
 ghost use Rattle.message_types.specs.declared.body.Body.{Body as Word};
 ghost use Rattle.protocol_rules.specs.declared.facts.OrderFact.{OrderFact as Fact};
 ghost use Rattle.protocol_rules.specs.Group.{Group};
+ghost use Rattle.protocol_rules.specs.declared.limits.TheConstants.{MOST_NUMBERS_ASKED, MOST_REQUESTS_ASKED};
 ghost use Rattle.protocol_rules.specs.Facts.{facts_of};
 ghost use Rattle.protocol_rules.specs.Order.{ordered_run};
 ghost use Rattle.protocol_rules.specs.Reconcile.{ask_update_due, ask_order_due};
@@ -20,8 +21,14 @@ use crate::{Split, split_words};
 use execution::Run;
 use global_order::Order;
 use plain_lists::Want;
+use protocol_rules::{MOST_NUMBERS_ASKED, MOST_REQUESTS_ASKED};
 use reconcile::Asks;
 use std::alloc::Global;
+
+/// The most of each that are asked for at a tick.
+const MOST_REQUESTS: usize = MOST_REQUESTS_ASKED as usize;
+
+const MOST_NUMBERS: usize = MOST_NUMBERS_ASKED as usize;
 
 /// At a tick, the ask for the request whose certificate the execution waits for, and apart the one for the first number
 /// that is missing. They count as said from then on.
@@ -59,9 +66,9 @@ pub(crate) fn say_asks_alive(
     requires requests { list_all is_request lacking.now.requests.items ≡ true }
     requires numbers { list_any is_request lacking.now.numbers.items ≡ false }
     ensures early { IfOk result (λ words. asking_at.Where asks.old (λ g me known said.
-        words.early.items ≡ (if at_tick then asks_again_due said now lacking.now.requests.items 16 else []))) }
+        words.early.items ≡ (if at_tick then asks_again_due said now lacking.now.requests.items MOST_REQUESTS_ASKED else []))) }
     ensures late { IfOk result (λ words. asking_at.Where asks.old (λ g me known said.
-        words.late.items ≡ (if at_tick then asks_again_due said now lacking.now.numbers.items 64 else []))) }
+        words.late.items ≡ (if at_tick then asks_again_due said now lacking.now.numbers.items MOST_NUMBERS_ASKED else []))) }
     ensures said { IfOk result (λ words. asking_at.Says asks.old asks.new (words.early.items ++ words.late.items)) }
 {
     if !at_tick {
@@ -70,7 +77,7 @@ pub(crate) fn say_asks_alive(
             late: Vec::new(alloc),
         });
     }
-    let early = asks.due_again(now, &lacking.requests, 16)?;
-    let late = asks.due_again(now, &lacking.numbers, 64)?;
+    let early = asks.due_again(now, &lacking.requests, MOST_REQUESTS)?;
+    let late = asks.due_again(now, &lacking.numbers, MOST_NUMBERS)?;
     Ok(Split { early, late })
 }

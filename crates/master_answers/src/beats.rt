@@ -1,8 +1,7 @@
 ghost use Rattle.std.specs.Prelude.{◌≡◌};
 ghost use Rattle.protocol_rules.specs.Turns as rule;
 
-/// What isn't certified, and what isn't ordered, is said again at every so many ticks.
-const SLOW_BEAT: u64 = 32;
+use protocol_rules::SLOW_BEAT;
 
 /// Whether it is time to say it again, where there were so many ticks.
 pub(crate) fn is_slow_beat(now: u64) -> bool

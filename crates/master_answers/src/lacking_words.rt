@@ -17,16 +17,10 @@ use global_order::Order;
 use lacking::{Standing, wanted_to};
 use master_knowledge::Knowledge;
 use plain_lists::Want;
-use protocol_rules::MOST_NUMBER;
+use protocol_rules::{MOST_NUMBER, MOST_NUMBERS_ASKED, SHOWN_STEP};
 use quorum_sets::{MASTER_PLACES, MOST_MASTERS};
 use reconcile::{Wanted, requests_lacking};
 use summary_matrix::Reach;
-
-/// What f + 1 summaries had certified is wanted at every so many ticks.
-const SHOWN_STEP: u64 = 4;
-
-/// As many numbers are asked for at a tick.
-const MOST_ASKED: u64 = 64;
 
 /// What a master lacks: requests by master and number, and numbers from the least on.
 #[derive(Drop)]
@@ -122,7 +116,7 @@ fn lacking_numbers(knowledge: &Knowledge, waiting: u64, now: u64) -> Result<Vec<
     let standing = standing_of(knowledge);
     let gapless = standing.gapless;
     let end = wanted_to(standing, waiting, now).min(MOST_NUMBER);
-    let limit = end.min(gapless + MOST_ASKED);
+    let limit = end.min(gapless + MOST_NUMBERS_ASKED);
     let mut numbers = Vec::new(knowledge.alloc);
     for before in gapless..limit {
         push_unless_ordered(&mut numbers, &knowledge.order, before + 1)?;

@@ -2,6 +2,8 @@
 use Rattle.std.proofs.Common.{◌≡◌, ℕ, ◌<◌, Bool, true, false, cond, ◌&&◌, List, [], ◌∷◌, ◌++◌, Option, Some, None}
 use Rattle.std.proofs.Common.{nat_eq, refl, sym, ◌∙◌, ap, subst}
 use Rattle.std.specs.List.{list_all}
+use Rattle.plain_lists.specs.Lists.{here, there}
+use Rattle.plain_lists.proofs.Members.{none_some, in_filter_map_from, all_at}
 use Rattle.message_types.specs.declared.signed.Signed.{Signed}
 use Rattle.message_types.specs.declared.updates.Update.{Update}
 use Rattle.message_types.specs.declared.preordering.PoRequest.{PoRequest}
@@ -21,15 +23,13 @@ use Rattle.preorder.proofs.Certified.{certifies-request, certifies-ack}
 use Rattle.preorder.proofs.Composed.{certified-passed}
 use Rattle.protocol_rules.specs.Keys.{same_pair}
 use Rattle.execution.specs.Ran.{Ran, IsRunOf, with_certificate}
-use Rattle.history_rules.specs.Audit.{here, there}
-use Rattle.agreement.proofs.Lists.{none_some, in_filter_map_from, all_at}
-use Rattle.agreement.proofs.Requests.{certified_from}
-use Rattle.agreement.proofs.Spoken.{if_some}
+use Rattle.agreement.proofs.RequestsAgree.{certified_from}
+use Rattle.agreement.proofs.SpokenByKind.{if_some}
 use Rattle.master_knowledge.specs.Whole.{is_whole}
 use Rattle.master_knowledge.specs.Knows.{HasClients}
 use Rattle.master_knowledge.specs.Certifying.{IsCertifiedAt}
 use Rattle.master_knowledge.proofs.Whole.{client_there}
-use Rattle.agreement.proofs.Vouched.{certified_stays}
+use Rattle.agreement.proofs.VouchedIsOrdered.{certified_stays}
 use Rattle.protocol_rules.proofs.Keys.{same_pair-same}
 
 -- the update of a request that is whole is of a client that is there

@@ -1,14 +1,14 @@
 -- What is ordered without a gap only grows.
 use Rattle.std.proofs.Common.{◌≡◌, ℕ, List, [], ◌++◌, Some, append_assoc, ◌∙◌, ap}
+use Rattle.plain_lists.specs.Lists.{Begins}
+use Rattle.protocol_rules.proofs.FirstMet.{first_met-more}
 use Rattle.message_types.specs.declared.signed.Signed.{Signed}
 use Rattle.message_types.specs.declared.body.Body.{Body}
 use Rattle.protocol_rules.specs.declared.facts.OrderFact.{OrderFact}
 use Rattle.protocol_rules.specs.Group.{Group, most_number}
 use Rattle.protocol_rules.specs.Facts.{facts_of}
 use Rattle.protocol_rules.specs.Order.{ordered, ordered_run}
-use Rattle.agreement.specs.Laws.{Begins}
-use Rattle.agreement.proofs.Lists.{first_met-more}
-use Rattle.agreement.proofs.Executed.{runs_grow}
+use Rattle.agreement.proofs.ExecutedInTurn.{runs_grow}
 use Rattle.protocol_rules.proofs.Told.{told_more}
 
 ordered_more : (g : Group) (facts more : List OrderFact) (s : ℕ) (rows : List (List ℕ)) →

@@ -1,6 +1,8 @@
 -- All rows that whole words tell are in their places.
 use Rattle.std.proofs.Common.{◌≡◌, ℕ, true, List, [], ◌∷◌, ◌++◌, Some, refl, sym, ◌∙◌, ap, subst}
 use Rattle.std.specs.List.{list_all, flat_map}
+use Rattle.plain_lists.specs.Lists.{IsIn, here}
+use Rattle.plain_lists.proofs.Members.{none_in, in_left, in_map_from, in_flat_map, in_map, all_at}
 use Rattle.message_types.specs.declared.signed.Signed.{Signed}
 use Rattle.message_types.specs.declared.ordering.Certificate.{Certificate}
 use Rattle.message_types.specs.declared.body.Body.{Body}
@@ -11,10 +13,9 @@ use Rattle.protocol_rules.specs.Group.{Group}
 use Rattle.protocol_rules.specs.Places.{in_place, are_rows}
 use Rattle.protocol_rules.specs.Facts.{tells, facts_of, rows_in, rows_known}
 use Rattle.protocol_rules.specs.Order.{ordered}
-use Rattle.history_rules.specs.Audit.{IsIn, here, rows_held}
-use Rattle.agreement.proofs.Lists.{none_in, in_left, in_map_from, in_flat_map, in_map, all_at}
-use Rattle.agreement.proofs.Inside.{parts_closed, rows_from}
-use Rattle.agreement.proofs.Good.{ordered_from}
+use Rattle.history_rules.specs.Audit.{rows_held}
+use Rattle.agreement.proofs.FramesInside.{parts_closed, rows_from}
+use Rattle.agreement.proofs.LearnedInPlace.{ordered_from}
 use Rattle.words_in_place.proofs.Speaking.{rows_are_in_place}
 use Rattle.master_knowledge.specs.Whole.{is_whole}
 

@@ -2,6 +2,8 @@
 use Rattle.std.proofs.Common.{◌≡◌, ℕ, ◌≤◌, true, ◌&&◌, List, length, nat_eq, nat_le, nat_lt, arith, eqb-true}
 use Rattle.std.proofs.lemmas.Bool.{and_parts, le-leb}
 use Rattle.std.specs.List.{list_all}
+use Rattle.plain_lists.specs.Lists.{there}
+use Rattle.plain_lists.proofs.Members.{all_at, in_map}
 use Rattle.message_types.specs.declared.signed.Signed.{Signed}
 use Rattle.message_types.specs.declared.preordering.PoSummary.{PoSummary}
 use Rattle.message_types.specs.declared.views.Report.{Report}
@@ -12,8 +14,6 @@ use Rattle.message_types.specs.Spelling.{rows_fit, summary_fits}
 use Rattle.protocol_rules.specs.Group.{most_number}
 use Rattle.protocol_rules.specs.Places.{in_place, are_rows, certificate_in_place, report_in_place}
 use Rattle.view_change.specs.Planning.{is_spelled}
-use Rattle.history_rules.specs.Audit.{there}
-use Rattle.agreement.proofs.Lists.{all_at, in_map}
 use Rattle.master_knowledge.specs.Whole.{IsWhole}
 use Rattle.protocol_rules.proofs.PlacedRows.{rows_in_place_fit}
 use Rattle.history_rules.proofs.Entries.{all_from}

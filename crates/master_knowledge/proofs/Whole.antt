@@ -3,6 +3,8 @@ use Rattle.std.proofs.Common.{◌≡◌, ℕ, ◌≤◌, ◌<◌, true, ◌&&◌
 use Rattle.std.proofs.Common.{suc, take, get_or, sym, ◌∙◌, ap, inl, inr, arith}
 use Rattle.std.proofs.lemmas.Bool.{and_parts, leb-true, ltb-true}
 use Rattle.std.specs.List.{list_all}
+use Rattle.plain_lists.specs.Lists.{IsIn}
+use Rattle.plain_lists.proofs.Members.{in_cons_cases, all_at}
 use Rattle.message_types.specs.declared.signed.Signed.{Signed}
 use Rattle.message_types.specs.declared.updates.Update.{Update}
 use Rattle.message_types.specs.declared.preordering.PoSummary.{PoSummary}
@@ -17,9 +19,7 @@ use Rattle.protocol_rules.specs.Group.{Group, most_number, most_view}
 use Rattle.protocol_rules.specs.Places.{in_place, word_in_place}
 use Rattle.suspect_leader.specs.Sayings.{ticks_of_round_trip}
 use Rattle.leader_patience.specs.PatienceState.{view_of_vote}
-use Rattle.history_rules.specs.Audit.{IsIn}
-use Rattle.agreement.proofs.Lists.{in_cons_cases, all_at}
-use Rattle.agreement.proofs.Inside.{parts_closed}
+use Rattle.agreement.proofs.FramesInside.{parts_closed}
 use Rattle.master_knowledge.specs.Whole.{is_whole, IsWhole}
 use Rattle.history_rules.proofs.Entries.{all_from}
 

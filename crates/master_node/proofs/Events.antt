@@ -11,14 +11,14 @@ use Rattle.message_types.specs.Parts.{parts}
 use Rattle.protocol_rules.specs.Group.{Group}
 use Rattle.protocol_rules.specs.Measures.{Told}
 use Rattle.protocol_rules.specs.Views.{view}
-use Rattle.protocol_rules.specs.Patience.{Moment}
 use Rattle.protocol_rules.specs.Lacking.{answers_ask}
 use Rattle.protocol_rules.specs.Master.{Heard, learned, taken_frames, known_at, taken_at, said_before, told_of, waits}
-use Rattle.protocol_rules.specs.Master.{moments_of, moment, answered_in}
+use Rattle.protocol_rules.specs.Master.{moments_of, answered_in}
 use Rattle.words_by_part.specs.Laws.{told_at, moments_at}
-use Rattle.master_knowledge.specs.Past.{Past, past_with}
+use Rattle.master_knowledge.specs.Past.{past_with}
 use Rattle.master_answers.specs.Asked.{answered_by}
-use Rattle.master_answers.specs.Replica.{past_at, past_after}
+use Rattle.master_answers.specs.Replica.{past_at}
+use Rattle.master_answers.proofs.Waited.{moments_more, moments_at_end}
 use Rattle.history_rules.specs.Leaves.{leaves_for}
 use Rattle.master_node.specs.Charge.{leaves_used, taken_by}
 use Rattle.master_node.specs.Running.{past_then}
@@ -58,21 +58,6 @@ told_with g before took at_tick frames = told_at_end g before took at_tick
     ∙ sym (told_more g [] before record { took = took; is_tick = at_tick; said = frames })
 
 -- the same of the moments
-moments_more : (g : Group) (first before : List Heard) (e : Heard) →
-    moments_of g first (before ++ e ∷ []) ≡ moments_of g first before
-    ++ moment g (known_at (first ++ before) e.took) e.is_tick ∷ []
-moments_more g first [] e = ap (λ (hs : List Heard). moment g (known_at hs e.took) e.is_tick ∷ [])
-    (sym (append-nil first))
-moments_more g first (h ∷ rest) e =
-    ap (λ (ms : List Moment). moment g (known_at first h.took) h.is_tick ∷ ms)
-    (moments_more g (first ++ h ∷ []) rest e
-    ∙ ap (λ (hs : List Heard). moments_of g (first ++ h ∷ []) rest ++ moment g (known_at hs e.took) e.is_tick ∷ [])
-    (append_assoc first (h ∷ []) rest))
-
-moments_at_end : (g : Group) (before : List Heard) (took : Option (Signed Body)) (at_tick : Bool)
-    → moments_at g before took at_tick ≡ moments_of g [] before ++ moment g (known_at before took) at_tick ∷ []
-moments_at_end g before took at_tick = moments_more g [] before record { took = took; is_tick = at_tick; said = [] }
-
 moments_with : (g : Group) (before : List Heard) (took : Option (Signed Body)) (at_tick : Bool)
     (frames : List (Signed Body))
     → moments_at g before took at_tick ≡ moments_of g []

@@ -3,6 +3,8 @@ use Rattle.std.proofs.Common.{◌≡◌, ℕ, ◌+◌, ◌-◌, Bool, true, fals
 use Rattle.std.proofs.Common.{nat_eq, nat_lt, refl, sym, ◌∙◌, ap, subst, arith, eqb-true}
 use Rattle.std.proofs.lemmas.Bool.{false≢true}
 use Rattle.std.proofs.lemmas.List.{length-map}
+use Rattle.plain_lists.specs.Lists.{here, there}
+use Rattle.plain_lists.proofs.Members.{in_filter_from}
 use Rattle.message_types.specs.declared.signed.Signed.{Signed}
 use Rattle.message_types.specs.declared.body.Body.{Body}
 use Rattle.protocol_rules.specs.Master.{Heard, answers}
@@ -11,9 +13,7 @@ use Rattle.history_rules.specs.Leaves.{leaves_for, room_of}
 use Rattle.history_rules.specs.Setup as setup
 use Rattle.history_rules.specs.Setup.{Setup, heard_from, signed_from, own, room}
 use Rattle.history_rules.specs.Legal.{heard_in, says_in}
-use Rattle.history_rules.specs.Audit.{here, there}
-use Rattle.agreement.proofs.Lists.{in_filter_from}
-use Rattle.agreement.proofs.Known.{hears, signed_from_bodies, correct_said}
+use Rattle.agreement.proofs.KnownAsItGrows.{hears, signed_from_bodies, correct_said}
 use Rattle.master_node.specs.Charge.{leaves_used, says_at}
 use Rattle.master_node.specs.Running.{IsRunning}
 use Rattle.master_node.specs.Laws.{SilentSayNothing, SaysAsHistoriesDo, SilentSayNothingInHistories, TicksAreHeard}

@@ -1,6 +1,5 @@
 pub mod Events
 pub mod Plants
-pub mod Cutting
 pub mod Steps
 pub mod Histories
 pub mod Starting

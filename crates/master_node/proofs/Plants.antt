@@ -6,16 +6,15 @@ use Rattle.std.specs.List.{list_all, slice_index_or}
 use Rattle.std.proofs.lemmas.Bool.{and_parts, lt-ltb, ltb-true}
 use Rattle.std.proofs.lemmas.List.{take_all}
 use Rattle.std.proofs.lemmas.List.Folds.{list_all-append}
+use Rattle.plain_lists.specs.Lists.{IsIn, here, there, Begins}
+use Rattle.plain_lists.proofs.Members.{none_some, some_same, all_at}
 use Rattle.message_types.specs.declared.signed.Signed.{Signed}
 use Rattle.message_types.specs.declared.updates.Update.{Update}
 use Rattle.message_types.specs.declared.vouchers.Order.{Order}
 use Rattle.message_types.specs.declared.body.Body.{Body}
 use Rattle.protocol_rules.specs.Group.{Group}
 use Rattle.protocol_rules.specs.Master.{executed}
-use Rattle.history_rules.specs.Audit.{IsIn, here, there}
-use Rattle.agreement.specs.Laws.{Begins}
-use Rattle.agreement.proofs.Lists.{none_some, some_same, all_at}
-use Rattle.agreement.proofs.Executions.{executed_from}
+use Rattle.agreement.proofs.ExecutionsAgree.{executed_from}
 use Rattle.words_in_place.proofs.Limits.{all_from}
 use Rattle.master_points.specs.Effects.{Site}
 use Rattle.master_points.specs.Orders.{Held, fresh, applied, held_after, orders}

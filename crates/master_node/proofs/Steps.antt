@@ -6,6 +6,8 @@ use Rattle.std.specs.List.{list_all, flat_map, slice_index_or}
 use Rattle.std.proofs.lemmas.Bool.{and_from}
 use Rattle.std.proofs.lemmas.List.{append-nil, length-map}
 use Rattle.std.proofs.lemmas.List.Folds.{list_all-append}
+use Rattle.plain_lists.specs.Lists.{IsIn, Begins}
+use Rattle.plain_lists.proofs.Members.{in_right, in_flat_map, all_at}
 use Rattle.message_types.specs.declared.signed.Signed.{Signed}
 use Rattle.message_types.specs.declared.updates.Update.{Update}
 use Rattle.message_types.specs.declared.body.Body.{Body}
@@ -19,10 +21,7 @@ use Rattle.protocol_rules.specs.Execution.{Request, executed_of}
 use Rattle.protocol_rules.specs.Master.{Heard, learned, taken_frames, known_at, taken_at, said_before, answered_in}
 use Rattle.protocol_rules.specs.Master.{certified_requests, executed, answers}
 use Rattle.history_rules.specs.Legal.{known_of}
-use Rattle.history_rules.specs.Audit.{IsIn}
-use Rattle.agreement.specs.Laws.{Begins}
-use Rattle.agreement.proofs.Lists.{in_right, in_flat_map, all_at}
-use Rattle.agreement.proofs.Vouched.{known_of_last, executed_more}
+use Rattle.agreement.proofs.VouchedIsOrdered.{known_of_last, executed_more}
 use Rattle.words_in_place.specs.Laws.{ticks_heard, IsSaid}
 use Rattle.words_in_place.proofs.Measuring.{ticks_told}
 use Rattle.words_in_place.proofs.Limits.{filter_more}
@@ -41,11 +40,11 @@ use Rattle.master_node.specs.declared.running.Running.{Running}
 use Rattle.history_rules.specs.Leaves.{leaves_for, room_of}
 use Rattle.master_node.specs.Charge.{Charge, leaves_left, says_at, taken_by}
 use Rattle.master_node.specs.Running.{HoldsPlant, group_in, ticks_in, IsRunning, HasLearned, IsReady, HasSpoken}
-use Rattle.master_node.specs.Running.{AreItsFrames, past_then, past_of}
+use Rattle.master_node.specs.Running.{AreItsFrames, past_then}
 use Rattle.master_node.proofs.Events.{past_at_end, past_said, answered_more, taken_more, said_more, learned_more}
 use Rattle.master_node.proofs.Events.{used_more, told_with}
 use Rattle.master_node.proofs.Plants.{clients_are, plant_grows, orders_grow, some_done, rest_passes, executed_there}
-use Rattle.master_node.proofs.Cutting.{uncut}
+use Rattle.history_rules.proofs.Uncut.{uncut}
 use Rattle.history_rules.proofs.Entries.{all_from}
 
 minus_more : (a b d : ℕ) → a - b - d ≡ a - (b + d)

@@ -1,12 +1,12 @@
 -- What joins a master as an object to histories.
 use Rattle.std.specs.Prelude.{◌≡◌, ℕ, Bool, true, false, List, [], ◌∷◌, ◌++◌, Option}
+use Rattle.plain_lists.specs.Lists.{IsIn}
 use Rattle.message_types.specs.declared.signed.Signed.{Signed}
 use Rattle.message_types.specs.declared.body.Body.{Body}
 use Rattle.protocol_rules.specs.Master.{Heard}
 use Rattle.history_rules.specs.Events.{Event, Entry, frame_taken, is_tick, is_silent}
 use Rattle.history_rules.specs.Setup.{Setup, is_correct_master, own}
 use Rattle.history_rules.specs.Legal.{IsLegal, heard_in, says_in}
-use Rattle.history_rules.specs.Audit.{IsIn}
 use Rattle.words_in_place.specs.Laws.{ticks_heard}
 use Rattle.master_node.specs.declared.running.Running.{Running}
 use Rattle.master_node.specs.Charge.{Charge, leaves_left, says_at}

@@ -2,6 +2,7 @@
 use Rattle.std.specs.Prelude.{◌≡◌, ℕ, ◌+◌, ◌-◌, ◌^◌, ◌<◌, ◌≤◌, Bool, true, List, [], ◌++◌, Option, length, map}
 use Rattle.std.specs.Prelude.{slice_index, nat_eq}
 use Rattle.std.specs.List.{list_all, flat_map, slice_index_or}
+use Rattle.plain_lists.specs.Lists.{Begins}
 use Rattle.message_types.specs.declared.signed.Signed.{Signed}
 use Rattle.message_types.specs.declared.updates.Update.{Update}
 use Rattle.message_types.specs.declared.body.Body.{Body}
@@ -11,7 +12,7 @@ use Rattle.protocol_rules.specs.Places.{in_place}
 use Rattle.protocol_rules.specs.Master.{Heard, learned, known_at, taken_at, said_before, told_of, moments_of}
 use Rattle.protocol_rules.specs.Master.{answered_in, executed}
 use Rattle.history_rules.specs.Legal.{known_of}
-use Rattle.agreement.specs.Laws.{HasSizes, Begins}
+use Rattle.agreement.specs.Laws.{HasSizes}
 use Rattle.words_in_place.specs.Laws.{ticks_heard, MaySpeak}
 use Rattle.master_points.specs.declared.plant.Plant.{Plant}
 use Rattle.master_points.specs.Orders.{Held, IsPlant, fresh, held_after, orders}

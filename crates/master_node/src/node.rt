@@ -1,14 +1,11 @@
-ghost use Rattle.std.specs.Prelude.{◌≡◌, ◌++◌, ◌<◌, ◌≤◌, ◌^◌, ◌∷◌, [], OnOk, OnErr, IfOk, IsErr, List, ℕ, Bool, true, false, Option, Some, None, option_copied};
+ghost use Rattle.std.specs.Prelude.{◌≡◌, ◌++◌, ◌<◌, ◌^◌, ◌∷◌, [], OnOk, OnErr, IfOk, IsErr, List, Bool, true, false, Option, Some, None, option_copied};
 ghost use Rattle.message_types.specs.declared.signed.Signed.{Signed as SignedWord};
-ghost use Rattle.message_types.specs.declared.updates.Update.{Update as Change};
 ghost use Rattle.message_types.specs.declared.body.Body.{Body as Word};
-ghost use Rattle.protocol_rules.specs.Group.{group_of};
 ghost use Rattle.protocol_rules.specs.Preorder.{certified};
 ghost use Rattle.protocol_rules.specs.Views as rules;
 ghost use Rattle.protocol_rules.specs.Master.{Heard, executed};
 ghost use Rattle.history_rules.specs.Legal.{known_of};
 ghost use Rattle.words_in_place.specs.Laws.{ticks_heard};
-ghost use Rattle.master_points.specs.Orders.{orders};
 ghost use Rattle.scenario_file.specs.Reading.{contents};
 ghost use Rattle.scenario_file.specs.Valid.{IsScenario};
 ghost use Rattle.master_knowledge.specs.Whole.{is_whole};

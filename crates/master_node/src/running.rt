@@ -1,9 +1,7 @@
-ghost use Rattle.std.specs.Prelude.{◌≡◌, ◌++◌, ◌<◌, ◌≤◌, ◌^◌, ◌∷◌, [], OnOk, IfOk, List, ℕ, Bool, true, false, Option, Some, None};
-ghost use Rattle.std.specs.List.{list_all};
+ghost use Rattle.std.specs.Prelude.{◌≡◌, ◌++◌, ◌<◌, ◌^◌, ◌∷◌, [], OnOk, IfOk, List, Bool, true, false, Option, Some, None};
 ghost use Rattle.message_types.specs.declared.signed.Signed.{Signed as SignedWord};
 ghost use Rattle.message_types.specs.declared.body.Body.{Body as Word};
-ghost use Rattle.protocol_rules.specs.Master.{Heard, said_before, known_at, taken_at};
-ghost use Rattle.master_knowledge.specs.Knows.{IsCaughtUp};
+ghost use Rattle.protocol_rules.specs.Master.{Heard};
 ghost use Rattle.master_knowledge.specs.Whole.{is_whole};
 ghost use Rattle.master_answers.specs.Asked.{ask_of};
 ghost use Rattle.master_points.specs.Orders.{IsPlant};

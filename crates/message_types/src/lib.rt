@@ -5,6 +5,7 @@
 
 pub mod body;
 mod digests;
+pub mod laws;
 pub mod limits;
 pub mod measures;
 pub mod ordering;

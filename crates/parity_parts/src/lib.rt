@@ -5,6 +5,7 @@
 mod field;
 mod interpolation;
 mod joining;
+pub mod laws;
 pub mod limits;
 mod part;
 mod rebuilding;

@@ -1,17 +1,16 @@
 -- A text of parts cut at its line feeds and read line by line.
-use Rattle.std.proofs.Common.{◌≡◌, ◌<◌, ◌≤◌, ◌+◌, ℕ, zero, suc, Bool, true, false, if◌then◌else◌, nat_le, List, []}
-use Rattle.std.proofs.Common.{◌∷◌, ◌++◌, length, Result, Ok, Err, append_assoc, append-nil, refl, sym, ◌∙◌, ap, arith}
+use Rattle.std.proofs.Common.{◌≡◌, ◌<◌, ◌+◌, ℕ, List, []}
+use Rattle.std.proofs.Common.{◌∷◌, ◌++◌, length, Result, Ok, Err, append_assoc, refl, sym, ◌∙◌, ap, arith}
 use Rattle.script_grammar.specs.declared.fault.LineRefusal.{LineRefusal}
 use Rattle.script_grammar.specs.declared.fault.LineRefusal.TheVariants as line
-use Rattle.script_grammar.specs.Faults.{Answer, Answers, Refuses, bad}
-use Rattle.run_lines.specs.Runs.{pieces, is_empty}
+use Rattle.script_grammar.specs.Faults.{Answer, Refuses}
+use Rattle.run_lines.specs.Runs.{pieces}
 use Rattle.parity_parts.specs.declared.part.Part.{Part}
-use Rattle.part_lines.specs.declared.told.Told.{Told}
 use Rattle.part_lines.specs.declared.fault.RebuildRefusal.{RebuildRefusal}
 use Rattle.part_lines.specs.declared.fault.RebuildRefusal.TheVariants as fault
 use Rattle.part_lines.specs.Reading.{Reading, bad_line, and_then, from_least, before, each_line, rising, told}
 use Rattle.part_lines.specs.Reading.{behind_digest, told_by, told_in, digest_in, part_in}
-use Rattle.part_lines.specs.Rebuilding.{RefusesText, ReadsText, fault_at}
+use Rattle.part_lines.specs.Rebuilding.{RefusesText, fault_at}
 use Rattle.run_lines.proofs.Cutting.{pieces_some}
 
 -- what parts give, behind others
@@ -84,26 +83,6 @@ fault_of_text line.BadLine right number all is follows = follows is
 fault_of_text line.NoActor right number all is follows = follows is
 fault_of_text line.Want right number all is follows = tt
 
--- nothing stands behind the last line, or something does
-pub parts_end : (read : List ℕ → Answer Part) (least number : ℕ) (front : List Part)
-    (all : Reading (List Part)) (rest : List ℕ)
-    → behind front (rising least number (each_line read (pieces rest))) ≡ all → pieces rest ≡ rest ∷ [] →
-    is_empty rest ≡ true → all ≡ Ok front
-parts_end read least number front all rest so_far last none =
-    sym so_far
-    ∙ ap (λ ps. behind front (rising least number (each_line read ps))) last
-    ∙ ap (λ (b : Bool). behind front (rising least number (if b then [] else bad ∷ []))) none
-    ∙ ap Ok (append-nil front)
-
-pub parts_unended : (read : List ℕ → Answer Part) (least number : ℕ) (front : List Part)
-    (all : Reading (List Part)) (rest : List ℕ)
-    → behind front (rising least number (each_line read (pieces rest))) ≡ all → pieces rest ≡ rest ∷ [] →
-    is_empty rest ≡ false → all ≡ bad_line number
-parts_unended read least number front all rest so_far last some =
-    sym so_far
-    ∙ ap (λ ps. behind front (rising least number (each_line read ps))) last
-    ∙ ap (λ (b : Bool). behind front (rising least number (if b then [] else bad ∷ []))) some
-
 -- The first line of all.
 told_passed : (n f : ℕ) (line : List ℕ) (parts : List (List ℕ)) → 0 < length parts →
     told_by n f (line ∷ parts) ≡ behind_digest n f (digest_in line) parts
@@ -114,10 +93,6 @@ pub told_by_digest : (n f : ℕ) (text line rest : List ℕ) → pieces text ≡
     → told_in n f text ≡ behind_digest n f (digest_in line) (pieces rest)
 unfolding told_in
 told_by_digest n f text line rest cut = ap (told_by n f) cut ∙ told_passed n f line (pieces rest) (pieces_some rest)
-
-pub told_of_one : (n f : ℕ) (text : List ℕ) → pieces text ≡ text ∷ [] → told_in n f text ≡ bad_line 1
-unfolding told_in
-told_of_one n f text last = ap (told_by n f) last
 
 -- its digest and its parts are read
 pub told_whole : (n f : ℕ) (text line rest digest : List ℕ) (parts : List Part) → pieces text ≡ line ∷ pieces rest →

@@ -1,3 +1,4 @@
 pub mod Orders
 pub mod Booleans
 pub mod Lists
+pub mod Members

@@ -1,5 +1,5 @@
 //! Small list types that contracts see as plain lists, and the two things that every type of the
-//! project can do: be copied (which may want memory) and be compared.
+//! project can do: be copied (which may want memory) and be compared. `specs/Lists.antt` says what is in a list.
 #![tactic(auto)]
 
 pub mod bytes;

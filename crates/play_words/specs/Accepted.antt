@@ -1,6 +1,6 @@
 -- Which words a file of words can hold, whoever is there. (The limits are those of the bodies' spellings; that a word
 -- names its frames by signer, kind and number is this project's own.)
-use Rattle.std.specs.Prelude.{ℕ, Bool, true, ◌&&◌, ◌||◌, List, length, map, nat_eq, nat_le}
+use Rattle.std.specs.Prelude.{ℕ, Bool, true, false, ◌&&◌, ◌||◌, List, length, map, nat_eq, nat_le}
 use Rattle.std.specs.List.{list_all}
 use Rattle.message_types.specs.Spelling.{is_rising, row_fits}
 use Rattle.message_types.specs.declared.limits.TheConstants.{MOST_LISTED, MOST_CERTIFICATES}
@@ -8,6 +8,11 @@ use Rattle.play_words.specs.declared.words.Item.{Item}
 use Rattle.play_words.specs.declared.words.Ref.{Ref}
 use Rattle.play_words.specs.declared.words.Word.{Word}
 use Rattle.play_words.specs.declared.words.Word.TheVariants as word
+
+-- the word is bytes as they stand, which nobody signs
+abbrev pub is_raw : Word → Bool
+is_raw (word.Raw bytes) = true
+is_raw _ = false
 
 -- the numbers of the kinds of frames that words name
 abbrev pub update_kind : ℕ

@@ -11,6 +11,7 @@ use Rattle.message_types.specs.Digests.{digest_of_update}
 use Rattle.quorum_sets.specs.Masters.{has_master}
 use Rattle.quorum_sets.specs.declared.limits.TheConstants.{MOST_MASTERS}
 use Rattle.protocol_rules.specs.Group.{Group, most_number}
+pub use Rattle.protocol_rules.specs.Keys.{same_pair}
 use Rattle.protocol_rules.specs.Words.{or_else}
 use Rattle.protocol_rules.specs.Preorder.{update_of, updates_requested, is_ack, acks, certified}
 use Rattle.protocol_rules.specs.Words.{first_of_list}
@@ -20,9 +21,6 @@ use Rattle.preorder.specs.declared.ballots.Ballot.{Ballot}
 -- the entries of a map from pairs of numbers
 abbrev pub PairMap : Type 0 → Type 0
 PairMap X = List ((ℕ × ℕ) × X)
-
-abbrev pub same_pair : ℕ × ℕ → ℕ × ℕ → Bool
-same_pair x y = nat_eq x.0 y.0 && nat_eq x.1 y.1
 
 abbrev pub at_pair : {X : Type 0} → PairMap X → ℕ × ℕ → Option X
 at_pair {X} map key = lookup (same_pair key) map

@@ -6,14 +6,14 @@ use Rattle.std.specs.Prelude.{slice_get}
 use Rattle.quorum_sets.specs.Masters.{numbers_below}
 use Rattle.scenario_file.specs.Reading.{Contents}
 use Rattle.scenario_file.specs.Valid.{IsScenario}
-use Rattle.agreement.proofs.Known.{own_none}
+use Rattle.agreement.proofs.KnownAsItGrows.{own_none}
 use Rattle.history_rules.specs.Events.{Entry}
 use Rattle.history_rules.specs.Keeping.{keeper_calls}
 use Rattle.history_rules.specs.Legal.{IsLegal}
 use Rattle.message_types.specs.declared.signed.Signed.{Signed}
 use Rattle.message_types.specs.declared.body.Body.{Body}
 use Rattle.world_history.specs.Signed.{ring_in}
-use Rattle.own_histories.proofs.EntryByEntry.{none_is_legal}
+use Rattle.history_laws.proofs.EntryByEntry.{none_is_legal}
 use Rattle.world_rules.specs.Frames.{frames_at_stamp}
 use Rattle.world_rules.specs.Scenarios.{setup_of, actors_in}
 use Rattle.world_history.specs.State.{BenchState}

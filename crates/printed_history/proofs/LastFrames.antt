@@ -22,7 +22,7 @@ use Rattle.world_rules.specs.Scenarios.{setup_of, masters_in}
 use Rattle.world_rules.proofs.Fields.{setup_goes_by, group_is}
 use Rattle.world_history.specs.Signed.{ring_in}
 use Rattle.bench_rules.specs.Lists.{frames_after}
-use Rattle.own_histories.proofs.BenchLists.{intruded_say_nothing}
+use Rattle.history_laws.proofs.BenchLists.{intruded_say_nothing}
 use Rattle.world_entries.specs.declared.entry.Entry.{Entry as KeptEntry}
 use Rattle.world_entries.specs.Entries.{entry_of}
 use Rattle.world_history.specs.State.{BenchState, setup_in, entry_at, with_entry, frames_said}

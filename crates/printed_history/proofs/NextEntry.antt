@@ -16,14 +16,14 @@ use Rattle.quorum_sets.specs.Masters.{numbers_below}
 use Rattle.protocol_rules.specs.Group.{Group}
 use Rattle.scenario_file.specs.Reading.{Contents}
 use Rattle.script_grammar.specs.declared.kinds.Kind.{Kind}
-use Rattle.agreement.proofs.Known.{own-append, own_first, own_other, own_none}
+use Rattle.agreement.proofs.KnownAsItGrows.{own-append, own_first, own_other, own_none}
 use Rattle.history_rules.specs.Events.{Event, Entry}
 use Rattle.history_rules.specs.Setup.{Setup, own}
 use Rattle.history_rules.specs.Keeping.{keeper_calls, calls_at, is_halted}
 use Rattle.history_rules.specs.Legal.{says, TakesWell, IsLegalEntry, IsLegal}
-use Rattle.own_histories.specs.Own.{IsOwnEntry}
-use Rattle.own_histories.proofs.OwnEntries.{own_of_legal, own_stands}
-use Rattle.own_histories.proofs.EntryByEntry.{one_more_is_legal}
+use Rattle.history_laws.specs.Own.{IsOwnEntry}
+use Rattle.history_laws.proofs.OwnEntries.{own_of_legal, own_stands}
+use Rattle.history_laws.proofs.EntryByEntry.{one_more_is_legal}
 use Rattle.world_rules.specs.Frames.{frames_of, frames_at_stamp}
 use Rattle.world_rules.specs.Scenarios.{setup_of, actors_in}
 use Rattle.world_rules.proofs.Fields.{group_is}

@@ -13,7 +13,7 @@ use Rattle.message_forms.specs.Forms.{frame_at}
 use Rattle.history_rules.specs.Events.{Event, Took, Tick, Command, Field, Poll, Cry, Skip, Restart, Entry}
 use Rattle.history_rules.specs.Setup.{Setup, signed_from, leaves_used, own}
 use Rattle.history_rules.specs.Sameness.{is_same_body}
-use Rattle.audit_counts.proofs.Same.{signed_test, body_test}
+use Rattle.history_laws.proofs.Same.{signed_test, body_test}
 use Rattle.world_rules.specs.Frames.{cried, frames_of, frames_at_stamp}
 use Rattle.printed_run.specs.Printed.{is_frame}
 use Rattle.printed_laws.specs.RunLaws.{IsHeld}

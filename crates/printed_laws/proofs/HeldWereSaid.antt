@@ -2,12 +2,12 @@
 use Rattle.std.proofs.Common.{◌≡◌, inl, inr, ℕ, ◌<◌, true, List, [], ◌∷◌, ◌++◌}
 use Rattle.std.proofs.Common.{Some, length, map, nat_lt, refl, sym, ◌∙◌, subst}
 use Rattle.std.proofs.lemmas.Bool.{and_parts, ltb-true}
-use Rattle.agreement.proofs.Lists.{none_in, in_cases, in_cons_cases}
+use Rattle.plain_lists.proofs.Members.{none_in, in_cases, in_cons_cases}
+use Rattle.plain_lists.specs.Lists.{IsIn}
 use Rattle.quorum_sets.specs.Masters.{has_master}
 use Rattle.protocol_rules.specs.Group.{Group}
 use Rattle.history_rules.specs.Events.{Event, Took, Tick, Command, Field, Poll, Cry, Skip, Restart, Entry}
 use Rattle.history_rules.specs.Setup.{Setup}
-use Rattle.history_rules.specs.Audit.{IsIn}
 use Rattle.world_rules.specs.Frames.{cried}
 use Rattle.world_rules.specs.Scenarios.{setup_of, masters_in}
 use Rattle.world_rules.proofs.Fields.{group_is, setup_goes_by}

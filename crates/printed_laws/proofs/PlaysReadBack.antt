@@ -2,12 +2,12 @@
 use Rattle.std.proofs.Common.{◌≡◌, ◌≤◌, true, List, [], ◌∷◌, Ok, length, map, refl, ◌∙◌, ap, subst, arith}
 use Rattle.std.specs.List.{All}
 use Rattle.std.proofs.lemmas.List.Elements.{All-nil, All-cons, All-head, All-tail}
+use Rattle.plain_lists.proofs.Members.{none_in}
+use Rattle.plain_lists.specs.Lists.{IsIn, here, there}
 use Rattle.printed_run.specs.Printed.{is_said}
-use Rattle.agreement.proofs.Lists.{none_in}
 use Rattle.scenario_file.specs.Valid.{IsScenario}
 use Rattle.history_rules.specs.Events.{Entry}
 use Rattle.history_rules.specs.Setup.{Setup}
-use Rattle.history_rules.specs.Audit.{IsIn, here, there}
 use Rattle.world_rules.specs.Scenarios.{setup_of}
 use Rattle.script_lines.specs.declared.script.Line.{Line}
 use Rattle.script_laws.specs.Accepted.{are_lines_of, are_sayings_of}

@@ -4,23 +4,23 @@ use Rattle.std.proofs.Common.{◌&&◌, List, [], ◌∷◌, ◌++◌, Option, S
 use Rattle.std.proofs.Common.{nat_eq, nat_lt, append-nil, refl, sym, ◌∙◌, ap, arith, eqb-true}
 use Rattle.std.specs.Prelude.{slice_get}
 use Rattle.std.proofs.lemmas.Bool.{ltb-true}
+use Rattle.plain_lists.proofs.Members.{none_in, in_cons_cases, none_some, some_same, slice_get-more, in_filter_from}
+use Rattle.plain_lists.specs.Lists.{IsIn}
 use Rattle.message_types.specs.declared.signed.Signed.{Signed}
 use Rattle.message_types.specs.declared.body.Body.{Body}
 use Rattle.message_forms.specs.declared.refusal.FormRefusal.{FormRefusal}
 use Rattle.message_forms.specs.Forms.{frame_at}
-use Rattle.agreement.proofs.Lists.{none_in, in_cons_cases, none_some, some_same, slice_get-more, in_filter_from}
 use Rattle.scenario_file.specs.Reading.{Contents}
 use Rattle.history_rules.specs.Events.{Event, Cry, Entry, is_restart}
 use Rattle.history_rules.specs.Setup.{Setup, stands, signed_from, leaves_used, own}
 use Rattle.history_rules.specs.Keeping.{is_halted}
 use Rattle.history_rules.specs.Legal.{Stands, IsLegal, says_in}
-use Rattle.history_rules.specs.Audit.{IsIn}
-use Rattle.audit_counts.proofs.Forged.{in_of_stands}
-use Rattle.own_histories.proofs.OwnEntries.{place_in_whole}
+use Rattle.history_laws.proofs.Forged.{in_of_stands}
+use Rattle.history_laws.proofs.OwnEntries.{place_in_whole}
 use Rattle.world_rules.specs.Frames.{cried, frames_of, frames_at_stamp}
 use Rattle.world_rules.specs.Scenarios.{setup_of}
 use Rattle.bench_rules.specs.Lists.{frames_after}
-use Rattle.own_histories.proofs.BenchLists.{intruded_say_nothing}
+use Rattle.history_laws.proofs.BenchLists.{intruded_say_nothing}
 use Rattle.world_history.specs.State.{BenchState, entry_at, frames_said}
 use Rattle.world_history.specs.Lists.{last_of, before_last, frames_at, frames_of_last}
 use Rattle.run_scripts.specs.declared.mail.Held.{Held}

@@ -3,13 +3,13 @@ use Rattle.std.proofs.Common.{◌≡◌, ℕ, ◌+◌, ◌<◌, ◌^◌, Bool, t
 use Rattle.std.proofs.Common.{Some, length, refl, sym, ◌∙◌, ap, subst}
 use Rattle.std.specs.Prelude.{slice_get}
 use Rattle.std.proofs.Math.Seq.{take-append_seam}
+use Rattle.plain_lists.proofs.Members.{slice_get-next}
 use Rattle.message_types.specs.declared.signed.Signed.{Signed}
 use Rattle.message_types.specs.declared.body.Body.{Body}
-use Rattle.agreement.proofs.Lists.{slice_get-next}
 use Rattle.history_rules.specs.Events.{Event, Took, Tick, Command, Field, Poll, Cry, Skip, Restart, Entry}
 use Rattle.history_rules.specs.Setup.{Setup, own}
 use Rattle.history_rules.specs.Sameness.{is_same_body}
-use Rattle.audit_counts.proofs.Same.{signed_test, body_test}
+use Rattle.history_laws.proofs.Same.{signed_test, body_test}
 use Rattle.world_rules.specs.Frames.{frames_of, frames_at_stamp}
 use Rattle.printed_run.specs.Printed.{is_frame, is_said}
 use Rattle.printed_history.proofs.EventTold.{said_earlier}

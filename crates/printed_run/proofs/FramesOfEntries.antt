@@ -11,7 +11,7 @@ use Rattle.std.specs.List.{slice_get, list_all}
 use Rattle.message_types.specs.declared.signed.Signed.{Signed}
 use Rattle.message_types.specs.declared.body.Body.{Body}
 use Rattle.quorum_sets.specs.Masters.{numbers_below}
-use Rattle.agreement.proofs.Known.{own-append, own_first, own_other, own_none}
+use Rattle.agreement.proofs.KnownAsItGrows.{own-append, own_first, own_other, own_none}
 use Rattle.history_rules.specs.Events.{Entry}
 use Rattle.history_rules.specs.Setup.{Setup, own}
 use Rattle.world_rules.specs.Frames.{cried, frames_of, frames_at_stamp}

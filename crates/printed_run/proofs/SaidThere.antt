@@ -1,6 +1,6 @@
 -- Whether a frame is the one that was said at a stamp and a place: in a cry, in an actor's frames, or nowhere.
 use Rattle.std.proofs.Common.{◌≡◌, ℕ, zero, suc, ◌-◌, ◌<◌, Bool, true, false, nat_lt, List, [], ◌∷◌}
-use Rattle.std.proofs.Common.{◌++◌, Option, None, Some, Result, Ok, Err, length, get_or, inl, inr, map, take, drop}
+use Rattle.std.proofs.Common.{◌++◌, Option, None, Some, Result, length, get_or, inl, inr, map, take, drop}
 use Rattle.std.proofs.Common.{refl, sym, ◌∙◌, ap, subst, arith}
 use Rattle.std.specs.List.{slice_get}
 use Rattle.message_types.specs.declared.signed.Signed.{Signed}
@@ -10,7 +10,7 @@ use Rattle.scenario_file.specs.Reading.{Contents}
 use Rattle.history_rules.specs.Events.{Cry, Entry}
 use Rattle.history_rules.specs.Setup.{Setup, own, signed_from, leaves_used}
 use Rattle.history_rules.specs.Legal.{IsLegal}
-use Rattle.own_histories.proofs.BenchLists.{intruded_say_nothing}
+use Rattle.history_laws.proofs.BenchLists.{intruded_say_nothing}
 use Rattle.world_rules.specs.Frames.{cried, frames_of, frames_at_stamp}
 use Rattle.world_rules.specs.Scenarios.{setup_of, masters_in, fits_in}
 use Rattle.world_rules.proofs.Fields.{setup_goes_by, group_is}
@@ -20,10 +20,8 @@ use Rattle.std.specs.Result.{IfOk}
 use Rattle.world_entries.specs.declared.entry.Event.{Event as KeptEvent}
 use Rattle.world_entries.specs.declared.entry.Event.TheVariants as kept
 use Rattle.world_entries.specs.Entries.{entry_of, event_of}
-use Rattle.audit_counts.proofs.Same.{signed_test, body_test}
+use Rattle.history_laws.proofs.Same.{signed_test, body_test}
 use Rattle.history_rules.specs.Sameness.{is_same_signed, is_same_body}
-use Rattle.message_forms.specs.declared.refusal.FormRefusal.{FormRefusal}
-use Rattle.message_forms.specs.Forms.{frame_at}
 use Rattle.std.proofs.lemmas.Bool.{true≢false, lt-ltb, ltb-true}
 use Rattle.std.proofs.lemmas.Bool.Decides.{same_from_decides}
 use Rattle.std.proofs.lemmas.Option.{slice_get-get_or, slice_get_cases}
@@ -50,16 +48,6 @@ cry_spells bytes said frame place same first is tells =
 pub cry_spells_none : (bytes : List ℕ) (frame : Signed Body) (place : ℕ) → [] ≡ cried (Cry bytes) →
     false ≡ is_frame frame (slice_get (cried (Cry bytes)) place)
 cry_spells_none bytes frame place is = ap (λ (fs : List (Signed Body)). is_frame frame (slice_get fs place)) is
-
-pub cries_no_more : (bytes : List ℕ) (frame : Signed Body) (place : ℕ) → (place ≡ 0 → ⊥) →
-    false ≡ is_frame frame (slice_get (cried (Cry bytes)) place)
-cries_no_more bytes frame zero other = absurd (other refl)
-cries_no_more bytes frame (suc n) other = by (frame_at bytes)
-  where
-    by : (read : Result (Signed Body) FormRefusal) →
-        false ≡ is_frame frame (slice_get (elim read [ Ok f ↦ f ∷ [] | Err fault ↦ [] ]) (suc n))
-    by (Ok f) = refl
-    by (Err e) = refl
 
 pub kept_there : (xs : List KeptEntry) (i : ℕ) (e : KeptEntry) → slice_get xs i ≡ Some e →
     slice_get (map entry_of xs) i ≡ Some (entry_of e)

@@ -1,10 +1,12 @@
 -- How words arrive: what a master knows grows at its end; what it takes it knows from then on, and what it says from its
 -- next event on. So after a round each connected master knows what any of them said before it.
-use Rattle.std.proofs.Common.{◌≡◌, ℕ, zero, suc, Bool, true, false, ◌||◌, List, [], ◌∷◌, ◌++◌, Option, Some, map, refl, sym}
-use Rattle.std.proofs.Common.{◌∙◌, ap, subst, inl, inr, ◌⊎◌, append_assoc, append-nil}
+use Rattle.std.proofs.Common.{◌≡◌, ℕ, zero, suc, true, false, List, [], ◌∷◌, ◌++◌, Option, Some, map, refl, sym}
+use Rattle.std.proofs.Common.{◌∙◌, ap, subst, inl, inr, append_assoc}
 use Rattle.std.proofs.lemmas.Bool.{or_left}
 use Rattle.std.specs.Prelude.{slice_get}
 use Rattle.std.specs.List.{flat_map}
+use Rattle.plain_lists.specs.Lists.{IsIn, here, there, Begins}
+use Rattle.plain_lists.proofs.Members.{in_left, in_right, in_first, in_flat_map, in_map_from}
 use Rattle.message_types.specs.declared.signed.Signed.{Signed}
 use Rattle.message_types.specs.declared.body.Body.{Body}
 use Rattle.message_types.specs.Parts.{parts, inside}
@@ -12,31 +14,14 @@ use Rattle.protocol_rules.specs.Master.{Heard, learned, taken_frames, known_at}
 use Rattle.history_rules.specs.Events.{Event, Took, Tick, Entry, frame_taken, is_silent}
 use Rattle.history_rules.specs.Setup.{Setup, is_correct_master, signed_from}
 use Rattle.history_rules.specs.Legal.{Stands, IsLegal, heard, known_of}
-use Rattle.history_rules.specs.Audit.{IsIn, here, there, HasSaid}
-use Rattle.agreement.specs.Laws.{Begins, known_by}
-use Rattle.agreement.proofs.Lists.{in_left, in_right, in_first, in_flat_map, in_map_from, none_in}
+use Rattle.history_rules.specs.Audit.{HasSaid}
+use Rattle.agreement.specs.Laws.{known_by}
 use Rattle.agreement.proofs.Places.{stands_on, whole_upto}
-use Rattle.agreement.proofs.Known.{learned_by, known_then, hears, heard_more, heard_at, heard_then, signed_from_in}
-use Rattle.agreement.proofs.Known.{signed_from_bodies, learned_then, correct_said}
-use Rattle.agreement.proofs.Vouched.{known_of_last}
-use Rattle.progress.specs.Rounds.{AreConnected, HasTaken, HasTick, IsRound, goes_to}
+use Rattle.agreement.proofs.KnownAsItGrows.{learned_by, known_then, hears, heard_more, heard_at, heard_then, signed_from_in}
+use Rattle.agreement.proofs.KnownAsItGrows.{signed_from_bodies, learned_then, correct_said}
+use Rattle.agreement.proofs.VouchedIsOrdered.{known_of_last, known_of_grows}
+use Rattle.progress.specs.Rounds.{HasTaken, HasTick, goes_to}
 use Rattle.progress.specs.Laws.{KnowsWord, KnownGrows, WordsArrive}
-
-pub known_of_grows : (hs more : List Heard) → Begins (known_of hs) (known_of (hs ++ more))
-unfolding known_of
-known_of_grows [] more = record { rest = known_of more; same = refl }
-known_of_grows (e ∷ []) [] = record { rest = []; same = sym (append-nil (flat_map parts (taken_frames e.took))) }
-known_of_grows (e ∷ []) (f ∷ more) = record {
-  rest = flat_map parts e.said ++ known_of (f ∷ more);
-  same = append_assoc (flat_map parts (taken_frames e.took)) (flat_map parts e.said) (known_of (f ∷ more));
-}
-known_of_grows (e ∷ f ∷ rest) more =
-    let b = known_of_grows (f ∷ rest) more in
-    record {
-      rest = b.rest;
-      same = ap (λ (ps : List (Signed Body)). learned e ++ ps) b.same
-          ∙ sym (append_assoc (learned e) (known_of (f ∷ rest)) b.rest);
-    }
 
 pub known_grows : KnownGrows
 known_grows w history first i b =

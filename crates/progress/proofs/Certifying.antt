@@ -1,14 +1,17 @@
 -- A request of a connected master that has its turn with all of them is acknowledged by each; a round later each knows the
 -- acknowledgements of all, and has it certified. No other update can be: its master says one request for each number.
-use Rattle.std.proofs.Common.{◌≡◌, ℕ, ◌+◌, ◌<◌, ◌≤◌, zero, suc, Bool, true, false, cond, ◌&&◌, ◌||◌, not, List, [], ◌∷◌, ◌++◌, ◌-◌}
-use Rattle.std.proofs.Common.{Option, Some, None, is_some, filter, nat_eq, nat_lt, nat_le, length, refl, sym, ◌∙◌, ap, subst, inl, inr, ◌⊎◌, arith}
+use Rattle.std.proofs.Common.{◌≡◌, ℕ, ◌+◌, ◌<◌, ◌≤◌, Bool, true, false, cond, ◌&&◌, not, List, [], ◌∷◌, ◌++◌, ◌-◌}
+use Rattle.std.proofs.Common.{Option, Some, None, is_some, nat_eq, nat_lt, length, refl, sym, ◌∙◌, ap, subst, inl, inr, ◌⊎◌, arith}
 use Rattle.std.proofs.Common.{eqb-true, if◌then◌else◌}
 use Rattle.std.proofs.lemmas.Bool.{false≢true, and_parts, and_from, ne_eqb, eq-eqb, ltb-true, le-leb, cases_eq}
-use Rattle.std.proofs.lemmas.Bool.{cases_lt, cases_Bool, not_from_false}
+use Rattle.std.proofs.lemmas.Bool.{cases_Bool, not_from_false}
 use Rattle.std.proofs.lemmas.Slice.Eq.{bytes_eq-Decides}
 use Rattle.std.specs.List.{list_all, list_any, find, filter_map, flat_map}
 use Rattle.std.specs.Str.{bytes_eq}
-use Rattle.quorum_sets.specs.Masters.{numbers_below, voters}
+use Rattle.plain_lists.specs.Lists.{IsIn, here, there, Begins, Within}
+use Rattle.plain_lists.proofs.Members.{in_flat_map, in_filter_map, in_filter_map_from, any_from, any_in, some_same, none_some}
+use Rattle.protocol_rules.proofs.FirstMet.{first_in}
+use Rattle.quorum_sets.specs.Masters.{voters}
 use Rattle.quorum_sets.specs.Quorum.{has_quorum}
 use Rattle.message_types.specs.declared.signed.Signed.{Signed}
 use Rattle.message_types.specs.declared.updates.Update.{Update}
@@ -17,29 +20,28 @@ use Rattle.message_types.specs.declared.preordering.PoAck.{PoAck}
 use Rattle.message_types.specs.declared.body.Body.{Body}
 use Rattle.message_types.specs.declared.body.Body.TheVariants as body
 use Rattle.message_types.specs.Digests.{digest_of_update}
-use Rattle.protocol_rules.specs.Words.{first_met, first_of_list, greatest_of, numbers_from}
+use Rattle.protocol_rules.specs.Words.{first_of_list, greatest_of, numbers_from}
 use Rattle.protocol_rules.specs.Group.{Group, is_live, most_number, is_door}
 use Rattle.protocol_rules.specs.Preorder.{certified, update_requested, updates_requested, is_ack, is_acked, acks, ack_due}
 use Rattle.protocol_rules.specs.Turns.{first_requested, number_for, has_turn, acks_in_turn_due}
 use Rattle.protocol_rules.specs.Master.{Heard, said_before}
 use Rattle.protocol_rules.proofs.FirstMet.{first_met-none}
+use Rattle.protocol_rules.proofs.Numbers.{from_in}
 use Rattle.history_rules.specs.Events.{Entry}
 use Rattle.history_rules.specs.Setup.{Setup, is_correct, is_correct_master, room, own}
 use Rattle.history_rules.specs.Legal.{Stands, IsLegal, heard, known_of}
-use Rattle.history_rules.specs.Audit.{IsIn, here, there, HasSaid, NothingForged}
-use Rattle.agreement.specs.Laws.{Begins, known_by}
-use Rattle.agreement.proofs.Lists.{Within, none_in, in_flat_map, in_filter_map, in_filter_map_from, any_from, any_in}
-use Rattle.agreement.proofs.Lists.{first_in, in_cons_cases, in_left, some_same, none_some}
+use Rattle.history_rules.specs.Audit.{HasSaid, NothingForged}
+use Rattle.agreement.specs.Laws.{known_by}
 use Rattle.agreement.proofs.Places.{stands_on, said_on, said_whole, legal_before}
-use Rattle.agreement.proofs.Known.{learned_by, known_then, known_learned, known_of_within}
-use Rattle.agreement.proofs.Spoken.{if_some}
-use Rattle.agreement.proofs.Origin.{FirstSaid, first_said, first_said_before, due_first, learned_said}
-use Rattle.agreement.proofs.Requests.{certified_from}
-use Rattle.agreement.proofs.Grows.{quorum_more}
-use Rattle.agreement.proofs.Committed.{in_below}
-use Rattle.progress.specs.Rounds.{AreConnected, IsRound, goes_to}
+use Rattle.agreement.proofs.KnownAsItGrows.{learned_by, known_then, known_learned, known_of_within}
+use Rattle.agreement.proofs.SpokenByKind.{if_some}
+use Rattle.agreement.proofs.LearnedWasSaid.{FirstSaid, first_said, first_said_before, due_first, learned_said}
+use Rattle.agreement.proofs.RequestsAgree.{certified_from}
+use Rattle.agreement.proofs.QuorumsStay.{quorum_more}
+use Rattle.agreement.proofs.CommittedStays.{in_below}
+use Rattle.progress.specs.Rounds.{goes_to}
 use Rattle.progress.specs.Laws.{KnowsWord, CertifiedInARound}
-use Rattle.progress.proofs.Arriving.{in_more, words_arrive}
+use Rattle.progress.proofs.Arriving.{words_arrive}
 use Rattle.progress.proofs.Saying.{LastEvent, last_event, known_last, all_is_said, said_by_part, ack_said}
 use Rattle.progress.proofs.Requesting.{requests_once}
 
@@ -54,19 +56,6 @@ correct_too w m h = by (nat_lt m w.group.n) (w.intruded m) h
 
 pub below_group : (w : Setup) (m : ℕ) → is_correct_master w m ≡ true → m < w.group.n
 below_group w m h = ltb-true m w.group.n (and_parts (nat_lt m w.group.n) (not (w.intruded m)) h).0
-
-pub from_in : (start count s : ℕ) → start ≤ s → s < start + count → IsIn s (numbers_from start count)
-unfolding numbers_from
-from_in start zero s low high = absurd (omega arith)
-from_in start (suc count) s low high = by_place (cases_lt start s) (λ less. from_in (suc start) count s less (omega arith))
-  where
-    by_place : (start < s) ⊎ (s ≤ start) → (start < s → IsIn s (numbers_from (suc start) count)) →
-        IsIn s (start ∷ numbers_from (suc start) count)
-    by_place (inl less) later = there start (numbers_from (suc start) count) (later less)
-    by_place (inr le) later =
-        let same : s ≡ start = omega arith in
-        subst (λ (z : ℕ). IsIn z (start ∷ numbers_from (suc start) count)) (sym same)
-        (here (numbers_from (suc start) count))
 
 -- what a request has that has its turn
 turn_first : (g : Group) (known : List (Signed Body)) (j k : ℕ) → has_turn g known j k ≡ true →

@@ -1,11 +1,13 @@
 -- What a master knows to be prepared in its present view, within the window, it has committed at its last event, with the
 -- digest of these rows: what was prepared first stays so.
-use Rattle.std.proofs.Common.{◌≡◌, ℕ, ◌+◌, ◌-◌, ◌<◌, ◌≤◌, Bool, true, false, cond, ◌&&◌, List, [], ◌∷◌, ◌++◌, Option, Some}
-use Rattle.std.proofs.Common.{None, filter, length, nat_eq, nat_le, refl, sym, ◌∙◌, ap, subst, inl, inr, ◌⊎◌, arith, eqb-true}
-use Rattle.std.proofs.Common.{if◌then◌else◌}
+use Rattle.std.proofs.Common.{◌≡◌, ℕ, ◌+◌, ◌-◌, ◌≤◌, Bool, true, false, cond, List, [], ◌∷◌, ◌++◌, Option, Some}
+use Rattle.std.proofs.Common.{None, filter, nat_eq, sym, ◌∙◌, ap, subst, inl, inr, arith, eqb-true}
 use Rattle.std.proofs.lemmas.Bool.{false≢true, and_parts, cases_Bool}
 use Rattle.std.proofs.lemmas.Grind.{flat_map-append}
 use Rattle.std.specs.List.{list_any, find, flat_map}
+use Rattle.plain_lists.specs.Lists.{IsIn, here, Begins}
+use Rattle.plain_lists.proofs.Members.{any_from, in_left, in_right, in_flat_map, in_filter_from, some_same, none_some}
+use Rattle.protocol_rules.proofs.FirstMet.{first_met-more}
 use Rattle.message_types.specs.declared.signed.Signed.{Signed}
 use Rattle.message_types.specs.declared.ordering.Commit.{Commit}
 use Rattle.message_types.specs.declared.body.Body.{Body}
@@ -13,27 +15,24 @@ use Rattle.message_types.specs.declared.body.Body.TheVariants as body
 use Rattle.message_types.specs.Digests.{digest_of_rows}
 use Rattle.protocol_rules.specs.declared.facts.OrderFact.{OrderFact}
 use Rattle.protocol_rules.specs.Words.{first_met}
-use Rattle.protocol_rules.specs.Group.{Group, is_live, window}
+use Rattle.protocol_rules.specs.Group.{Group, window}
 use Rattle.protocol_rules.specs.Facts.{tells, facts_of, rows_known}
-use Rattle.protocol_rules.specs.Order.{stable, is_voted, prepare_by, prepared, commits_said, commit_due, commits_due, marks_due, in_window}
+use Rattle.protocol_rules.specs.Order.{stable, is_voted, prepare_by, prepared, commits_said, commit_due, commits_due, marks_due}
 use Rattle.protocol_rules.specs.Views.{view, is_open}
 use Rattle.protocol_rules.specs.Worth.{worthy_prepares_due}
 use Rattle.protocol_rules.specs.Master.{Heard, said_before}
+use Rattle.protocol_rules.proofs.Numbers.{from_in}
 use Rattle.history_rules.specs.Events.{Entry}
-use Rattle.history_rules.specs.Setup.{Setup, is_correct_master, room, own}
 use Rattle.history_rules.specs.Legal.{Stands, IsLegal, heard, known_of}
-use Rattle.history_rules.specs.Audit.{IsIn, here, HasSaid}
-use Rattle.agreement.specs.Laws.{Begins, known_by}
-use Rattle.agreement.proofs.Lists.{any_from, in_left, in_right, in_flat_map, in_filter_from, some_same, none_some}
-use Rattle.agreement.proofs.Lists.{first_met-more}
+use Rattle.history_rules.specs.Audit.{HasSaid}
+use Rattle.agreement.specs.Laws.{known_by}
 use Rattle.agreement.proofs.Places.{said_whole, stands_on, legal_before}
-use Rattle.agreement.proofs.Known.{known_then}
-use Rattle.agreement.proofs.Origin.{FirstSaid, first_said_before, due_first}
+use Rattle.agreement.proofs.KnownAsItGrows.{known_then}
+use Rattle.agreement.proofs.LearnedWasSaid.{FirstSaid, first_said_before, due_first}
 use Rattle.words_by_part.specs.Kinds.{is_of, ordering}
 use Rattle.progress.specs.Laws.{PreparedIsCommitted}
-use Rattle.progress.proofs.Arriving.{known_from, known_grows, known_upto}
+use Rattle.progress.proofs.Arriving.{known_from, known_grows}
 use Rattle.progress.proofs.Saying.{SaidByPart, LastEvent, last_event, known_last, all_is_said, said_by_part}
-use Rattle.progress.proofs.Certifying.{from_in}
 
 prepared_stays : (g : Group) (facts more : List OrderFact) (v s : ℕ) (rows : List (List ℕ)) → prepared g facts v s ≡ Some rows
     → prepared g (facts ++ more) v s ≡ Some rows

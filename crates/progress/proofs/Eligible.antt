@@ -1,43 +1,43 @@
 -- Where each connected master told that it has certified requests up to a number, the latest summaries that any of them
 -- knows make these eligible: a quorum's rows reach so far, since of a correct master the summary that tells most tells no
 -- less of any master than another one.
-use Rattle.std.proofs.Common.{◌≡◌, ℕ, ◌+◌, ◌<◌, ◌≤◌, zero, suc, Bool, true, false, cond, ◌&&◌, not, List, [], ◌∷◌, ◌++◌}
-use Rattle.std.proofs.Common.{Option, Some, None, filter, map, nat_eq, nat_lt, nat_le, length, refl, sym, ◌∙◌, ap, subst}
-use Rattle.std.proofs.Common.{inl, inr, ◌⊎◌, arith, eqb-true, if◌then◌else◌}
+use Rattle.std.proofs.Common.{◌≡◌, ℕ, ◌+◌, ◌<◌, ◌≤◌, suc, Bool, true, false, cond, List, [], ◌∷◌, ◌++◌}
+use Rattle.std.proofs.Common.{Option, Some, None, filter, map, nat_eq, nat_le, length, refl, sym, ◌∙◌, ap, subst}
+use Rattle.std.proofs.Common.{inl, inr, ◌⊎◌, arith, eqb-true}
 use Rattle.std.proofs.lemmas.Bool.{false≢true, cases_lt, cases_eq, not_from_false, ne_eqb, ltb-true, ltb-false, eq-eqb}
 use Rattle.std.proofs.lemmas.Bool.{le-leb, leb-true}
 use Rattle.std.proofs.lemmas.List.Sums.{sum_by-cons}
 use Rattle.std.specs.Prelude.{slice_index}
 use Rattle.std.specs.List.{filter_map, sum}
+use Rattle.plain_lists.specs.Lists.{IsIn, here, there, Begins}
+use Rattle.plain_lists.proofs.Members.{none_in, in_cons_cases, in_filter, in_filter_map, in_filter_map_from, some_same, none_some}
 use Rattle.quorum_sets.specs.Masters.{numbers_below, voters}
 use Rattle.message_types.specs.declared.signed.Signed.{Signed}
 use Rattle.message_types.specs.declared.preordering.PoSummary.{PoSummary}
 use Rattle.message_types.specs.declared.body.Body.{Body}
 use Rattle.message_types.specs.declared.body.Body.TheVariants as body
 use Rattle.protocol_rules.specs.Words.{best_by, best_from, greatest_of}
-use Rattle.protocol_rules.specs.Group.{Group, is_live}
+use Rattle.protocol_rules.specs.Group.{Group}
 use Rattle.protocol_rules.specs.Preorder.{vector}
 use Rattle.protocol_rules.specs.Matrix.{summary_of, tells_more, latest, column, eligible}
 use Rattle.protocol_rules.specs.Master.{latest_rows}
-use Rattle.history_rules.specs.Events.{Entry, is_silent}
-use Rattle.history_rules.specs.Setup.{Setup, is_correct, is_correct_master, room, own}
+use Rattle.history_rules.specs.Events.{Entry}
+use Rattle.history_rules.specs.Setup.{Setup, is_correct, is_correct_master}
 use Rattle.history_rules.specs.Legal.{Stands, IsLegal, heard}
-use Rattle.history_rules.specs.Audit.{IsIn, here, there, HasSaid, NothingForged}
-use Rattle.agreement.specs.Laws.{Begins, known_by}
-use Rattle.agreement.proofs.Lists.{Within, none_in, in_cons_cases, in_map, in_filter, in_filter_map, in_filter_map_from}
-use Rattle.agreement.proofs.Lists.{some_same, none_some}
-use Rattle.agreement.proofs.Places.{stands_cases, legal_before, said_on}
-use Rattle.agreement.proofs.Known.{known_then, learned_by, known_of_within}
-use Rattle.agreement.proofs.Spoken.{if_some}
-use Rattle.agreement.proofs.Inside.{best_in, best_there}
-use Rattle.agreement.proofs.Grows.{filter_more}
-use Rattle.agreement.proofs.Planned.{greatest_above}
-use Rattle.agreement.proofs.Committed.{in_below}
-use Rattle.agreement.proofs.Origin.{FirstSaid, first_said, due_first, learned_said}
-use Rattle.progress.specs.Rounds.{AreConnected, IsRound, goes_to}
+use Rattle.history_rules.specs.Audit.{HasSaid, NothingForged}
+use Rattle.agreement.specs.Laws.{known_by}
+use Rattle.agreement.proofs.Places.{stands_cases, legal_before}
+use Rattle.agreement.proofs.KnownAsItGrows.{known_then, known_of_within}
+use Rattle.agreement.proofs.SpokenByKind.{if_some}
+use Rattle.agreement.proofs.FramesInside.{best_in, best_there}
+use Rattle.agreement.proofs.QuorumsStay.{filter_more}
+use Rattle.agreement.proofs.PlannedRows.{greatest_above}
+use Rattle.agreement.proofs.CommittedStays.{in_below}
+use Rattle.agreement.proofs.LearnedWasSaid.{FirstSaid, first_said, due_first, learned_said}
+use Rattle.progress.specs.Rounds.{goes_to}
 use Rattle.progress.specs.Laws.{KnowsWord, EligibleInTwoRounds}
 use Rattle.progress.proofs.Arriving.{known_from, known_grows, known_upto, words_arrive}
-use Rattle.progress.proofs.Certifying.{correct_too, below_group}
+use Rattle.progress.proofs.Certifying.{correct_too}
 use Rattle.progress.proofs.Reaching.{left_before}
 use Rattle.progress.proofs.Summing.{vector_more, numbers_at, summed_up}
 

@@ -1,10 +1,12 @@
 -- An update that was handed to a connected door is introduced within a round: at the door's last event by then it is the
 -- next one, or it was introduced before, or as many are executed.
-use Rattle.std.proofs.Common.{◌≡◌, ℕ, ◌+◌, ◌<◌, ◌≤◌, Bool, true, false, cond, ◌&&◌, List, [], ◌∷◌, ◌++◌, Option, Some, None}
+use Rattle.std.proofs.Common.{◌≡◌, ℕ, ◌+◌, ◌<◌, ◌≤◌, Bool, true, cond, ◌&&◌, List, [], ◌∷◌, ◌++◌, Some, None}
 use Rattle.std.proofs.Common.{length, map, max, nat_eq, nat_lt, append_assoc, append-nil, refl, sym, ◌∙◌, ap, subst, inl, inr, ◌⊎◌, arith}
 use Rattle.std.proofs.lemmas.Bool.{and_from, and_parts, cases_lt, eq-eqb, ltb-true}
 use Rattle.std.proofs.lemmas.Grind.{flat_map-append}
-use Rattle.std.specs.List.{filter_map, flat_map, list_all}
+use Rattle.std.specs.List.{list_all}
+use Rattle.plain_lists.specs.Lists.{IsIn, here, Begins}
+use Rattle.plain_lists.proofs.Members.{all_at, in_left, in_filter_map, in_filter_map_from, none_some}
 use Rattle.quorum_sets.specs.Masters.{numbers_below}
 use Rattle.message_types.specs.declared.signed.Signed.{Signed}
 use Rattle.message_types.specs.declared.updates.Update.{Update}
@@ -14,34 +16,34 @@ use Rattle.message_types.specs.declared.body.Body.TheVariants as body
 use Rattle.message_types.specs.Parts.{as_frame, parts, inside}
 use Rattle.message_types.specs.Spelling.{has_spelling}
 use Rattle.message_types.specs.Texts.{body_text}
-use Rattle.protocol_rules.specs.Group.{Group, is_live, most_number, is_door}
+use Rattle.protocol_rules.specs.Group.{Group, is_live, most_number}
 use Rattle.protocol_rules.specs.Places.{in_place}
 use Rattle.protocol_rules.specs.Preorder.{update_of}
 use Rattle.protocol_rules.specs.Execution.{updates_of}
-use Rattle.protocol_rules.specs.Turns.{last_request, last_introduced, next_in_turn, requests_in_turn_due}
+use Rattle.protocol_rules.specs.Turns.{last_request, last_introduced}
 use Rattle.protocol_rules.specs.Master.{Heard, taken_at, said_before, executed}
 use Rattle.history_rules.specs.Events.{Event, Entry, frame_taken}
 use Rattle.history_rules.specs.Setup.{Setup, is_correct_master, room, own, stands}
-use Rattle.history_rules.specs.Legal.{Stands, IsLegal, TakesWell, heard, executions}
-use Rattle.history_rules.specs.Audit.{IsIn, here, HasSaid, NothingForged}
-use Rattle.agreement.specs.Laws.{HasSizes, Begins, known_by}
-use Rattle.agreement.proofs.Lists.{all_at, in_left, in_filter_map, in_filter_map_from, none_some}
-use Rattle.agreement.proofs.Committed.{in_below}
+use Rattle.history_rules.specs.Legal.{IsLegal, TakesWell, heard, executions}
+use Rattle.history_rules.specs.Audit.{HasSaid, NothingForged}
+use Rattle.agreement.specs.Laws.{HasSizes}
+use Rattle.agreement.proofs.CommittedStays.{in_below}
 use Rattle.agreement.proofs.Places.{said_whole, legal_before, stands_on}
-use Rattle.agreement.proofs.Known.{known_then, known_learned, learned_by, hears, heard_more, heard_at, said_earlier}
-use Rattle.agreement.proofs.Spoken.{if_some}
-use Rattle.agreement.proofs.Origin.{FirstSaid, first_said_before, learned_said, learned_closed, taken_known}
-use Rattle.agreement.proofs.Good.{GoodFrame, SignedWell, learned_good}
-use Rattle.agreement.proofs.Vouched.{executions_grow}
+use Rattle.agreement.proofs.KnownAsItGrows.{known_then, known_learned, learned_by, hears, heard_more, heard_at, said_earlier}
+use Rattle.agreement.proofs.SpokenByKind.{if_some}
+use Rattle.agreement.proofs.LearnedWasSaid.{FirstSaid, first_said_before, learned_said, learned_closed, taken_known}
+use Rattle.agreement.proofs.LearnedInPlace.{SignedWell, learned_good}
+use Rattle.agreement.proofs.VouchedIsOrdered.{executions_grow}
+use Rattle.agreement.proofs.UpdatesAreTaken.{client_correct}
 use Rattle.progress.specs.Rounds.{AreConnected, IsRound, HasTaken, HasTick}
-use Rattle.progress.specs.Laws.{KnowsWord, IsHanded, introduced_to, IntroducedInARound}
+use Rattle.progress.specs.Laws.{IsHanded, introduced_to, IntroducedInARound}
 use Rattle.progress.proofs.Arriving.{said_learned, stands_in_round, tick_loud, numbered}
 use Rattle.progress.proofs.Saying.{LastEvent, last_event, known_last, all_is_said, said_by_part}
 use Rattle.progress.proofs.Requesting.{in_turn_at}
 use Rattle.progress.proofs.Turning.{client_of, number_of, update_from}
 use Rattle.progress.proofs.Turned.{turn_said}
-use Rattle.progress.proofs.Introducing.{introduced_more, requests_more, IsDone, Covered, Reached, reached, covered_same}
-use Rattle.progress.proofs.Introducing.{updates_grow, begins_init, client_correct, client_heard, covered_by, count_then}
+use Rattle.progress.proofs.Introducing.{introduced_more, requests_more, Reached, reached, covered_same}
+use Rattle.progress.proofs.Introducing.{updates_grow, begins_init, client_heard, covered_by, count_then}
 use Rattle.progress.proofs.Introducing.{taken_by_last, next_request_there}
 
 -- a frame that is taken as an update is that update's

@@ -1,56 +1,44 @@
 -- A door introduces each update of a client after those before it, or passes over it once as many are executed. So an update
 -- that was handed to it, its earlier ones being done with, it has introduced at its next events, if it wasn't executed
 -- meanwhile.
-use Rattle.std.proofs.Common.{◌≡◌, ℕ, ◌+◌, ◌-◌, ◌<◌, ◌≤◌, zero, suc, Bool, true, false, cond, ◌&&◌, not, List, [], ◌∷◌, ◌++◌}
+use Rattle.std.proofs.Common.{◌≡◌, ℕ, ◌+◌, ◌-◌, ◌<◌, ◌≤◌, Bool, true, false, cond, List, [], ◌∷◌, ◌++◌}
 use Rattle.std.proofs.Common.{Option, Some, None, filter, map, max, nat_eq, nat_lt, nat_le, length, refl, sym, ◌∙◌, ap, subst}
 use Rattle.std.proofs.Common.{inl, inr, ◌⊎◌, arith, append_assoc, append-nil, eqb-true}
-use Rattle.std.proofs.lemmas.Bool.{false≢true, and_parts, and_from, and_left, cases_lt, cases_eq, cases_Bool, ltb-true, lt-ltb}
-use Rattle.std.proofs.lemmas.Bool.{le-ltb, le-leb, or_right, eq-eqb, not_from_false}
-use Rattle.std.proofs.lemmas.List.{map-append, length-append}
-use Rattle.std.proofs.lemmas.List.Elements.{filter-append, filter_map-append}
+use Rattle.std.proofs.lemmas.Bool.{and_from, cases_lt, cases_eq, cases_Bool, lt-ltb}
+use Rattle.std.proofs.lemmas.Bool.{le-leb, or_right}
+use Rattle.std.proofs.lemmas.List.{length-append}
+use Rattle.std.proofs.lemmas.List.Elements.{filter-append}
 use Rattle.std.proofs.lemmas.Grind.{flat_map-append}
 use Rattle.std.specs.List.{filter_map, flat_map}
+use Rattle.plain_lists.specs.Lists.{IsIn, here, Begins}
+use Rattle.plain_lists.proofs.Members.{none_in, in_cons_cases, in_cases, in_left, in_right, in_first, in_map_from, in_filter_from, in_filter_map_from, in_flat_map}
+use Rattle.protocol_rules.proofs.FirstMet.{first_in, first_there}
 use Rattle.quorum_sets.specs.Masters.{numbers_below}
 use Rattle.message_types.specs.declared.signed.Signed.{Signed}
 use Rattle.message_types.specs.declared.updates.Update.{Update}
 use Rattle.message_types.specs.declared.preordering.PoRequest.{PoRequest}
 use Rattle.message_types.specs.declared.body.Body.{Body}
 use Rattle.message_types.specs.declared.body.Body.TheVariants as body
-use Rattle.message_types.specs.Parts.{as_frame}
-use Rattle.protocol_rules.specs.Words.{first_of_list, greatest_of}
+use Rattle.protocol_rules.specs.Words.{first_of_list}
 use Rattle.protocol_rules.specs.Group.{Group, is_live, most_number, is_door}
 use Rattle.protocol_rules.specs.Preorder.{request_in, requests_said, update_of}
 use Rattle.protocol_rules.specs.Execution.{updates_of}
 use Rattle.protocol_rules.specs.Turns.{last_request, last_introduced, next_in_turn, requests_in_turn_due}
 use Rattle.protocol_rules.specs.Master.{Heard, taken_frames, taken_at, said_before, executed}
-use Rattle.protocol_rules.proofs.Greatest.{greatest_of-append}
 use Rattle.history_rules.specs.Events.{Entry, frame_taken, is_silent}
-use Rattle.history_rules.specs.Setup.{Setup, is_correct, is_correct_master, room, own}
+use Rattle.history_rules.specs.Setup.{Setup, is_correct_master, room, own}
 use Rattle.history_rules.specs.Legal.{Stands, IsLegal, heard, executions, known_of}
-use Rattle.history_rules.specs.Audit.{IsIn, here, there, HasSaid, NothingForged}
-use Rattle.agreement.specs.Laws.{HasSizes, Begins, known_by}
-use Rattle.agreement.proofs.Lists.{Within, none_in, in_cons_cases, in_cases, in_left, in_right, in_first, in_map, in_map_from, in_filter}
-use Rattle.agreement.proofs.Lists.{in_filter_from, in_filter_map, in_filter_map_from, in_flat_map, first_in, first_there}
-use Rattle.agreement.proofs.Lists.{some_same, none_some}
-use Rattle.agreement.proofs.Places.{by_growth, heads_same, tails_same, stands_on, legal_before}
-use Rattle.agreement.proofs.Known.{known_then, learned_by, hears, heard_more, heard_at, heard_other, heard_silent, heard_last}
-use Rattle.agreement.proofs.Known.{known_learned, said_earlier, correct_said}
-use Rattle.agreement.proofs.Spoken.{if_some}
-use Rattle.agreement.proofs.Origin.{heard_none, FirstSaid, first_said_before, learned_said, learned_closed, taken_known}
-use Rattle.agreement.proofs.Good.{SignedWell, learned_good}
-use Rattle.agreement.proofs.Quorums.{below_from}
-use Rattle.agreement.proofs.Planned.{greatest_above}
-use Rattle.agreement.proofs.Committed.{in_below}
-use Rattle.agreement.proofs.Vouched.{executions_grow}
-use Rattle.progress.specs.Rounds.{AreConnected, IsRound, HasTaken, HasTick, is_heard}
-use Rattle.progress.specs.Laws.{KnowsWord, IsHanded, introduced_to, IntroducedInARound}
-use Rattle.progress.proofs.Arriving.{known_upto, said_learned, stands_in_round, tick_loud, took_loud, numbered}
-use Rattle.progress.proofs.Saying.{SaidByPart, LastEvent, last_event, known_last, all_is_said, said_by_part}
-use Rattle.progress.proofs.Requesting.{request_same, said_below, in_turn_at}
+use Rattle.agreement.proofs.Places.{by_growth, heads_same, tails_same}
+use Rattle.agreement.proofs.KnownAsItGrows.{known_then, hears, heard_at, heard_other, heard_silent}
+use Rattle.agreement.proofs.LearnedWasSaid.{heard_none}
+use Rattle.agreement.proofs.VouchedIsOrdered.{executions_grow}
+use Rattle.progress.specs.Rounds.{HasTaken, is_heard}
+use Rattle.progress.proofs.Arriving.{known_upto, took_loud}
+use Rattle.progress.proofs.Saying.{LastEvent}
+use Rattle.progress.proofs.Requesting.{said_below, in_turn_at}
 use Rattle.progress.proofs.Turning.{client_of, number_of, last_said, greatest_in, request_in_from, introduced_below}
-use Rattle.progress.proofs.Turning.{update_from, Follows, next_follows}
-use Rattle.progress.proofs.Turned.{SameRequests, requests_then, turn_said}
-use Rattle.progress.proofs.Certifying.{correct_too}
+use Rattle.progress.proofs.Turning.{Follows, next_follows}
+use Rattle.progress.proofs.Turned.{SameRequests, requests_then}
 
 -- the last update that was introduced for a client was
 introduced_in : (said : List Body) (c : ℕ) → 1 ≤ last_introduced said c → (q : PoRequest) × IsIn (body.PoRequest q) said
@@ -201,10 +189,6 @@ begins_init (x ∷ xs) more [] z e some = absurd (some (ends xs (tails_same e)))
 begins_init {X} (x ∷ xs) more (y ∷ ys) z e some =
     let b = begins_init xs more ys z (tails_same e) some in
     record { rest = b.rest; same = ap (λ (v : X). v ∷ ys) (sym (heads_same e)) ∙ ap (λ (vs : List X). x ∷ vs) b.same }
-
-pub client_correct : (w : Setup) (actor c : ℕ) → actor ≡ w.group.n + c → is_correct w actor ≡ true
-client_correct w actor c e = not_from_false (nat_lt actor w.group.n && w.intruded actor)
-    (and_left (nat_lt actor w.group.n) (w.intruded actor) (le-ltb actor w.group.n (omega arith)))
 
 pub client_heard : (w : Setup) (connected : ℕ → Bool) (actor c : ℕ) → actor ≡ w.group.n + c → is_heard w connected actor ≡ true
 client_heard w connected actor c e = or_right (connected actor) (nat_le w.group.n actor)

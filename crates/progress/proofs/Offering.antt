@@ -1,9 +1,11 @@
 -- At a tick a leader offers the next number, if that is within its limits and makes more eligible than what it counts as
 -- offered.
-use Rattle.std.proofs.Common.{◌≡◌, ℕ, ◌+◌, ◌-◌, ◌≤◌, Bool, true, false, cond, ◌&&◌, List, [], ◌∷◌, ◌++◌, Option, Some, None}
-use Rattle.std.proofs.Common.{length, nat_eq, nat_le, refl, sym, ◌∙◌, ap, subst, inl, inr, ◌⊎◌, arith, if◌then◌else◌}
+use Rattle.std.proofs.Common.{◌≡◌, ℕ, ◌+◌, ◌-◌, Bool, true, cond, ◌&&◌, List, [], ◌∷◌, Option, Some, None}
+use Rattle.std.proofs.Common.{nat_eq, nat_le, sym, ap, subst, inl, inr, if◌then◌else◌}
 use Rattle.std.proofs.lemmas.Bool.{and_from, cases_Bool, eq-eqb, le-leb}
 use Rattle.std.specs.List.{filter_map}
+use Rattle.plain_lists.specs.Lists.{IsIn, here}
+use Rattle.plain_lists.proofs.Members.{in_filter_from}
 use Rattle.message_types.specs.declared.signed.Signed.{Signed}
 use Rattle.message_types.specs.declared.ordering.PrePrepare.{PrePrepare}
 use Rattle.message_types.specs.declared.views.Plan.{Plan}
@@ -11,19 +13,16 @@ use Rattle.message_types.specs.declared.body.Body.{Body}
 use Rattle.message_types.specs.declared.body.Body.TheVariants as body
 use Rattle.protocol_rules.specs.declared.facts.OrderFact.{OrderFact}
 use Rattle.protocol_rules.specs.Words.{numbers_from}
-use Rattle.protocol_rules.specs.Group.{Group, is_live, leader_of, most_number, window}
+use Rattle.protocol_rules.specs.Group.{Group, leader_of, most_number, window}
 use Rattle.protocol_rules.specs.Facts.{facts_of}
 use Rattle.protocol_rules.specs.Matrix.{latest_frames, reach, exceeds}
 use Rattle.protocol_rules.specs.Order.{gapless, stable, plan_known}
 use Rattle.protocol_rules.specs.Views.{view, is_open}
 use Rattle.protocol_rules.specs.Master.{said_before, latest_rows, next_number, counted_rows, preprepares_due}
 use Rattle.protocol_rules.specs.Master.{whole_preprepares_due}
-use Rattle.history_rules.specs.Events.{Tick, Entry, is_tick}
-use Rattle.history_rules.specs.Setup.{Setup, is_correct_master, room, own}
-use Rattle.history_rules.specs.Legal.{Stands, IsLegal, heard}
-use Rattle.history_rules.specs.Audit.{IsIn, here, HasSaid}
-use Rattle.agreement.proofs.Lists.{in_filter_from}
-use Rattle.agreement.proofs.Known.{known_then}
+use Rattle.history_rules.specs.Events.{is_tick}
+use Rattle.history_rules.specs.Legal.{heard}
+use Rattle.agreement.proofs.KnownAsItGrows.{known_then}
 use Rattle.words_by_part.specs.Kinds.{is_of, offering}
 use Rattle.progress.specs.Laws.{LeaderOffers}
 use Rattle.progress.proofs.Arriving.{tick_loud}

@@ -1,8 +1,9 @@
 -- What a connected master requested is certified at all of them two rounds later, with all its requests before it: so each
 -- one's vector reaches as far.
 use Rattle.std.proofs.Common.{◌≡◌, ℕ, ◌+◌, ◌-◌, ◌<◌, ◌≤◌, zero, suc, Bool, true, false, List, [], ◌∷◌, ◌++◌, Option, Some, None}
-use Rattle.std.proofs.Common.{length, refl, sym, ◌∙◌, ap, subst, inl, inr, ◌⊎◌, arith}
+use Rattle.std.proofs.Common.{length, refl, ◌∙◌, ap, subst, inl, inr, arith}
 use Rattle.std.proofs.lemmas.Bool.{cases_lt}
+use Rattle.plain_lists.specs.Lists.{IsIn}
 use Rattle.message_types.specs.declared.signed.Signed.{Signed}
 use Rattle.message_types.specs.declared.updates.Update.{Update}
 use Rattle.message_types.specs.declared.preordering.PoRequest.{PoRequest}
@@ -17,14 +18,13 @@ use Rattle.history_rules.specs.Events.{Entry, frame_taken}
 use Rattle.history_rules.specs.Setup.{Setup, is_correct_master, room, own, leaves_used}
 use Rattle.history_rules.specs.Leaves.{room_of}
 use Rattle.history_rules.specs.Legal.{IsLegal, heard}
-use Rattle.history_rules.specs.Audit.{IsIn, HasSaid, NothingForged}
+use Rattle.history_rules.specs.Audit.{HasSaid}
+use Rattle.history_rules.proofs.Uncut.{used_then}
 use Rattle.agreement.specs.Laws.{known_by}
 use Rattle.agreement.proofs.Places.{said_on, legal_before, unforged_before}
-use Rattle.agreement.proofs.Known.{own-append, known_then, correct_said, said_earlier}
-use Rattle.agreement.proofs.Origin.{FirstSaid, first_said_before}
-use Rattle.progress.specs.Rounds.{AreConnected, IsRound}
+use Rattle.agreement.proofs.KnownAsItGrows.{own-append, known_then, correct_said, said_earlier}
+use Rattle.agreement.proofs.LearnedWasSaid.{FirstSaid, first_said_before}
 use Rattle.progress.specs.Laws.{ReachedInTwoRounds}
-use Rattle.progress.proofs.Saying.{used_then}
 use Rattle.progress.proofs.Requesting.{FirstRequest, first_request}
 use Rattle.progress.proofs.Turning.{IsTurn, turn_is}
 use Rattle.progress.proofs.Certifying.{certified_in_a_round}

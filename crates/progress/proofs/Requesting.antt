@@ -6,6 +6,8 @@ use Rattle.std.proofs.lemmas.List.{map-append}
 use Rattle.std.proofs.lemmas.List.Elements.{filter_map-append}
 use Rattle.std.specs.List.{find, filter_map}
 use Rattle.std.specs.Option.{option_to_list}
+use Rattle.plain_lists.specs.Lists.{IsIn, Each}
+use Rattle.plain_lists.proofs.Members.{each_none, each_one, each_append, each_if, none_in, in_cons_cases, in_cases, in_map, in_filter, in_filter_map, in_right, find_some}
 use Rattle.quorum_sets.specs.Masters.{numbers_below}
 use Rattle.message_types.specs.declared.signed.Signed.{Signed}
 use Rattle.message_types.specs.declared.updates.Update.{Update}
@@ -24,18 +26,15 @@ use Rattle.protocol_rules.proofs.Greatest.{greatest_of-append}
 use Rattle.history_rules.specs.Events.{Entry, frame_taken, is_tick, is_silent}
 use Rattle.history_rules.specs.Setup.{Setup, is_correct_master}
 use Rattle.history_rules.specs.Legal.{Stands, IsLegal, heard}
-use Rattle.history_rules.specs.Audit.{IsIn, HasSaid}
-use Rattle.agreement.proofs.Lists.{Each, each_none, each_one, each_append, each_if, none_in, in_cons_cases, in_cases}
-use Rattle.agreement.proofs.Lists.{in_map, in_filter, in_filter_map, in_right, find_some}
+use Rattle.history_rules.specs.Audit.{HasSaid}
 use Rattle.agreement.proofs.Places.{by_growth, stands_on, stands_last, legal_before, whole_upto, stands_cases}
-use Rattle.agreement.proofs.Known.{known_then, correct_said, said_last, said_earlier}
-use Rattle.agreement.proofs.Spoken.{each_elim}
-use Rattle.agreement.proofs.Origin.{heard_none}
-use Rattle.agreement.proofs.Planned.{greatest_above}
+use Rattle.agreement.proofs.KnownAsItGrows.{known_then, correct_said, said_last, said_earlier}
+use Rattle.agreement.proofs.SpokenByKind.{each_elim}
+use Rattle.agreement.proofs.LearnedWasSaid.{heard_none}
+use Rattle.agreement.proofs.PlannedRows.{greatest_above}
 use Rattle.progress.specs.Laws.{RequestsOnce}
 use Rattle.words_by_part.specs.Kinds.{is_of, preordering}
 use Rattle.words_by_part.specs.Laws.{told_at}
-use Rattle.words_by_part.proofs.Sorting.{Of}
 use Rattle.words_by_part.proofs.SaidAlive.{acks_in_turn_kind}
 use Rattle.words_by_part.proofs.Answering.{answers_by_live_part}
 

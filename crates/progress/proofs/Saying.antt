@@ -1,56 +1,33 @@
 -- What is due is said: while a master has a leaf left nothing is cut off. And what it knows at the end of a history it
 -- knew at its last event, at which it said all that was due by then.
 use Rattle.std.proofs.Common.{◌≡◌, ℕ, ◌+◌, ◌-◌, ◌<◌, ◌≤◌, Bool, true, false, cond, ◌&&◌, not, List, [], ◌∷◌, ◌++◌}
-use Rattle.std.proofs.Common.{length, take, map, nat_lt, refl, sym, ◌∙◌, ap, subst, inl, inr, ◌⊎◌, arith, length-take-le}
-use Rattle.std.proofs.lemmas.List.{take_all}
-use Rattle.std.proofs.lemmas.Bool.{false≢true, cases_lt, cases_eq, cases_Bool}
-use Rattle.message_types.specs.declared.signed.Signed.{Signed}
+use Rattle.std.proofs.Common.{length, take, nat_lt, refl, sym, ◌∙◌, ap, subst, inl, inr, ◌⊎◌, arith}
+use Rattle.std.proofs.lemmas.Bool.{false≢true, cases_eq, cases_Bool}
+use Rattle.plain_lists.specs.Lists.{IsIn}
+use Rattle.plain_lists.proofs.Members.{in_left, in_right, in_filter_from}
 use Rattle.message_types.specs.declared.body.Body.{Body}
 use Rattle.protocol_rules.specs.Group.{is_live}
 use Rattle.protocol_rules.specs.Measures.{ticks_of}
 use Rattle.protocol_rules.specs.Turns.{acks_in_turn_due}
-use Rattle.protocol_rules.specs.Master.{Heard, taken_at, said_before, answers, answered_in}
-use Rattle.history_rules.specs.Events.{Event, Entry, frame_taken, is_tick, is_silent}
+use Rattle.protocol_rules.specs.Master.{taken_at, said_before, answered_in}
+use Rattle.history_rules.specs.Events.{Entry, frame_taken, is_tick, is_silent}
 use Rattle.history_rules.specs.Setup.{Setup, is_correct_master, room, own, leaves_used}
 use Rattle.history_rules.specs.Leaves.{leaves_for, room_of}
-use Rattle.history_rules.specs.Legal.{Stands, IsLegal, heard, says, says_in, known_of}
-use Rattle.history_rules.specs.Audit.{IsIn, HasSaid}
+use Rattle.history_rules.specs.Legal.{Stands, heard, says, says_in, known_of}
+use Rattle.history_rules.proofs.Uncut.{uncut, used_then}
 use Rattle.agreement.specs.Laws.{known_by}
-use Rattle.agreement.proofs.Lists.{in_left, in_right, in_filter_from}
 use Rattle.agreement.proofs.Places.{by_growth, stands_on, stands_last}
-use Rattle.agreement.proofs.Known.{known_then, hears, own-append, own_first, heard_last, heard_other, heard_silent}
-use Rattle.agreement.proofs.Origin.{heard_none}
-use Rattle.agreement.proofs.Vouched.{known_of_last}
+use Rattle.agreement.proofs.KnownAsItGrows.{known_then, hears, own-append, own_first, heard_last, heard_other, heard_silent}
+use Rattle.agreement.proofs.LearnedWasSaid.{heard_none}
+use Rattle.agreement.proofs.VouchedIsOrdered.{known_of_last}
 use Rattle.words_by_part.specs.Kinds.{is_of, preordering}
 use Rattle.words_by_part.specs.Laws.{AreByLivePart, told_at, moments_at}
 use Rattle.words_by_part.proofs.Answering.{answers_by_live_part}
 use Rattle.progress.specs.Laws.{due_at, AllIsSaid}
 
-all_used : (shared : Bool) (leaves : ℕ) → leaves_for shared (room_of shared leaves) ≡ leaves
-all_used true leaves = omega arith
-all_used false leaves = omega arith
-
--- where a leaf is left after the bodies, none of them was cut off
-uncut : {X : Type 0} (shared : Bool) (leaves : ℕ) (xs : List X) →
-    0 < leaves - leaves_for shared (length (take (room_of shared leaves) xs)) → take (room_of shared leaves) xs ≡ xs
-uncut shared leaves xs some = elim (cases_lt (room_of shared leaves) (length xs)) [
-  | inl more ↦
-      let many : length (take (room_of shared leaves) xs) ≡ room_of shared leaves =
-      length-take-le (room_of shared leaves) xs (omega arith) in
-      let used : leaves_for shared (length (take (room_of shared leaves) xs)) ≡ leaves = ap (leaves_for shared) many
-      ∙ all_used shared leaves in
-      absurd (omega arith)
-  | inr fits ↦ take_all (room_of shared leaves) xs fits
-]
-
 some_left : (shared : Bool) (leaves : ℕ) → 1 ≤ room_of shared leaves → 1 ≤ leaves
 some_left true leaves h = omega arith
 some_left false leaves h = omega arith
-
-pub used_then : (w : Setup) (xs ys : List Entry) → leaves_used w (xs ++ ys) ≡ leaves_used w xs + leaves_used w ys
-used_then w [] ys = omega arith
-used_then w (e ∷ xs) ys = let deeper : leaves_used w (xs ++ ys) ≡ leaves_used w xs + leaves_used w ys = used_then w xs ys in
-    omega arith
 
 left_then : (leaves all before now after : ℕ) → all ≡ before + (now + after) → 1 ≤ leaves - all → 0 < leaves - before - now
 left_then leaves all before now after e h = omega arith
@@ -85,8 +62,8 @@ all_is_said w history before e m legal correct left s by loud =
     some_left w.shared_leaves (w.leaves - leaves_used w (own history m)) left in
     let now : 0 < free - leaves_for w.shared_leaves (length e.said) = left_then w.leaves (leaves_used w (own history m))
     (leaves_used w (own before m)) (leaves_for w.shared_leaves (length e.said)) (leaves_used w (own s.after m)) used some in
-    cut ∙ uncut w.shared_leaves free (due_at w before m e)
-    (subst (λ (bs : List Body). 0 < free - leaves_for w.shared_leaves (length bs)) cut now)
+    cut ∙ sym (uncut w.shared_leaves free (due_at w before m e)
+    (subst (λ (bs : List Body). 0 < free - leaves_for w.shared_leaves (length bs)) cut now))
 
 -- by parts, what such a master said at an entry
 abbrev pub SaidByPart : Setup → List Entry → ℕ → Entry → Type 0

@@ -1,13 +1,14 @@
 -- Summaries: at a tick a master that has more certified than it told says so; a correct master's summaries only rise, so
 -- the latest known of it, the one that tells most, tells at least what any other one does.
-use Rattle.std.proofs.Common.{◌≡◌, ℕ, ◌+◌, ◌-◌, ◌<◌, ◌≤◌, zero, suc, Bool, true, false, cond, ◌&&◌, not, List, [], ◌∷◌, ◌++◌}
-use Rattle.std.proofs.Common.{Option, Some, None, map, nat_eq, nat_lt, length, refl, sym, ◌∙◌, ap, subst, inl, inr, ◌⊎◌, arith}
-use Rattle.std.proofs.Common.{append_assoc, eqb-true, if◌then◌else◌}
-use Rattle.std.proofs.lemmas.Bool.{false≢true, and_from, cases_Bool, cases_lt, not_from_false, ltb-true, ltb-false, eq-eqb}
-use Rattle.std.proofs.lemmas.List.Sums.{sum_by-cons}
+use Rattle.std.proofs.Common.{◌≡◌, ℕ, ◌+◌, ◌-◌, ◌<◌, ◌≤◌, zero, suc, Bool, true, false, cond, not, List, [], ◌∷◌, ◌++◌}
+use Rattle.std.proofs.Common.{Option, Some, None, map, length, refl, sym, ◌∙◌, ap, subst, inl, inr, ◌⊎◌, arith}
+use Rattle.std.proofs.Common.{append_assoc}
+use Rattle.std.proofs.lemmas.Bool.{and_from, cases_Bool, cases_lt, not_from_false}
 use Rattle.std.specs.Prelude.{slice_index}
-use Rattle.std.specs.List.{filter_map, sum}
+use Rattle.std.specs.List.{filter_map}
 use Rattle.std.specs.Str.{bytes_eq}
+use Rattle.plain_lists.specs.Lists.{IsIn, here, there, Begins}
+use Rattle.plain_lists.proofs.Members.{in_right, in_filter_map_from, in_filter_from, some_same, none_some}
 use Rattle.quorum_sets.specs.Masters.{numbers_below}
 use Rattle.quorum_sets.proofs.Numbered.{numbered_at}
 use Rattle.message_types.specs.declared.signed.Signed.{Signed}
@@ -15,31 +16,25 @@ use Rattle.message_types.specs.declared.updates.Update.{Update}
 use Rattle.message_types.specs.declared.preordering.PoSummary.{PoSummary}
 use Rattle.message_types.specs.declared.body.Body.{Body}
 use Rattle.message_types.specs.declared.body.Body.TheVariants as body
-use Rattle.protocol_rules.specs.Words.{run_from, best_by, best_from}
+use Rattle.protocol_rules.specs.Words.{run_from}
 use Rattle.protocol_rules.specs.Group.{Group, is_live, most_number}
 use Rattle.protocol_rules.specs.Preorder.{certified, vector}
-use Rattle.protocol_rules.specs.Matrix.{summary_of, tells_more, latest}
 use Rattle.protocol_rules.specs.Master.{said_before, summary_in, last_or, summaries_due}
 use Rattle.protocol_rules.proofs.Numbers.{length-run_from}
-use Rattle.history_rules.specs.Events.{Event, Tick, Entry, is_silent, is_tick, frame_taken}
-use Rattle.history_rules.specs.Setup.{Setup, is_correct, is_correct_master, room, own}
+use Rattle.history_rules.specs.Events.{Entry, is_silent, is_tick}
+use Rattle.history_rules.specs.Setup.{Setup, is_correct_master, room, own}
 use Rattle.history_rules.specs.Legal.{Stands, IsLegal, heard}
-use Rattle.history_rules.specs.Audit.{IsIn, here, there, HasSaid, NothingForged}
-use Rattle.agreement.specs.Laws.{Begins, known_by}
-use Rattle.agreement.proofs.Lists.{Within, none_in, in_cons_cases, in_right, in_filter_map, in_filter_map_from, in_filter_from}
-use Rattle.agreement.proofs.Lists.{some_same, none_some}
-use Rattle.agreement.proofs.Places.{said_whole, stands_cases, legal_before}
-use Rattle.agreement.proofs.Known.{known_then, learned_by}
-use Rattle.agreement.proofs.Spoken.{if_some}
-use Rattle.agreement.proofs.Inside.{best_in, best_there, bytes_same}
-use Rattle.agreement.proofs.Origin.{FirstSaid, first_said, first_said_before, due_first, learned_said}
-use Rattle.agreement.proofs.Vouched.{certified_stays}
+use Rattle.history_rules.specs.Audit.{HasSaid}
+use Rattle.agreement.specs.Laws.{known_by}
+use Rattle.agreement.proofs.Places.{said_whole, legal_before}
+use Rattle.agreement.proofs.KnownAsItGrows.{known_then}
+use Rattle.agreement.proofs.FramesInside.{bytes_same}
+use Rattle.agreement.proofs.LearnedWasSaid.{FirstSaid, first_said_before}
+use Rattle.agreement.proofs.VouchedIsOrdered.{certified_stays}
 use Rattle.words_by_part.specs.Kinds.{is_of, summing}
 use Rattle.progress.specs.Rounds.{HasTick}
-use Rattle.progress.specs.Laws.{KnowsWord}
-use Rattle.progress.proofs.Arriving.{known_grows, known_upto, known_from, stands_in_round, tick_loud}
+use Rattle.progress.proofs.Arriving.{known_grows, known_upto, stands_in_round, tick_loud}
 use Rattle.progress.proofs.Saying.{SaidByPart, all_is_said, said_by_part}
-use Rattle.progress.proofs.Certifying.{below_group, correct_too}
 use Rattle.progress.proofs.Reaching.{vector_reaches}
 
 -- there is something as far as a run goes

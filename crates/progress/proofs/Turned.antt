@@ -1,35 +1,37 @@
 -- Over a history: what a correct master said of requests is whole and rises, as long as it had a leaf left. So each of its
 -- requests that another knows together with all before it has its turn there; after a round each connected master does.
-use Rattle.std.proofs.Common.{◌≡◌, ℕ, ◌+◌, ◌-◌, ◌<◌, ◌≤◌, zero, suc, Bool, true, false, ◌&&◌, List, [], ◌∷◌, ◌++◌}
-use Rattle.std.proofs.Common.{Option, Some, None, is_some, nat_lt, refl, sym, ◌∙◌, ap, subst, inl, inr, ◌⊎◌, arith, cond, nat_eq, append_assoc, eqb-true, if◌then◌else◌}
+use Rattle.std.proofs.Common.{◌≡◌, ℕ, ◌+◌, ◌-◌, ◌<◌, ◌≤◌, Bool, true, false, ◌&&◌, List, [], ◌∷◌, ◌++◌}
+use Rattle.std.proofs.Common.{Option, Some, None, is_some, nat_lt, refl, sym, ◌∙◌, ap, subst, inl, inr, arith, cond, nat_eq, append_assoc, eqb-true, if◌then◌else◌}
 use Rattle.std.proofs.lemmas.Bool.{and_from, lt-ltb, cases_eq, cases_Bool}
 use Rattle.std.specs.List.{list_all, filter_map}
+use Rattle.plain_lists.specs.Lists.{IsIn}
+use Rattle.plain_lists.proofs.Members.{none_in, in_cases, in_left, in_right, in_filter_map, in_filter_from}
+use Rattle.protocol_rules.proofs.FirstMet.{first_in, first_there}
 use Rattle.quorum_sets.specs.Masters.{numbers_below}
 use Rattle.message_types.specs.declared.signed.Signed.{Signed}
 use Rattle.message_types.specs.declared.updates.Update.{Update}
 use Rattle.message_types.specs.declared.preordering.PoRequest.{PoRequest}
 use Rattle.message_types.specs.declared.body.Body.{Body}
 use Rattle.message_types.specs.declared.body.Body.TheVariants as body
-use Rattle.protocol_rules.specs.Words.{first_of_list, greatest_of, numbers_from}
+use Rattle.protocol_rules.specs.Words.{greatest_of, numbers_from}
 use Rattle.protocol_rules.specs.Group.{Group, is_live, is_door}
 use Rattle.protocol_rules.specs.Preorder.{update_requested, updates_requested}
 use Rattle.protocol_rules.specs.Turns.{first_requested, number_for, has_turn}
-use Rattle.protocol_rules.specs.Master.{Heard, taken_at, said_before, executed}
+use Rattle.protocol_rules.specs.Master.{taken_at, said_before, executed}
 use Rattle.protocol_rules.proofs.Greatest.{or_zero}
+use Rattle.protocol_rules.proofs.Numbers.{from_above, from_below}
 use Rattle.history_rules.specs.Events.{Entry, frame_taken, is_silent}
 use Rattle.history_rules.specs.Setup.{Setup, is_correct_master, room, own}
 use Rattle.history_rules.specs.Legal.{Stands, IsLegal, heard}
-use Rattle.history_rules.specs.Audit.{IsIn, HasSaid, NothingForged}
+use Rattle.history_rules.specs.Audit.{HasSaid, NothingForged}
 use Rattle.history_rules.proofs.Entries.{all_from}
 use Rattle.agreement.specs.Laws.{known_by}
-use Rattle.agreement.proofs.Lists.{Within, none_in, in_cons_cases, in_cases, in_left, in_right, in_filter_map, in_filter_from}
-use Rattle.agreement.proofs.Lists.{first_in, first_there}
-use Rattle.agreement.proofs.Places.{by_growth, said_on, said_whole, stands_on, stands_last, legal_before, whole_upto}
-use Rattle.agreement.proofs.Known.{heard_other, heard_silent}
-use Rattle.agreement.proofs.Known.{learned_by, known_then, said_last, said_earlier, correct_said, known_of_within}
-use Rattle.agreement.proofs.Quorums.{below_from}
-use Rattle.agreement.proofs.Origin.{heard_none, FirstSaid, first_said_before}
-use Rattle.agreement.proofs.Grows.{each_below}
+use Rattle.agreement.proofs.Places.{by_growth, said_on, stands_on, stands_last, legal_before}
+use Rattle.agreement.proofs.KnownAsItGrows.{heard_other, heard_silent}
+use Rattle.agreement.proofs.KnownAsItGrows.{known_then, said_last, said_earlier, correct_said, known_of_within}
+use Rattle.agreement.proofs.QuorumsMeet.{below_from}
+use Rattle.agreement.proofs.LearnedWasSaid.{heard_none, FirstSaid, first_said_before}
+use Rattle.agreement.proofs.QuorumsStay.{each_below}
 use Rattle.words_by_part.specs.Kinds.{is_of, preordering}
 use Rattle.progress.specs.Rounds.{AreConnected, IsRound}
 use Rattle.progress.specs.Laws.{KnowsWord, TurnsInARound}
@@ -125,22 +127,6 @@ module _ (w : Setup) (history : List Entry) (m : ℕ) (live : is_live w.group �
   pub requests_good : (beginning after : List Entry) → history ≡ beginning ++ after → IsGood (said_by beginning)
   requests_good beginning = by_growth (λ (before : List Entry). (after : List Entry) → history ≡ before ++ after →
       IsGood (said_by before)) good_none good_next beginning
-
-from_above : (start count s : ℕ) → IsIn s (numbers_from start count) → start ≤ s
-unfolding numbers_from
-from_above start zero s h = absurd (none_in h)
-from_above start (suc count) s h = elim (in_cons_cases h) [
-  | inl e ↦ omega arith
-  | inr later ↦ let above : suc start ≤ s = from_above (suc start) count s later in omega arith
-]
-
-from_below : (start count s : ℕ) → IsIn s (numbers_from start count) → s < start + count
-unfolding numbers_from
-from_below start zero s h = absurd (none_in h)
-from_below start (suc count) s h = elim (in_cons_cases h) [
-  | inl e ↦ omega arith
-  | inr later ↦ let below : s < suc start + count = from_below (suc start) count s later in omega arith
-]
 
 -- what a turn takes
 turn_from : (g : Group) (known : List (Signed Body)) (j k : ℕ) (u : Update) → first_requested known j k ≡ Some u

@@ -1,35 +1,26 @@
 -- A correct master's requests have their turn wherever they are known: each is of a client of which it is a door, each of
 -- its lower numbers is of a request that it said before, and those of the same client bear lower updates.
-use Rattle.std.proofs.Common.{◌≡◌, ℕ, ◌+◌, ◌-◌, ◌<◌, ◌≤◌, zero, suc, Bool, true, false, cond, ◌&&◌, ◌||◌, List, [], ◌∷◌, ◌++◌}
-use Rattle.std.proofs.Common.{Option, Some, None, is_some, filter, map, max, nat_eq, nat_lt, nat_le, refl, sym, ◌∙◌, ap, subst}
-use Rattle.std.proofs.Common.{inl, inr, ◌⊎◌, arith, append_assoc, append-nil, eqb-true}
-use Rattle.std.proofs.lemmas.Bool.{false≢true, and_parts, and_from, cases_lt, cases_Bool, ltb-true, lt-ltb, eq-eqb}
-use Rattle.std.proofs.lemmas.List.{map-append}
-use Rattle.std.proofs.lemmas.List.Elements.{filter-append, filter_map-append}
-use Rattle.std.specs.List.{list_all, filter_map}
-use Rattle.quorum_sets.specs.Masters.{numbers_below}
+use Rattle.std.proofs.Common.{◌≡◌, ℕ, ◌+◌, ◌-◌, ◌<◌, ◌≤◌, true, ◌&&◌, List, [], ◌∷◌, ◌++◌}
+use Rattle.std.proofs.Common.{Some, filter, map, max, nat_eq, nat_lt, refl, sym, ◌∙◌, ap, subst}
+use Rattle.std.proofs.Common.{inl, inr, arith, append_assoc, append-nil, eqb-true}
+use Rattle.std.proofs.lemmas.Bool.{and_parts, cases_lt, ltb-true, eq-eqb}
+use Rattle.std.specs.List.{filter_map}
+use Rattle.plain_lists.specs.Lists.{IsIn, here, there}
+use Rattle.plain_lists.proofs.Members.{each_none, each_one, each_if, none_in, in_cases, in_left, in_map, in_map_from, in_filter, in_filter_map, in_filter_map_from, some_same, none_some}
+use Rattle.protocol_rules.proofs.FirstMet.{first_in}
 use Rattle.message_types.specs.declared.signed.Signed.{Signed}
 use Rattle.message_types.specs.declared.updates.Update.{Update}
 use Rattle.message_types.specs.declared.preordering.PoRequest.{PoRequest}
 use Rattle.message_types.specs.declared.body.Body.{Body}
 use Rattle.message_types.specs.declared.body.Body.TheVariants as body
 use Rattle.protocol_rules.specs.Words.{first_of_list, greatest_of}
-use Rattle.protocol_rules.specs.Group.{Group, is_live, most_number, is_door}
+use Rattle.protocol_rules.specs.Group.{Group, most_number, is_door}
 use Rattle.protocol_rules.specs.Preorder.{request_in, requests_said, update_of}
 use Rattle.protocol_rules.specs.Execution.{updates_of}
 use Rattle.protocol_rules.specs.Turns.{last_request, last_introduced, next_in_turn, requests_in_turn_due}
-use Rattle.protocol_rules.specs.Master.{taken_at, said_before, executed}
-use Rattle.protocol_rules.proofs.Greatest.{greatest_of-append}
-use Rattle.history_rules.specs.Events.{Entry, frame_taken}
-use Rattle.history_rules.specs.Setup.{Setup, is_correct_master}
-use Rattle.history_rules.specs.Audit.{IsIn, here, there}
-use Rattle.agreement.proofs.Lists.{Each, each_none, each_one, each_append, each_if, none_in, in_cons_cases, in_cases, in_left}
-use Rattle.agreement.proofs.Lists.{in_right, in_map, in_map_from, in_filter, in_filter_map, in_filter_map_from, first_in}
-use Rattle.agreement.proofs.Lists.{some_same, none_some}
-use Rattle.agreement.proofs.Spoken.{each_elim, if_some}
-use Rattle.agreement.proofs.Quorums.{below_from}
-use Rattle.agreement.proofs.Planned.{greatest_above}
-use Rattle.progress.proofs.Requesting.{request_same, said_below, last_grows, in_turn_above}
+use Rattle.agreement.proofs.SpokenByKind.{each_elim, if_some}
+use Rattle.agreement.proofs.PlannedRows.{greatest_above}
+use Rattle.progress.proofs.Requesting.{request_same, said_below}
 
 -- the client and the number of the update that a request bears
 abbrev pub client_of : PoRequest → ℕ

@@ -1,12 +1,15 @@
 -- What all connected masters prepared, or committed, each of them knows a round later to be prepared, or committed, by a
 -- quorum.
-use Rattle.std.proofs.Common.{◌≡◌, ℕ, ◌+◌, ◌-◌, ◌<◌, ◌≤◌, zero, suc, Bool, true, false, cond, ◌&&◌, not, List, [], ◌∷◌, ◌++◌}
-use Rattle.std.proofs.Common.{Option, Some, None, is_some, filter, nat_eq, nat_le, length, refl, sym, ◌∙◌, ap, subst, inl, inr}
-use Rattle.std.proofs.Common.{◌⊎◌, arith, eqb-true, if◌then◌else◌, slice_get}
-use Rattle.std.proofs.lemmas.Bool.{and_parts, and_from, cases_Bool, cases_eq, eq-eqb, ne_eqb, not_from_false, le-leb, false≢true}
+use Rattle.std.proofs.Common.{◌≡◌, ℕ, ◌+◌, ◌-◌, ◌≤◌, Bool, true, cond, ◌&&◌, List, [], ◌++◌}
+use Rattle.std.proofs.Common.{Option, Some, None, is_some, nat_eq, length, refl, sym, ap, subst, inl, inr}
+use Rattle.std.proofs.Common.{◌⊎◌, arith}
+use Rattle.std.proofs.lemmas.Bool.{and_from, cases_eq, eq-eqb, ne_eqb, not_from_false, le-leb}
 use Rattle.std.proofs.lemmas.Slice.Eq.{bytes_eq-Decides}
-use Rattle.std.specs.List.{list_any, filter_map, flat_map}
+use Rattle.std.specs.List.{filter_map}
 use Rattle.std.specs.Str.{bytes_eq}
+use Rattle.plain_lists.specs.Lists.{IsIn, here}
+use Rattle.plain_lists.proofs.Members.{in_flat_map, in_filter_map}
+use Rattle.protocol_rules.proofs.FirstMet.{first_there}
 use Rattle.quorum_sets.specs.Masters.{numbers_below, voters}
 use Rattle.message_types.specs.declared.signed.Signed.{Signed}
 use Rattle.message_types.specs.declared.ordering.Prepare.{Prepare}
@@ -19,15 +22,10 @@ use Rattle.protocol_rules.specs.Words.{first_of_list}
 use Rattle.protocol_rules.specs.Group.{Group}
 use Rattle.protocol_rules.specs.Facts.{tells, facts_of}
 use Rattle.protocol_rules.specs.Order.{prepare_by, commit_by, first_votes, is_voted}
-use Rattle.history_rules.specs.Events.{Entry}
-use Rattle.history_rules.specs.Setup.{Setup}
-use Rattle.history_rules.specs.Legal.{IsLegal}
-use Rattle.history_rules.specs.Audit.{IsIn, here, HasSaid}
-use Rattle.agreement.specs.Laws.{Begins, known_by}
-use Rattle.agreement.proofs.Lists.{in_flat_map, in_filter_map, first_there, none_some}
-use Rattle.agreement.proofs.Once.{length-filter_map}
-use Rattle.agreement.proofs.Grows.{filter_more}
-use Rattle.progress.specs.Rounds.{AreConnected, IsRound, goes_to}
+use Rattle.agreement.specs.Laws.{known_by}
+use Rattle.agreement.proofs.SaidOnce.{length-filter_map}
+use Rattle.agreement.proofs.QuorumsStay.{filter_more}
+use Rattle.progress.specs.Rounds.{goes_to}
 use Rattle.progress.specs.Laws.{KnowsWord, PreparesArrive, CommitsArrive}
 use Rattle.progress.proofs.Arriving.{words_arrive}
 

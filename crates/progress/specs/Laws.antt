@@ -3,6 +3,7 @@
 -- whole legal histories; definitions and steps are this project's own.)
 use Rattle.std.specs.Prelude.{◌≡◌, ℕ, ◌+◌, ◌<◌, ◌≤◌, ◌⊎◌, Bool, true, false, List, [], ◌++◌, ◌∷◌, Some, None, length, max, ◌-◌}
 use Rattle.std.specs.List.{filter_map}
+use Rattle.plain_lists.specs.Lists.{IsIn, Begins}
 use Rattle.message_types.specs.declared.signed.Signed.{Signed}
 use Rattle.message_types.specs.declared.updates.Update.{Update}
 use Rattle.message_types.specs.declared.preordering.PoRequest.{PoRequest}
@@ -25,8 +26,8 @@ use Rattle.protocol_rules.specs.Master.{known_at, counted_rows}
 use Rattle.history_rules.specs.Events.{Tick, Entry, frame_taken, is_tick, is_silent}
 use Rattle.history_rules.specs.Setup.{Setup, is_correct_master, room, own}
 use Rattle.history_rules.specs.Legal.{Stands, IsLegal, heard, executions}
-use Rattle.history_rules.specs.Audit.{IsIn, HasSaid, NothingForged}
-use Rattle.agreement.specs.Laws.{IsSound, HasSizes, Begins, known_by}
+use Rattle.history_rules.specs.Audit.{HasSaid, NothingForged}
+use Rattle.agreement.specs.Laws.{IsSound, HasSizes, known_by}
 use Rattle.progress.specs.Rounds.{AreConnected, goes_to, IsRound, AreRounds, then_rounds}
 
 -- The master knows, in the signer's name, the word.

@@ -1,9 +1,11 @@
--- The first answer that a growing list gives.
+-- What is first in a list, and the first answer that a growing list gives.
 use Rattle.std.proofs.Common.{◌≡◌, true, List, [], ◌∷◌, ◌++◌, Option, None, Some, is_some, refl, sym, ◌∙◌, ap}
-use Rattle.std.proofs.Common.{append_assoc, true≢false, false, Bool, cond}
+use Rattle.std.proofs.Common.{append_assoc, true≢false, false, Bool, cond, subst}
 use Rattle.std.proofs.lemmas.List.{append-nil}
 use Rattle.std.specs.Option.{option_map}
 use Rattle.std.specs.List.{cons_option, filter_map}
+use Rattle.plain_lists.specs.Lists.{IsIn, here, there, Within}
+use Rattle.plain_lists.proofs.Members.{in_left, some_same, none_some}
 use Rattle.protocol_rules.specs.Words.{or_else, first_met, first_of_list}
 
 pub or_else-assoc : {X : Type 0} (a b c : Option X) → or_else (or_else a b) c ≡ or_else a (or_else b c)
@@ -62,16 +64,16 @@ option_map-or_else f None b = refl
 option_map-or_else f (Some x) b = refl
 
 -- a value that is there stays
-pub stays : {X : Type 0} (here : Bool) (old : Option X) (x : X) → (here ≡ true → is_some old ≡ true) →
-    old ≡ or_else old (cond here (Some x) None)
-stays true (Some v) x there = refl
-stays true None x there = absurd (true≢false (sym (there refl)))
-stays false (Some v) x there = refl
-stays false None x there = refl
+pub stays : {X : Type 0} (given : Bool) (old : Option X) (x : X) → (given ≡ true → is_some old ≡ true) →
+    old ≡ or_else old (cond given (Some x) None)
+stays true (Some v) x held = refl
+stays true None x held = absurd (true≢false (sym (held refl)))
+stays false (Some v) x held = refl
+stays false None x held = refl
 
 -- a value that wasn't there is taken
-pub taken : {X : Type 0} (here : Bool) (old : Option X) (x : X) → (here ≡ true → old ≡ None) →
-    cond here (Some x) old ≡ or_else old (cond here (Some x) None)
+pub taken : {X : Type 0} (given : Bool) (old : Option X) (x : X) → (given ≡ true → old ≡ None) →
+    cond given (Some x) old ≡ or_else old (cond given (Some x) None)
 taken true (Some v) x absent = absurd (true≢false (ap is_some (absent refl)))
 taken true None x absent = refl
 taken false (Some v) x absent = refl
@@ -92,3 +94,45 @@ pub first_of_list-push : {F X : Type 0} (f : F → Option X) (xs : List F) (x : 
 first_of_list-push f [] x = first-alone (f x)
 first_of_list-push f (y ∷ ys) x = first-cons (f y) (filter_map f (ys ++ x ∷ [])) (filter_map f ys)
     (f x) (first_of_list-push f ys x)
+
+pub first_in : {X : Type 0} {x : X} (xs : List X) → first_of_list xs ≡ Some x → IsIn x xs
+first_in [] e = absurd (none_some e)
+first_in (y ∷ xs) e = subst (λ z. IsIn z (y ∷ xs)) (some_same e) (here xs)
+
+-- what a nonempty list has a first of
+pub first_there : {X : Type 0} {x : X} {xs : List X} → IsIn x xs → (y : X) × (first_of_list xs ≡ Some y)
+first_there (here rest) = (_, refl)
+first_there (there y rest h) = (y, refl)
+
+-- the lists' beginnings: what is met first is met of some beginning
+pub first_met_from : {F X : Type 0} (met : List F → Option X) {x : X} (seen rest : List F) →
+    first_met met seen rest ≡ Some x
+    → (beginning : List F) × Within beginning (seen ++ rest) × (met beginning ≡ Some x)
+unfolding first_met
+first_met_from met seen [] e = (seen, (λ y h. in_left [] h), e)
+first_met_from {F} {X} met {x} seen (f ∷ rest) e =
+    by_first (met seen) refl e (λ later. first_met_from met (seen ++ f ∷ []) rest later)
+  where
+    by_first : (o : Option X) → met seen ≡ o → or_else o (first_met met (seen ++ f ∷ []) rest) ≡ Some x
+        → (first_met met (seen ++ f ∷ []) rest ≡ Some x → (beginning : List F)
+        × Within beginning ((seen ++ f ∷ []) ++ rest) × (met beginning ≡ Some x))
+        → (beginning : List F) × Within beginning (seen ++ f ∷ rest) × (met beginning ≡ Some x)
+    by_first (Some y) was e later = (seen, (λ z h. in_left (f ∷ rest) h), was ∙ e)
+    by_first None was e later = let found = later e in
+        (found.0, (λ z h. subst (λ (zs : List F). IsIn z zs) (append_assoc seen (f ∷ []) rest) (found.1 z h)), found.2)
+
+-- what was met of a list is met of a longer one
+pub first_met-more : {F X : Type 0} (met : List F → Option X) {x : X} (seen first more : List F) →
+    first_met met seen first ≡ Some x → first_met met seen (first ++ more) ≡ Some x
+unfolding first_met
+first_met-more met seen [] [] e = e
+first_met-more {F} {X} met {x} seen [] (y ∷ more) e =
+    ap (λ (o : Option X). or_else o (first_met met (seen ++ y ∷ []) more)) e
+first_met-more {F} {X} met {x} seen (f ∷ first) more e =
+    by_first (met seen) e (λ later. first_met-more met (seen ++ f ∷ []) first more later)
+  where
+    by_first : (o : Option X) → or_else o (first_met met (seen ++ f ∷ []) first) ≡ Some x
+        → (first_met met (seen ++ f ∷ []) first ≡ Some x → first_met met (seen ++ f ∷ []) (first ++ more) ≡ Some x) →
+        or_else o (first_met met (seen ++ f ∷ []) (first ++ more)) ≡ Some x
+    by_first (Some y) e later = e
+    by_first None e later = later e

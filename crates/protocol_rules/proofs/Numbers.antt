@@ -1,10 +1,12 @@
 -- Numbers from a first on, what is found at them, and lists of them one after the other.
 use Rattle.std.proofs.Common.{◌≡◌, ◌⊎◌, ℕ, zero, suc, ◌+◌, ◌<◌, ◌≤◌, Bool, true, false, ◌||◌, List, [], ◌∷◌, ◌++◌}
-use Rattle.std.proofs.Common.{Option, None, Some, length, refl, sym, ◌∙◌, ap, inl, inr, arith, add-one}
+use Rattle.std.proofs.Common.{Option, None, Some, length, refl, sym, subst, ◌∙◌, ap, inl, inr, arith, add-one}
 use Rattle.std.specs.Prelude.{IsSome}
 use Rattle.std.specs.List.{flat_map, list_any}
 use Rattle.std.proofs.lemmas.Bool.{cases_lt}
 use Rattle.std.proofs.lemmas.List.Folds.{list_any-append}
+use Rattle.plain_lists.specs.Lists.{IsIn, here, there}
+use Rattle.plain_lists.proofs.Members.{none_in, in_cons_cases}
 use Rattle.protocol_rules.specs.Words.{numbers_from, run_from}
 
 pub numbers_from-none : (start : ℕ) → numbers_from start 0 ≡ []
@@ -64,8 +66,8 @@ run-length {X} f start (suc most) (suc reach) fits some stops =
   where
     by : (o : Option X) → IsSome o → length {A = X} (run_from f (suc start) most) ≡ reach →
         length {A = X} (elim o [ None ↦ [] | Some x ↦ x ∷ run_from f (suc start) most ]) ≡ suc reach
-    by None there rest = cc
-    by (Some x) there rest = let more : length (x ∷ run_from f (suc start) most) ≡ suc reach = omega arith in more
+    by None told rest = cc
+    by (Some x) told rest = let more : length (x ∷ run_from f (suc start) most) ≡ suc reach = omega arith in more
 
 -- numbers at the beginning for which there is nothing
 pub head : {X : Type 0} (f : ℕ → List X) (start skip count : ℕ) → ((k : ℕ) → start ≤ k → k < start + skip → f k ≡ []) →
@@ -87,10 +89,10 @@ pub any-from : {X : Type 0} (p : X → Bool) (f : ℕ → List X) (start count k
     list_any p (f k) ≡ true →
     list_any p (flat_map f (numbers_from start count)) ≡ true
 unfolding numbers_from
-any-from p f start zero k low high there = absurd (omega arith)
-any-from p f start (suc count) k low high there =
+any-from p f start zero k low high told = absurd (omega arith)
+any-from p f start (suc count) k low high told =
     list_any-append p (f start) (flat_map f (numbers_from (suc start) count))
-    ∙ by (cases_lt start k) (λ less. any-from p f (suc start) count k less (omega arith) there)
+    ∙ by (cases_lt start k) (λ less. any-from p f (suc start) count k less (omega arith) told)
   where
     either : (a : Bool) → (a || true) ≡ true
     either true = refl
@@ -101,7 +103,7 @@ any-from p f start (suc count) k low high there =
     by (inl less) more = ap (λ b. list_any p (f start) || b) (more less) ∙ either (list_any p (f start))
     by (inr le) more = let same : k ≡ start = omega arith in
         ap (λ b. b || list_any p (flat_map f (numbers_from (suc start) count)))
-        (ap (λ n. list_any p (f n)) (sym same) ∙ there)
+        (ap (λ n. list_any p (f n)) (sym same) ∙ told)
 
 pub length-numbers_from : (start count : ℕ) → length (numbers_from start count) ≡ count
 unfolding numbers_from
@@ -115,3 +117,32 @@ numbers_from-more start count = ap (numbers_from start) (add-one count) ∙ numb
 pub flat_map-none : {X : Type 0} (f : ℕ → List X) (start : ℕ) → flat_map f (numbers_from start 0) ≡ []
 unfolding numbers_from
 flat_map-none f start = refl
+
+-- which numbers these are
+pub from_below : (start count s : ℕ) → IsIn s (numbers_from start count) → s < start + count
+unfolding numbers_from
+from_below start zero s h = absurd (none_in h)
+from_below start (suc count) s h = elim (in_cons_cases h) [
+  | inl e ↦ omega arith
+  | inr later ↦ let below : s < suc start + count = from_below (suc start) count s later in omega arith
+]
+
+pub from_in : (start count s : ℕ) → start ≤ s → s < start + count → IsIn s (numbers_from start count)
+unfolding numbers_from
+from_in start zero s above below = absurd (omega arith)
+from_in start (suc count) s above below =
+    by_place (cases_lt start s) (λ lt. from_in (suc start) count s lt (omega arith))
+  where
+    by_place : (start < s) ⊎ (s ≤ start) → (start < s → IsIn s (numbers_from (suc start) count)) →
+        IsIn s (start ∷ numbers_from (suc start) count)
+    by_place (inl lt) later = there start (numbers_from (suc start) count) (later lt)
+    by_place (inr le) later = let same : s ≡ start = omega arith in
+        subst (λ (x : ℕ). IsIn s (x ∷ numbers_from (suc start) count)) same (here (numbers_from (suc start) count))
+
+pub from_above : (start count s : ℕ) → IsIn s (numbers_from start count) → start ≤ s
+unfolding numbers_from
+from_above start zero s h = absurd (none_in h)
+from_above start (suc count) s h = elim (in_cons_cases h) [
+  | inl e ↦ omega arith
+  | inr later ↦ let above : suc start ≤ s = from_above (suc start) count s later in omega arith
+]

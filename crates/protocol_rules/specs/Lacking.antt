@@ -1,8 +1,8 @@
 -- Rules that stay alive: what a master lacks and asks for, and what it gives. What isn't answered is asked for again at each
 -- 16th tick, and whoever asks is answered within a share that grows with what there is to be had. (After Prime's
 -- reconciliation; asking by name, the figures and the shares are this project's own.)
-use Rattle.std.specs.Prelude.{ℕ, ◌+◌, ◌-◌, ◌*◌, ◌/◌, ◌%◌, Bool, true, false, ◌&&◌, ◌||◌, not, List, [], ◌∷◌, ◌++◌, Option}
-use Rattle.std.specs.Prelude.{Some, None, is_some, filter, length, map, max, min, reverse, sum, take, nat_eq, nat_le}
+use Rattle.std.specs.Prelude.{ℕ, ◌+◌, ◌-◌, ◌*◌, ◌/◌, ◌%◌, Bool, false, ◌&&◌, ◌||◌, not, List, [], ◌∷◌, Option}
+use Rattle.std.specs.Prelude.{Some, None, is_some, filter, length, map, max, min, reverse, sum, take, nat_eq}
 use Rattle.std.specs.Prelude.{nat_lt, slice_index, if◌then◌else◌}
 use Rattle.std.specs.List.{list_any, filter_map, flat_map}
 use Rattle.message_types.specs.declared.signed.Signed.{Signed}
@@ -20,6 +20,8 @@ use Rattle.protocol_rules.specs.Execution.{Request}
 use Rattle.protocol_rules.specs.Reconcile.{updates_asked, orders_asked, updates_given, orders_given}
 use Rattle.protocol_rules.specs.Reconcile.{request_gift, order_gift}
 use Rattle.protocol_rules.specs.Patience.{Moment, is_beat}
+use Rattle.protocol_rules.specs.declared.limits.TheConstants.{LONG_WAIT, BLIND_STEP, SHOWN_STEP, MOST_NUMBERS_ASKED}
+use Rattle.protocol_rules.specs.declared.limits.TheConstants.{MOST_REQUESTS_ASKED, FIRST_SHARE, SHARE_STEP, SHARE_OF_EACH}
 
 -- the greatest number that the master committed or marked
 abbrev pub reached_by : ℕ → OrderFact → Option ℕ
@@ -42,7 +44,7 @@ open_base facts v is_open = if is_open then (elim (plan_known facts v) [ None �
 -- asked for.
 abbrev pub is_blind_due : Group → List OrderFact → List Body → ℕ → Bool
 is_blind_due g facts said now =
-    nat_eq (now % 128) 0
+    nat_eq (now % BLIND_STEP) 0
     || list_any (orders_asked (gapless g facts)) said && not (list_any (orders_asked (gapless g facts + 1)) said)
 
 -- how far a master wants numbers: where it has waited for more than 16 ticks, or its view's plan stands on what it lacks, as
@@ -50,15 +52,15 @@ is_blind_due g facts said now =
 abbrev pub wanted_to : Group → List OrderFact → List Body → ℕ → Bool → ℕ → ℕ → ℕ
 wanted_to g facts said v is_open waiting now =
     let base = open_base facts v is_open in
-    let far = if nat_lt 16 waiting || nat_lt (gapless g facts) base then max (some_committed_to g facts) base else 0 in
-    max far (if nat_lt 16 waiting || is_blind_due g facts said now then gapless g facts + 1 else 0)
+    let far = if nat_lt LONG_WAIT waiting || nat_lt (gapless g facts) base then max (some_committed_to g facts) base else 0 in
+    max far (if nat_lt LONG_WAIT waiting || is_blind_due g facts said now then gapless g facts + 1 else 0)
 
 -- the numbers that a master lacks, from the least on, at most 64
 abbrev pub numbers_lacking : Group → List OrderFact → List Body → ℕ → Bool → ℕ → ℕ → List ℕ
 numbers_lacking g facts said v is_open waiting now =
     filter (λ s. not (is_some (ordered g facts s)))
     (numbers_from (gapless g facts + 1)
-    (min 64 (min (wanted_to g facts said v is_open waiting now) most_number - gapless g facts)))
+    (min MOST_NUMBERS_ASKED (min (wanted_to g facts said v is_open waiting now) most_number - gapless g facts)))
 
 -- it wasn't asked for yet, or it is a tick at which what isn't answered is asked for again
 abbrev pub may_ask : List Body → ℕ → (Body → Bool) → Bool
@@ -76,7 +78,7 @@ order_asks_due g facts said v is_open waiting now at_tick =
 abbrev pub before_fourth : ℕ → List Moment → List Moment
 before_fourth now [] = []
 before_fourth now (m ∷ earlier) =
-    if m.is_tick && nat_eq (now % 4) 0 then m ∷ earlier else before_fourth (if m.is_tick then now - 1 else now) earlier
+    if m.is_tick && nat_eq (now % SHOWN_STEP) 0 then m ∷ earlier else before_fourth (if m.is_tick then now - 1 else now) earlier
 
 -- what f + 1 summaries had certified at the last tick that is a multiple of 4, by master
 abbrev pub shown_before : List Moment → ℕ → List ℕ
@@ -89,7 +91,7 @@ shown_before (m ∷ earlier) now =
 abbrev pub requests_wanted_to : Group → List OrderFact → List Moment → ℕ → ℕ → ℕ
 requests_wanted_to g facts moments now j =
     min most_number (max (reach g (ordered_run g facts) j)
-    (if nat_eq (now % 4) 0 then slice_index (shown_before (reverse moments) now) j else 0))
+    (if nat_eq (now % SHOWN_STEP) 0 then slice_index (shown_before (reverse moments) now) j else 0))
 
 -- the requests of master j that a master lacks
 abbrev pub requests_lacking_of : Group → List (Signed Body) → List OrderFact → List Moment → ℕ → ℕ → List Request
@@ -102,7 +104,7 @@ abbrev pub update_asks_due : Group → List (Signed Body) → List OrderFact →
 update_asks_due g known facts said moments now at_tick =
     if at_tick
     then map (λ r. body.AskUpdate record { j = r.j; k = r.k })
-    (take 16 (filter (λ r. may_ask said now (updates_asked r.j r.k))
+    (take MOST_REQUESTS_ASKED (filter (λ r. may_ask said now (updates_asked r.j r.k))
     (flat_map (requests_lacking_of g known facts moments now) (numbers_below g.n))))
     else []
 
@@ -126,7 +128,7 @@ gift_for g known facts asked = elim asked [
 -- number ordered and each request certified here
 abbrev pub share : Group → List (Signed Body) → List OrderFact → ℕ → ℕ
 share g known facts now =
-    64 + now / 4 + 4 * (gapless g facts + sum (map (vector g known) (numbers_below g.n)))
+    FIRST_SHARE + now / SHARE_STEP + SHARE_OF_EACH * (gapless g facts + sum (map (vector g known) (numbers_below g.n)))
 
 -- What is given for the frame taken, where it is another master's ask within that master's share; `answered` are the masters
 -- whose asks were answered before.

@@ -1,14 +1,14 @@
 -- Summaries, after Prime: of each master the one that tells most, and how far q masters have each originator's
 -- requests certified. (That eligibility takes q rows is this project's own.)
-use Rattle.std.specs.Prelude.{ℕ, Bool, List, [], ◌∷◌, Option, Some, None, length, filter, map, max, nat_eq, nat_lt}
-use Rattle.std.specs.Prelude.{nat_le, sum, if◌then◌else◌}
+use Rattle.std.specs.Prelude.{ℕ, Bool, List, [], ◌∷◌, Option, Some, None, map, max, nat_eq, nat_lt}
+use Rattle.std.specs.Prelude.{sum, if◌then◌else◌}
 use Rattle.std.specs.List.{list_any, find, filter_map, slice_index}
 use Rattle.message_types.specs.declared.signed.Signed.{Signed}
 use Rattle.message_types.specs.declared.preordering.PoSummary.{PoSummary}
 use Rattle.message_types.specs.declared.body.Body.{Body}
 use Rattle.message_types.specs.declared.body.Body.TheVariants as body
 use Rattle.quorum_sets.specs.Masters.{numbers_below}
-use Rattle.protocol_rules.specs.Words.{best_by, greatest_of}
+use Rattle.protocol_rules.specs.Words.{best_by, greatest_reached}
 use Rattle.protocol_rules.specs.Group.{Group}
 
 -- the frame is a summary of master j
@@ -43,10 +43,9 @@ rows_of_frames g frames = map (λ j. row_of frames j) (numbers_below g.n)
 abbrev pub column : List (List ℕ) → ℕ → List ℕ
 column rows j = map (λ row. slice_index row j) rows
 
--- the q-th greatest of the rows' j-th numbers: the greatest of them that q rows reach, 0 where there is none
+-- the q-th greatest of the rows' j-th numbers
 unfoldable pub eligible : Group → List (List ℕ) → ℕ → ℕ
-eligible g rows j = greatest_of
-    (filter (λ x. nat_le g.q (length (filter (λ y. nat_le x y) (column rows j)))) (column rows j))
+eligible g rows j = greatest_reached g.q (column rows j)
 
 -- over several rows each place takes the greatest, so that it never falls
 abbrev pub reach : Group → List (List (List ℕ)) → ℕ → ℕ

@@ -13,6 +13,7 @@ use Rattle.quorum_sets.specs.Masters.{numbers_below}
 use Rattle.protocol_rules.specs.Words.{greatest_of, in_order, numbers_from}
 use Rattle.protocol_rules.specs.Group.{Group, most_view}
 use Rattle.protocol_rules.specs.Measures.{suspects_said}
+use Rattle.protocol_rules.specs.declared.limits.TheConstants.{BEAT, FIRST_PATIENCE, FORGIVEN_STEP, MOST_DOUBLINGS}
 
 -- Of one event: whether it was a tick; the view at it; and by the latest summaries how far each master's requests were
 -- eligible, and how far f + 1 masters had them certified.
@@ -52,7 +53,7 @@ wait g v ordered moments = ticks_in (from_first (lacks g ordered) (stretch v mom
 -- time that the views went round, of which one view is forgiven each 1,024 ticks. So what drove views up once doesn't let
 -- leaders be slow for ever.
 abbrev pub patience : Group → ℕ → ℕ → ℕ
-patience g v now = 32 * 2 ^ min ((v - now / 1024) / g.n) 16
+patience g v now = FIRST_PATIENCE * 2 ^ min ((v - now / FORGIVEN_STEP) / g.n) MOST_DOUBLINGS
 
 -- one more than the greatest view that the master voted against, 0 where it voted against none
 abbrev pub vote_of : ℕ → Signed Body → Option ℕ
@@ -72,7 +73,7 @@ votes_to g known v is_impatient = max (voted_by_more g known (g.f + g.k)) (if is
 
 -- the ticks at which what isn't answered is said again
 abbrev pub is_beat : ℕ → Bool
-is_beat now = nat_eq (now % 16) 0
+is_beat now = nat_eq (now % BEAT) 0
 
 -- A vote against view w is due: none was said, or while patience is at its end one that the present view hangs on is said
 -- again, at each 16th tick.

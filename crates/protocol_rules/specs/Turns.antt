@@ -13,6 +13,7 @@ use Rattle.protocol_rules.specs.Words.{first_of_list, greatest_of, numbers_from}
 use Rattle.protocol_rules.specs.Group.{Group, most_number, is_door}
 use Rattle.protocol_rules.specs.Preorder.{updates_requested, vector, requests_said, update_of, acks, ack_due}
 use Rattle.protocol_rules.specs.Execution.{updates_of}
+use Rattle.protocol_rules.specs.declared.limits.TheConstants.{SLOW_BEAT}
 
 -- the first update requested as (j, k)
 abbrev pub first_requested : List (Signed Body) → ℕ → ℕ → Option Update
@@ -69,7 +70,7 @@ requests_in_turn_due g me taken executed said (c ∷ clients) =
 
 -- the ticks at which what isn't certified, or isn't ordered, is said again
 abbrev pub is_slow_beat : ℕ → Bool
-is_slow_beat now = nat_eq (now % 32) 0
+is_slow_beat now = nat_eq (now % SLOW_BEAT) 0
 
 -- the request of this number
 abbrev pub requests_number : ℕ → Body → Bool

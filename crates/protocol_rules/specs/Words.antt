@@ -1,6 +1,6 @@
 -- Words on lists and numbers that the rules are made of.
 use Rattle.std.specs.Prelude.{ℕ, zero, suc, Bool, List, [], ◌∷◌, ◌++◌, Option, Some, None, max, nat_eq, nat_le}
-use Rattle.std.specs.Prelude.{if◌then◌else◌}
+use Rattle.std.specs.Prelude.{filter, length, if◌then◌else◌}
 
 -- the first value, where there is one, else the second
 abbrev pub or_else : {X : Type 0} → Option X → Option X → Option X
@@ -36,6 +36,10 @@ best_by beats (x ∷ rest) = Some (best_from beats x rest)
 abbrev pub greatest_of : List ℕ → ℕ
 greatest_of [] = 0
 greatest_of (x ∷ rest) = max x (greatest_of rest)
+
+-- the q-th greatest of the numbers: the greatest of them that q of them reach, 0 where there is none
+abbrev pub greatest_reached : ℕ → List ℕ → ℕ
+greatest_reached q numbers = greatest_of (filter (λ x. nat_le q (length (filter (λ y. nat_le x y) numbers))) numbers)
 
 -- what `f` gives at the highest number below `bound` of which it gives something
 unfoldable pub last_below : {X : Type 0} → (ℕ → Option X) → ℕ → Option X

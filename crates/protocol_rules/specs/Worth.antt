@@ -1,9 +1,9 @@
 -- Rules that stay alive, the global order: which numbers a master prepares. A leader can burn numbers, of which there are few,
 -- by offering what makes nothing new eligible; so beyond a view's plan only what adds something is prepared, in turn. (This
 -- project's own.)
-use Rattle.std.specs.Prelude.{ℕ, ◌+◌, ◌-◌, Bool, false, ◌&&◌, ◌||◌, List, [], ◌∷◌, ◌++◌, Option, Some, None, length}
+use Rattle.std.specs.Prelude.{ℕ, ◌+◌, ◌-◌, Bool, false, ◌||◌, List, [], ◌++◌, Option, Some, None, length}
 use Rattle.std.specs.Prelude.{nat_le, if◌then◌else◌}
-use Rattle.std.specs.List.{list_all, list_any, filter_map, flat_map}
+use Rattle.std.specs.List.{list_all, filter_map, flat_map}
 use Rattle.message_types.specs.declared.body.Body.{Body}
 use Rattle.protocol_rules.specs.declared.facts.OrderFact.{OrderFact}
 use Rattle.protocol_rules.specs.Words.{or_else, numbers_from}

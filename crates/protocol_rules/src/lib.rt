@@ -4,9 +4,14 @@
 #![tactic(auto)]
 
 pub mod facts;
+pub mod laws;
 pub mod limits;
 pub mod rows;
 
 pub use facts::OrderFact;
-pub use limits::{MARK_STEP, MOST_BOUND, MOST_NUMBER, MOST_TICKS, MOST_VIEW, WINDOW};
+pub use limits::{
+    BEAT, BLIND_STEP, FIRST_PATIENCE, FIRST_SHARE, FORGIVEN_STEP, LONG_WAIT, MARK_STEP, MOST_BOUND,
+    MOST_DOUBLINGS, MOST_NUMBER, MOST_NUMBERS_ASKED, MOST_REQUESTS_ASKED, MOST_TICKS, MOST_VIEW,
+    SHARE_OF_EACH, SHARE_STEP, SHOWN_STEP, SLOW_BEAT, WINDOW,
+};
 pub use rows::rows_of;

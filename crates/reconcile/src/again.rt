@@ -6,11 +6,9 @@ ghost use Rattle.reconcile.specs.declared.wanted.Wanted.{Wanted as Thing};
 use crate::wanted::{Wanted, asking};
 use message_types::Body;
 use plain_lists::Want;
+use protocol_rules::BEAT;
 use std::alloc::Global;
 use std::collections::BTreeSet;
-
-/// What isn't answered is said again at every so many ticks.
-const BEAT: u64 = 16;
 
 /// What is to be asked for now, at most so much of what is lacking.
 pub(crate) fn due_among(

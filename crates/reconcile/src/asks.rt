@@ -1,4 +1,4 @@
-ghost use Rattle.std.specs.Prelude.{◌≡◌, ◌++◌, ◌∷◌, ℕ, Bool, ◌&&◌, not, List, [], Option, Some, None, IsTrue, OnOk, OnErr, IfOk, IfSome, ◌||◌, false, option_map};
+ghost use Rattle.std.specs.Prelude.{◌≡◌, ◌++◌, ◌∷◌, ℕ, ◌&&◌, List, [], Option, Some, None, IsTrue, OnOk, OnErr, IfOk, IfSome, ◌||◌, false, option_map};
 ghost use Rattle.std.specs.List.{list_any};
 ghost use Rattle.message_types.specs.declared.body.Body.{Body};
 ghost use Rattle.protocol_rules.specs.Group.{Group};

@@ -4,6 +4,7 @@ ghost use Rattle.message_types.specs.declared.signed.Signed.{Signed};
 ghost use Rattle.message_types.specs.declared.body.Body.{Body};
 ghost use Rattle.message_types.specs.declared.body.Body.TheVariants as body;
 ghost use Rattle.protocol_rules.specs.Group.{Group};
+ghost use Rattle.protocol_rules.specs.declared.limits.TheConstants.{MOST_NUMBERS_ASKED, MOST_REQUESTS_ASKED};
 ghost use Rattle.reconcile.specs.declared.wanted.Wanted.{Wanted};
 ghost use Rattle.reconcile.specs.declared.wanted.Wanted.TheVariants.{Request, Number};
 ghost use Rattle.reconcile.specs.Asking.{is_ask, asks, gives};
@@ -63,9 +64,9 @@ pub fn only_gifts_said_count()
 /// A law, which does nothing: what is asked for again is what the rules that stay alive ask for, where the lists are those of
 /// what is lacking.
 pub fn what_is_lacking_is_asked_for()
-    ensures numbers { (said : List Body) (now : ℕ) (numbers : List ℕ) → length numbers ≤ 64
-        → asks_again_due said now (map Number numbers) 64 ≡ map (λ s. body.AskOrder record { s = s }) (filter (λ s. may_ask said now (orders_asked s)) numbers) }
+    ensures numbers { (said : List Body) (now : ℕ) (numbers : List ℕ) → length numbers ≤ MOST_NUMBERS_ASKED
+        → asks_again_due said now (map Number numbers) MOST_NUMBERS_ASKED ≡ map (λ s. body.AskOrder record { s = s }) (filter (λ s. may_ask said now (orders_asked s)) numbers) }
     ensures requests { (said : List Body) (now : ℕ) (requests : List Eligible)
-        → asks_again_due said now (map (λ r. Request r.j r.k) requests) 16
-        ≡ map (λ r. body.AskUpdate record { j = r.j; k = r.k }) (take 16 (filter (λ r. may_ask said now (updates_asked r.j r.k)) requests)) }
+        → asks_again_due said now (map (λ r. Request r.j r.k) requests) MOST_REQUESTS_ASKED
+        ≡ map (λ r. body.AskUpdate record { j = r.j; k = r.k }) (take MOST_REQUESTS_ASKED (filter (λ r. may_ask said now (updates_asked r.j r.k)) requests)) }
 {}

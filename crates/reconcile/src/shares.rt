@@ -7,6 +7,7 @@ ghost use Rattle.protocol_rules.specs.Group.{Group};
 ghost use Rattle.protocol_rules.specs.Lacking.{share};
 ghost use Rattle.reconcile.specs.Shares.{AreSharesOf, AreTold, things_had, times_answered};
 
+use protocol_rules::{FIRST_SHARE, SHARE_OF_EACH, SHARE_STEP};
 use quorum_sets::MASTER_PLACES;
 use std::marker::Model;
 
@@ -45,7 +46,7 @@ impl Shares {
             → things ≡ things_had g known facts → AreSharesOf self.now answered
             → result ≡ nat_lt (times_answered answered asker) (share g known facts now) }
     {
-        self.answered[asker as usize] < 64 + now / 4 + 4 * things
+        self.answered[asker as usize] < FIRST_SHARE + now / SHARE_STEP + SHARE_OF_EACH * things
     }
 
     /// Is told that an ask of a master was answered.

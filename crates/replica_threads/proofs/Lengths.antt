@@ -1,6 +1,6 @@
 -- How many entries a run can have.
-use Rattle.std.proofs.Common.{◌≡◌, ℕ, zero, suc, ◌+◌, ◌*◌, ◌^◌, ◌<◌, ◌≤◌, Bool, true, false, List, [], ◌∷◌, ◌++◌}
-use Rattle.std.proofs.Common.{Some, length, refl, sym, ◌∙◌, ap, subst, append_assoc, append-nil, arith}
+use Rattle.std.proofs.Common.{◌≡◌, ℕ, ◌+◌, ◌*◌, ◌^◌, ◌<◌, ◌≤◌, true, false, List, [], ◌∷◌, ◌++◌}
+use Rattle.std.proofs.Common.{Some, length, refl, sym, ◌∙◌, ap, append_assoc, append-nil, arith}
 use Rattle.std.specs.Prelude.{slice_get}
 use Rattle.std.specs.List.{flat_map, list_all, slice_index_or}
 use Rattle.std.specs.Option.{option_map}
@@ -15,12 +15,12 @@ use Rattle.history_rules.specs.Events.{Entry}
 use Rattle.history_rules.specs.Keeping.{is_halted}
 use Rattle.history_rules.specs.Counts.{stamped, merged}
 use Rattle.history_rules.specs.Legal.{Stands}
-use Rattle.own_histories.specs.Own.{IsOwnHistory, HasEachStampOnce}
+use Rattle.history_laws.specs.Own.{IsOwnHistory, HasEachStampOnce}
 use Rattle.world_rules.specs.Scenarios.{setup_of, actors_in}
 use Rattle.world_rules.proofs.Fields.{group_is}
 use Rattle.world_history.specs.State.{BenchState}
 use Rattle.world_history.proofs.Addressed.{few_actors}
-use Rattle.world_history.specs.Benches.{lists_of, AreOfAll}
+use Rattle.world_history.specs.Benches.{lists_of}
 use Rattle.station_turns.specs.Pace.{is_skip, turns_made, IsPaced, begins, turns, halts}
 use Rattle.station_turns.proofs.CountsGrow.{turn_more, turn_same}
 use Rattle.replica_threads.specs.Ended.{IsActor, IsRun}

@@ -9,10 +9,10 @@ use Rattle.std.proofs.lemmas.List.{length-map}
 use Rattle.std.proofs.lemmas.List.Folds.{flat_map-map}
 use Rattle.std.proofs.lemmas.List.Sorted.{All-permutation, length_permutation}
 use Rattle.std.proofs.lemmas.Option.{slice_get_cases, slice_get-map}
+use Rattle.plain_lists.proofs.Members.{some_same, none_some}
 use Rattle.protocol_rules.specs.Group.{Group}
 use Rattle.history_rules.specs.Legal.{IsLegal}
-use Rattle.agreement.proofs.Lists.{some_same, none_some}
-use Rattle.own_histories.specs.Own.{IsOwnHistory}
+use Rattle.history_laws.specs.Own.{IsOwnHistory}
 use Rattle.world_rules.specs.Scenarios.{setup_of, actors_in}
 use Rattle.world_rules.proofs.Fields.{group_is}
 use Rattle.stamps.specs.Seats.{Source, Drawer, IsWhole, IsEachOnce}

@@ -8,7 +8,7 @@ use Rattle.history_rules.specs.Events.{Entry}
 use Rattle.history_rules.specs.Keeping.{is_halted}
 use Rattle.history_rules.specs.Legal.{IsLegal}
 use Rattle.history_rules.specs.Counts.{merged}
-use Rattle.own_histories.specs.Own.{IsOwnHistory, HasEachStampOnce}
+use Rattle.history_laws.specs.Own.{IsOwnHistory, HasEachStampOnce}
 use Rattle.world_rules.specs.Scenarios.{setup_of, actors_in}
 use Rattle.stamps.specs.Seats.{Drawer, IsEachOnce}
 use Rattle.world_history.specs.State.{BenchState}

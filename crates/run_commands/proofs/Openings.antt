@@ -5,7 +5,7 @@ use Rattle.std.specs.declared.vec.Vec.{Vec}
 use Rattle.std.specs.declared.alloc.Global.{Global}
 use Rattle.command_ends.specs.Steps.{Step}
 use Rattle.command_ends.specs.Steps.Step.{Load, Gives, Refuses}
-use Rattle.command_ends.specs.Calls.{IsContent, TextCause, CountsStay, FaultsOfFiles, most_bytes}
+use Rattle.command_ends.specs.Calls.{IsContent, TextCause, CountsStay, most_bytes}
 use Rattle.command_ends.specs.Loaded.{LoadCause}
 use Rattle.command_ends.specs.declared.refusal.Refusal.{Refusal}
 use Rattle.command_ends.specs.declared.refusal.Refusal.TheVariants as refusal
@@ -48,43 +48,6 @@ pub found-in : {A : Type 0} (Holds : A → List ℕ → Type 0) (held : Option (
     IfOk result (λ x. IsOf held (Holds x))
 found-in Holds held content read (Ok value) same told short is = (content, told, short, subst (Holds value) same is)
 found-in Holds held content read (Err why) same told short is = tt
-
--- reading rises no count
-pub opened-faults : {A V : Type 0} (reads : List ℕ → (V → Step) → Step) (shown : A → V) (content : List ℕ)
-    (before after : List ℕ → ℕ)
-    (result : Result A Refusal) → Leads reads shown content result → CountsStay before after →
-    FaultsOfFiles result before after
-opened-faults reads shown content before after (Ok value) leads stay = stay
-opened-faults reads shown content before after (Err refusal.Memory) leads stay = stay
-opened-faults reads shown content before after (Err (refusal.Fault named)) leads stay = absurd leads
-opened-faults reads shown content before after (Err (refusal.TooLong named)) leads stay = stay
-opened-faults reads shown content before after (Err refusal.Output) leads stay = stay
-opened-faults reads shown content before after (Err refusal.Usage) leads stay = stay
-opened-faults reads shown content before after (Err (refusal.Scenario fault)) leads stay = stay
-opened-faults reads shown content before after (Err (refusal.Script fault number)) leads stay = stay
-opened-faults reads shown content before after (Err (refusal.Words fault number)) leads stay = stay
-opened-faults reads shown content before after (Err (refusal.History fault number)) leads stay = stay
-opened-faults reads shown content before after (Err refusal.NotVerified) leads stay = stay
-opened-faults reads shown content before after (Err (refusal.NoAnswer lack)) leads stay = stay
-opened-faults reads shown content before after (Err (refusal.Pieces at)) leads stay = stay
-
--- a file that isn't loaded isn't read
-pub open-failed : {A V : Type 0} (reads : List ℕ → (V → Step) → Step) (shown : A → V) (held : Option (List ℕ))
-    (before after : ℕ) (name : List ℕ)
-    (why : Refusal) → LoadCause held before after name (Err why) →
-    OpenCause reads shown held before after name (Err why)
-open-failed reads shown held before after name (refusal.Fault named) cause = cause
-open-failed reads shown held before after name (refusal.TooLong named) cause = cause
-open-failed reads shown held before after name refusal.Memory cause = tt
-open-failed reads shown held before after name refusal.Output cause = absurd cause
-open-failed reads shown held before after name refusal.Usage cause = absurd cause
-open-failed reads shown held before after name (refusal.Scenario fault) cause = absurd cause
-open-failed reads shown held before after name (refusal.Script fault number) cause = absurd cause
-open-failed reads shown held before after name (refusal.Words fault number) cause = absurd cause
-open-failed reads shown held before after name (refusal.History fault number) cause = absurd cause
-open-failed reads shown held before after name refusal.NotVerified cause = absurd cause
-open-failed reads shown held before after name (refusal.NoAnswer lack) cause = absurd cause
-open-failed reads shown held before after name (refusal.Pieces at) cause = absurd cause
 
 -- why there is a text or none, after one file more was read
 pub after-open : {A V : Type 0} (next : List (List ℕ) → Step → Type 0) (held later : List ℕ → Option (List ℕ))
@@ -158,20 +121,3 @@ made-now next held first last before step (Err (refusal.NoAnswer lack)) due make
     comes-now next held before (Refuses (refusal.NoAnswer lack)) (subst (λ s. next before s) makes due)
 made-now next held first last before step (Err (refusal.Pieces at)) due makes =
     comes-now next held before (Refuses (refusal.Pieces at)) (subst (λ s. next before s) makes due)
-
-pub made-faults : (step : Step) (before after : List ℕ → ℕ) (result : Result (Vec ℕ Global) Refusal) →
-    Makes step result → CountsStay before after
-    → FaultsOfFiles result before after
-made-faults step before after (Ok text) makes stay = stay
-made-faults step before after (Err refusal.Memory) makes stay = stay
-made-faults step before after (Err (refusal.Fault named)) makes stay = absurd makes
-made-faults step before after (Err (refusal.TooLong named)) makes stay = stay
-made-faults step before after (Err refusal.Output) makes stay = stay
-made-faults step before after (Err refusal.Usage) makes stay = stay
-made-faults step before after (Err (refusal.Scenario fault)) makes stay = stay
-made-faults step before after (Err (refusal.Script fault number)) makes stay = stay
-made-faults step before after (Err (refusal.Words fault number)) makes stay = stay
-made-faults step before after (Err (refusal.History fault number)) makes stay = stay
-made-faults step before after (Err refusal.NotVerified) makes stay = stay
-made-faults step before after (Err (refusal.NoAnswer lack)) makes stay = stay
-made-faults step before after (Err (refusal.Pieces at)) makes stay = stay

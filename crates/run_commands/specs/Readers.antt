@@ -1,5 +1,5 @@
 -- What plays and printed runs are, by the names of their definitions.
-use Rattle.std.specs.Prelude.{◌≡◌, ◌&&◌, ℕ, Bool, true, false, not, nat_le, List, Result, Ok, Err}
+use Rattle.std.specs.Prelude.{◌≡◌, ◌&&◌, ℕ, Bool, true, not, nat_le, List, Result, Ok, Err}
 use Rattle.std.specs.List.{list_all}
 use Rattle.std.specs.declared.vec.Vec.{Vec}
 use Rattle.std.specs.declared.alloc.Global.{Global}
@@ -9,8 +9,7 @@ use Rattle.history_rules.specs.Events.{Entry}
 use Rattle.history_rules.specs.Legal.{IsLegal}
 use Rattle.history_rules.specs.Counts.{forged}
 use Rattle.world_rules.specs.Scenarios.{setup_of}
-use Rattle.play_words.specs.declared.words.Word.{Word}
-use Rattle.play_words.specs.declared.words.Word.TheVariants as word
+use Rattle.play_words.specs.Accepted.{is_raw}
 use Rattle.script_grammar.specs.Names.{who_of}
 use Rattle.script_lines.specs.Scripts.{script_in}
 use Rattle.script_lines.specs.Sayings.{words_in}
@@ -39,10 +38,6 @@ pub record Readers : Type 1 where
   pub text_of : Contents → List Entry → List ℕ
   pub answered : Contents → List Entry → Question → Result (List ℕ) NoAnswer
   pub rebuilt : Contents → List ℕ → Result (List ℕ) NoRequest
-
-abbrev pub is_raw : Word → Bool
-is_raw (word.Raw bytes) = true
-is_raw _ = false
 
 -- no word of raw bytes is said
 abbrev pub AreNotRaw : List Saying → Type 0

@@ -1,8 +1,8 @@
 -- A text cut at its line feeds, and the lines of entries read one by one.
 use Rattle.std.proofs.Common.{if◌then◌else◌, not, ◌≡◌, ◌<◌, ◌≤◌, ◌+◌, ◌-◌, ℕ, zero, suc, Bool, true, false, nat_lt}
-use Rattle.std.proofs.Common.{◌||◌, List, [], ◌∷◌, ◌++◌, length, take, drop, Option, Some, None, Result, Ok, Err}
-use Rattle.std.proofs.Common.{append_assoc, codes, refl, sym, ◌∙◌, ap, subst, arith}
-use Rattle.std.specs.List.{slice_split, position, position_or_len, before_first, after_first}
+use Rattle.std.proofs.Common.{List, [], ◌∷◌, ◌++◌, length, take, drop, Some, None, Result, Ok, Err}
+use Rattle.std.proofs.Common.{append_assoc, codes, refl, sym, ◌∙◌, ap, arith}
+use Rattle.std.specs.List.{position, position_or_len}
 use Rattle.std.specs.Str.{bytes_eq}
 use Rattle.std.proofs.lemmas.List.Sums.{fails_before_first, prefix_len-le-length}
 use Rattle.std.proofs.lemmas.List.Splits.{slice_split_none, slice_split_first, length-slice_split}
@@ -14,8 +14,8 @@ use Rattle.run_lines.specs.declared.entry_line.EntryLine.{EntryLine}
 use Rattle.run_lines.specs.declared.refusal.HistoryRefusal.{HistoryRefusal}
 use Rattle.run_lines.specs.declared.refusal.HistoryRefusal.TheVariants as refusal
 use Rattle.run_lines.specs.Reading.{entry_line_in}
-use Rattle.run_lines.specs.Runs.{Reading, bad_line, pieces, is_empty, before_entries, numbered, entries_in, counts}
-use Rattle.run_lines.specs.Runs.{count_in, counted, after_heads, after_title, run_in, fault_at, RefusesRun, ReadsRun}
+use Rattle.run_lines.specs.Runs.{Reading, bad_line, pieces, before_entries, numbered, entries_in, counts}
+use Rattle.run_lines.specs.Runs.{count_in, counted, after_heads, after_title, run_in, fault_at, RefusesRun}
 use Rattle.script_grammar.proofs.LineLaws.{found_at, is_feed}
 
 -- the first line, and what stands behind it
@@ -101,29 +101,6 @@ entries_more cast first count place front entry line rest after all inside so_fa
     ∙ ap (behind front) (sym (line_at cast first count place line rest after inside cut))
     ∙ so_far
 
--- a line has a fault
-pub entries_fault : (cast : Cast) (first count place : ℕ) (front : List EntryLine) (e : LineRefusal)
-    (line rest after : List ℕ) (all : Reading (List EntryLine))
-    → place < count → behind front (entries_in cast (first + place) (count - place) (pieces rest)) ≡ all →
-    pieces rest ≡ line ∷ pieces after
-    → entry_line_in cast line ≡ Err e → all ≡ bad_line (first + place)
-entries_fault cast first count place front e line rest after all inside so_far cut this =
-    let left : Reading (List EntryLine) = entries_in cast (first + place + 1) (count - (place + 1)) (pieces after) in
-    sym so_far
-    ∙ ap (behind front) (line_at cast first count place line rest after inside cut)
-    ∙ ap (λ r. behind front (before_entries (numbered (first + place) r) left)) this
-
--- a line lacks
-pub entries_lack : (cast : Cast) (first count place : ℕ) (front : List EntryLine) (rest : List ℕ)
-    (all : Reading (List EntryLine))
-    → place < count → behind front (entries_in cast (first + place) (count - place) (pieces rest)) ≡ all →
-    pieces rest ≡ rest ∷ [] → all ≡ bad_line (first + place)
-entries_lack cast first count place front rest all inside so_far last =
-    let left : count - place ≡ suc (count - (place + 1)) = omega arith in
-    sym so_far
-    ∙ ap (λ m. behind front (entries_in cast (first + place) m (pieces rest))) left
-    ∙ ap (λ ps. behind front (entries_in cast (first + place) (suc (count - (place + 1))) ps)) last
-
 -- a fault that is right of a line is right of the text
 pub fault_of_text : {A B : Type 0} (e : LineRefusal) (line : Result A LineRefusal) (number : ℕ) (all : Reading B) →
     Refuses e line → (line ≡ Err e → all ≡ bad_line number)
@@ -132,11 +109,6 @@ fault_of_text fault.BadLine line number all is follows = follows is
 fault_of_text fault.NoActor line number all is follows = follows is
 fault_of_text fault.Want line number all is follows = tt
 
--- the end, and something else in its place
-pub ended_here : (cast : Cast) (n : ℕ) (rest : List ℕ) → pieces rest ≡ rest ∷ [] →
-    entries_in cast n zero (pieces rest) ≡ (if is_empty rest then Ok [] else bad_line n)
-ended_here cast n rest last = ap (entries_in cast n zero) last
-
 pub more_follows : (cast : Cast) (n : ℕ) (rest line after : List ℕ) → pieces rest ≡ line ∷ pieces after →
     entries_in cast n zero (pieces rest) ≡ bad_line n
 more_follows cast n rest line after cut = ap (entries_in cast n zero) cut ∙ by (pieces after) (pieces_some after)
@@ -144,19 +116,6 @@ more_follows cast n rest line after cut = ap (entries_in cast n zero) cut ∙ by
     by : (parts : List (List ℕ)) → 0 < length parts → entries_in cast n zero (line ∷ parts) ≡ bad_line n
     by [] some = absurd (omega arith)
     by (next ∷ more) some = refl
-
--- all entries are read
-pub entries_end : (cast : Cast) (first count place : ℕ) (front : List EntryLine) (rest : List ℕ)
-    (all end : Reading (List EntryLine))
-    → count ≡ place → behind front (entries_in cast (first + place) (count - place) (pieces rest)) ≡ all →
-    entries_in cast (first + count) zero (pieces rest) ≡ end
-    → all ≡ behind front end
-entries_end cast first count place front rest all end same so_far is =
-    let none : count - place ≡ zero = omega arith in
-    sym so_far
-    ∙ ap (λ m. behind front (entries_in cast (first + place) m (pieces rest))) none
-    ∙ ap (λ n. behind front (entries_in cast (first + n) zero (pieces rest))) (sym same)
-    ∙ ap (behind front) is
 
 -- The lines before that which counts.
 head_passed : (cast : Cast) (n : ℕ) (line : List ℕ) (parts : List (List ℕ)) → 0 < length parts
@@ -186,11 +145,6 @@ count_found cast n line rest after all so_far cut is_count =
     ∙ ap (after_heads cast n) (sym cut)
     ∙ so_far
 
-pub heads_lack : (cast : Cast) (n : ℕ) (rest : List ℕ) (all : Reading (List EntryLine)) →
-    after_heads cast n (pieces rest) ≡ all → pieces rest ≡ rest ∷ []
-    → all ≡ (if is_empty rest || counts rest then bad_line n else bad_line (n + 1))
-heads_lack cast n rest all so_far last = sym so_far ∙ ap (after_heads cast n) last
-
 -- the first line of all
 title_passed : (cast : Cast) (title : List ℕ) (parts : List (List ℕ)) → 0 < length parts
     → after_title cast (title ∷ parts) ≡
@@ -210,12 +164,3 @@ pub run_with_title : (cast : Cast) (text title rest : List ℕ) → pieces text 
 run_with_title cast text title rest cut is =
     sym (run_by_title cast text title rest cut
     ∙ ap (λ b. if b then after_heads cast 2 (pieces rest) else bad_line 1) is)
-
-pub run_without_title : (cast : Cast) (text title rest : List ℕ) → pieces text ≡ title ∷ pieces rest →
-    bytes_eq title (codes "spire 1") ≡ false → run_in cast text ≡ bad_line 1
-run_without_title cast text title rest cut is =
-    run_by_title cast text title rest cut ∙ ap (λ b. if b then after_heads cast 2 (pieces rest) else bad_line 1) is
-
-pub run_of_one_piece : (cast : Cast) (text : List ℕ) → pieces text ≡ text ∷ [] → run_in cast text ≡ bad_line 1
-unfolding run_in
-run_of_one_piece cast text last = ap (after_title cast) last

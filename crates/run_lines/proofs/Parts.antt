@@ -1,7 +1,7 @@
 -- Texts made line by line, each line with its number.
-use Rattle.std.proofs.Common.{◌≡◌, ℕ, suc, ◌+◌, ◌-◌, ◌≤◌, ◌<◌, nat_lt, List, [], ◌∷◌, ◌++◌, drop, length, get_or}
-use Rattle.std.proofs.Common.{refl, sym, ◌∙◌, ap, arith, append_assoc, append-nil, drop-cons, cond, true, false}
-use Rattle.std.proofs.Common.{codes, decimal}
+use Rattle.std.proofs.Common.{◌≡◌, ℕ, suc, ◌+◌, ◌-◌, ◌≤◌, ◌<◌, List, [], ◌∷◌, ◌++◌, drop, length, get_or}
+use Rattle.std.proofs.Common.{refl, sym, ◌∙◌, ap, arith, append_assoc, append-nil, drop-cons, true, false}
+use Rattle.std.proofs.Common.{codes}
 use Rattle.std.specs.Prelude.{◌==◌}
 use Rattle.std.specs.List.{flat_map}
 use Rattle.std.proofs.lemmas.Bool.Decides.{nat_tests}
@@ -9,8 +9,6 @@ use Rattle.std.proofs.lemmas.List.{drop_all}
 use Rattle.std.proofs.lemmas.Option.{get_or_from_slice_get, slice_get-get_or}
 use Rattle.hex.specs.Hex.{encode_lower}
 use Rattle.message_types.specs.declared.body.Body.{Body}
-use Rattle.scenario_file.specs.declared.actors.Cast.{Cast}
-use Rattle.scenario_file.specs.Actors.{actor_name}
 use Rattle.run_lines.specs.Texts.{hex_text, kind_text, said_text, numbered_lines}
 
 next-drop : {X : Type 0} (xs : List X) (i : ℕ) (x : X) → i < length xs → x ≡ get_or xs i x →
@@ -61,29 +59,6 @@ hex_text-none (b ∷ bytes) none = absurd (grind (arith, nat_tests))
 pub hex_text-more : (bytes : List ℕ) → false ≡ (length bytes == 0) → hex_text bytes ≡ encode_lower bytes
 hex_text-more [] some = absurd (grind (arith, nat_tests))
 hex_text-more (b ∷ bytes) some = refl
-
--- the names of a master, of a proxy and of a screen
-pub master_named : (cast : Cast) (actor : ℕ) → actor < cast.masters → actor_name cast actor ≡ codes "m" ++ decimal actor
-unfolding actor_name
-master_named cast actor low = let is : nat_lt actor cast.masters ≡ true = grind arith in rw is refl
-
-pub proxy_named : (cast : Cast) (client : ℕ) → client < cast.proxies →
-    actor_name cast (cast.masters + client) ≡ codes "p" ++ decimal client
-unfolding actor_name
-proxy_named cast client low =
-    let no_master : nat_lt (cast.masters + client) cast.masters ≡ false = grind arith in
-    let is : nat_lt (cast.masters + client) (cast.masters + cast.proxies) ≡ true = grind arith in
-    let place : (cast.masters + client) - cast.masters ≡ client = omega arith in
-    rw (no_master, is, place) refl
-
-pub screen_named : (cast : Cast) (client : ℕ) → cast.proxies ≤ client →
-    actor_name cast (cast.masters + client) ≡ codes "s" ++ decimal (client - cast.proxies)
-unfolding actor_name
-screen_named cast client high =
-    let no_master : nat_lt (cast.masters + client) cast.masters ≡ false = grind arith in
-    let is : nat_lt (cast.masters + client) (cast.masters + cast.proxies) ≡ false = grind arith in
-    let place : (cast.masters + client) - (cast.masters + cast.proxies) ≡ client - cast.proxies = omega arith in
-    rw (no_master, is, place) refl
 
 pub four-parts : (a b c d : List ℕ) → a ++ (b ++ (c ++ d)) ≡ a ++ b ++ c ++ d
 four-parts a b c d = sym (append_assoc (a ++ b) c d ∙ append_assoc a b (c ++ d))

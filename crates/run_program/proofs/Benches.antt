@@ -1,5 +1,5 @@
 -- The benches of a play as those of its history: what they merge to, and that each stamp is there once.
-use Rattle.std.proofs.Common.{◌≡◌, ℕ, zero, suc, ◌+◌, ◌<◌, ◌≤◌, ◌^◌, List, [], ◌∷◌, Result, length, map, refl, sym}
+use Rattle.std.proofs.Common.{◌≡◌, ℕ, ◌+◌, ◌<◌, ◌≤◌, ◌^◌, List, [], ◌∷◌, Result, length, map, refl, sym}
 use Rattle.std.proofs.Common.{◌∙◌, ap, subst, arith}
 use Rattle.std.proofs.lemmas.Result.{IfOk-weaker}
 use Rattle.std.specs.Result.{IfOk}
@@ -12,17 +12,17 @@ use Rattle.history_rules.specs.Events.{Entry}
 use Rattle.history_rules.specs.Setup.{own}
 use Rattle.history_rules.specs.Legal.{IsLegal}
 use Rattle.history_rules.specs.Counts.{merged}
-use Rattle.own_histories.specs.Own.{HasEachStampOnce}
-use Rattle.audit_counts.proofs.Merged.{merged_whole}
+use Rattle.history_laws.specs.Own.{HasEachStampOnce}
+use Rattle.history_laws.proofs.Merged.{merged_whole}
 use Rattle.protocol_rules.specs.Group.{Group}
-use Rattle.world_rules.specs.Scenarios.{setup_of, group_in, actors_in}
+use Rattle.world_rules.specs.Scenarios.{setup_of, actors_in}
 use Rattle.world_rules.proofs.Fields.{group_is}
 use Rattle.world_history.specs.State.{BenchState}
 use Rattle.printed_run.specs.Printed.{text_of}
-use Rattle.world_history.specs.Benches.{bench_in, benches_of, unsigned, AreBenches, AreOfAll, lists_of}
+use Rattle.world_history.specs.Benches.{bench_in, unsigned, AreBenches, AreOfAll, lists_of}
 use Rattle.world_history.specs.KeptState.{KeptState}
 use Rattle.script_lines.specs.declared.saying.Saying.{Saying}
-use Rattle.run_scripts.specs.Making.{Given, bench_at, most_entries}
+use Rattle.run_scripts.specs.Making.{bench_at, most_entries}
 use Rattle.run_scripts.specs.Playing.{ArePlayed}
 use Rattle.run_scripts.specs.Laws.{IsPlayed}
 use Rattle.run_program.specs.Whole.{AreAfter, CanBePrinted}

@@ -8,7 +8,7 @@ use Rattle.command_ends.specs.Calls.{Call}
 use Rattle.command_ends.specs.Ended.{ErrorSink}
 use Rattle.run_commands.specs.Keeps.{KeepsCommands}
 use Rattle.run_program.specs.Keeps.{Keeps}
-use Rattle.run_program.specs.Whole.{whole_runs}
+use Rattle.run_program.specs.Whole.{program_readers}
 use Rattle.run_program.proofs.Requested.{keeps_parts, keeps_rebuild}
 use Rattle.run_program.proofs.Worth.{keeps_blame, keeps_trend}
 
@@ -24,7 +24,7 @@ pub record Laws : Type 0 where
   pub rebuild : PrintedLinesRebuild
   pub enough : EnoughLinesRebuild
 
-pub keeps : Laws → (call : Call) (err : ErrorSink) (status : ℕ) → KeepsCommands whole_runs call err status →
+pub keeps : Laws → (call : Call) (err : ErrorSink) (status : ℕ) → KeepsCommands program_readers call err status →
     Keeps call err status
 keeps laws call err status kept = record {
   ends = kept.ends;

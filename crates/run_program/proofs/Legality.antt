@@ -1,24 +1,23 @@
 -- A history that a text tells is legal.
 use Rattle.std.proofs.Common.{◌≡◌, ℕ, Bool, true, false, cond, ◌&&◌, List, [], ◌∷◌, ◌++◌, Option, Some, None, Result}
-use Rattle.std.proofs.Common.{Ok, Err, length, nat_eq, refl, sym, ◌∙◌, ap, subst}
+use Rattle.std.proofs.Common.{Ok, Err, length, nat_eq, refl, subst}
 use Rattle.std.proofs.lemmas.Bool.{and_parts}
-use Rattle.message_types.specs.declared.body.Body.{Body}
+use Rattle.plain_lists.proofs.Members.{some_same}
 use Rattle.script_grammar.specs.declared.kinds.Kind.{Kind}
 use Rattle.scenario_file.specs.Reading.{Contents}
 use Rattle.history_rules.specs.Events.{Event, Entry}
 use Rattle.history_rules.specs.Setup.{Setup}
 use Rattle.history_rules.specs.Legal.{says, TakesWell, IsLegalEntry, IsLegal}
 use Rattle.world_rules.specs.Scenarios.{setup_of}
-use Rattle.own_histories.proofs.EntryByEntry.{none_is_legal, one_more_is_legal}
+use Rattle.history_laws.proofs.EntryByEntry.{none_is_legal, one_more_is_legal}
 use Rattle.run_lines.specs.declared.entry_line.EntryLine.{EntryLine}
 use Rattle.run_lines.specs.Runs.{Reading, run_in}
 use Rattle.printed_run.specs.Printed.{cast_in}
 use Rattle.printed_history.specs.Histories.{is_running, are_kinds, entry_with, entry_by, entry_of_event, entry_from}
 use Rattle.printed_history.specs.Histories.{entries_from, event_from, standing_event, not_legal, history_of}
 use Rattle.printed_history.specs.Histories.{history_in}
-use Rattle.printed_history.proofs.NextEntry.{MayCome, next_legal}
+use Rattle.printed_history.proofs.NextEntry.{next_legal}
 use Rattle.printed_history.proofs.EventTold.{taken_well}
-use Rattle.agreement.proofs.Lists.{some_same}
 
 same_ok : {X E : Type 0} {x y : X} → ◌≡◌ {A = Result X E} (Ok x) (Ok y) → x ≡ y
 same_ok same = cc

@@ -17,7 +17,7 @@ use Rattle.run_commands.specs.Answered.{Answered, KeepsAnswers, KeepsRequests, R
 use Rattle.run_commands.specs.Readers.{NoRequest}
 use Rattle.run_program.specs.Asked.{certified_or_lack, request_or_lack}
 use Rattle.run_program.specs.Requests.{PrintsParts, KeepsParts, HasEnough, Rebuilds, RebuildsNone, KeepsRebuild}
-use Rattle.run_program.specs.Whole.{whole_runs}
+use Rattle.run_program.specs.Whole.{program_readers}
 
 -- ---- Parts.
 
@@ -26,7 +26,7 @@ certified_of (Some made) text is = let same : made ≡ text = cc in ap Some same
 certified_of None text is = absurd (cc)
 
 prints : PartsArePrinted → PrintedLinesRebuild → (call : Call) (j k : ℕ) →
-    Answered whole_runs call (question.Parts j k) → PrintsParts call j k
+    Answered program_readers call (question.Parts j k) → PrintsParts call j k
 prints law from_lines call j k a =
     let defined = certified_of (parts_in a.scenario a.history j k) a.text a.answered in
     record {
@@ -43,7 +43,7 @@ prints law from_lines call j k a =
 
 -- which parts each call of `parts` puts that ends well
 pub keeps_parts : PartsArePrinted → PrintedLinesRebuild → (call : Call) (err : ErrorSink) (status : ℕ) →
-    KeepsAnswers whole_runs call err status → KeepsParts call status
+    KeepsAnswers program_readers call err status → KeepsParts call status
 keeps_parts law from_lines call err status keeps zero j k asked =
     prints law from_lines call j k (keeps.answers zero (question.Parts j k) asked)
 
@@ -67,7 +67,7 @@ rebuilt_from : EnoughLinesRebuild → (c : Contents) (lines : List ℕ) → IsSc
 rebuilt_from law c lines valid told tells text has =
     law c lines text told valid.group tells has.bytes has.some has.fits has.of_digest has.enough
 
-rebuilds : EnoughLinesRebuild → (call : Call) (scenario pieces : List ℕ) → Rebuilt whole_runs call scenario pieces →
+rebuilds : EnoughLinesRebuild → (call : Call) (scenario pieces : List ℕ) → Rebuilt program_readers call scenario pieces →
     Rebuilds call scenario pieces
 rebuilds law call scenario pieces made = record {
   contents = made.contents;
@@ -88,7 +88,7 @@ rebuilds law call scenario pieces made = record {
 }
 
 rebuilds_none : EnoughLinesRebuild → (call : Call) (err : ErrorSink) (status : ℕ) (scenario pieces : List ℕ)
-    → NotRebuilt whole_runs call err status scenario pieces → RebuildsNone call scenario pieces
+    → NotRebuilt program_readers call err status scenario pieces → RebuildsNone call scenario pieces
 rebuilds_none law call err status scenario pieces made = record {
   contents = made.contents;
   lines = made.lines;
@@ -101,7 +101,7 @@ rebuilds_none law call err status scenario pieces made = record {
 
 -- which request each call of `rebuild` puts, or why none
 pub keeps_rebuild : EnoughLinesRebuild → (call : Call) (err : ErrorSink) (status : ℕ) →
-    KeepsRequests whole_runs call err status → KeepsRebuild call status
+    KeepsRequests program_readers call err status → KeepsRebuild call status
 keeps_rebuild law call err status keeps = record {
   rebuilds = λ zero scenario pieces asked. rebuilds law call scenario pieces
       (keeps.rebuilds zero scenario pieces asked);

@@ -1,14 +1,10 @@
 -- What holds of the definitions that plays and replays go by.
-use Rattle.std.proofs.Common.{◌≡◌, ℕ, Bool, true, ◌&&◌, not, List, [], ◌∷◌, Result, Ok, Err, refl, sym, ◌∙◌, ap}
+use Rattle.std.proofs.Common.{◌≡◌, ℕ, ◌&&◌, not, List, [], ◌∷◌, Result, Ok, Err, refl, sym, ◌∙◌, ap}
 use Rattle.std.specs.List.{list_all}
-use Rattle.scenario_file.specs.Reading.{Contents}
-use Rattle.scenario_file.specs.Valid.{IsScenario}
 use Rattle.history_rules.specs.Events.{Entry}
 use Rattle.play_words.specs.declared.words.Word.{Word}
 use Rattle.play_words.specs.declared.words.Word.TheVariants as word
 use Rattle.script_lines.specs.declared.saying.Saying.{Saying}
-use Rattle.script_lines.specs.declared.script.Line.{Line}
-use Rattle.script_laws.specs.Accepted.{are_lines_of, are_sayings_of}
 use Rattle.script_laws.specs.Laws.{ReadLinesAreOfScenario, ReadWordsAreOfScenario}
 use Rattle.run_scripts.specs.declared.answer.StepRefusal.{StepRefusal}
 use Rattle.run_scripts.specs.Making as making
@@ -17,9 +13,10 @@ use Rattle.run_lines.specs.declared.refusal.HistoryRefusal.{HistoryRefusal}
 use Rattle.printed_history.specs.Histories.{history_in}
 use Rattle.replica_threads.specs.Courses.{inputs_given}
 use Rattle.replica_threads.specs.Ended.{HistoriesAreLegal}
-use Rattle.run_commands.specs.Readers.{Readers, KeepsRules, IsScriptOf, AreWordsOf, AreNotRaw, is_raw}
+use Rattle.play_words.specs.Accepted.{is_raw}
+use Rattle.run_commands.specs.Readers.{KeepsRules}
 use Rattle.run_program.specs.Faults.{played_or_fault, history_or_fault}
-use Rattle.run_program.specs.Whole.{whole_runs}
+use Rattle.run_program.specs.Whole.{program_readers}
 use Rattle.run_program.proofs.Legality.{read_is_legal}
 
 -- a fault is no history
@@ -44,7 +41,7 @@ none_raw [] = refl
 none_raw (s ∷ rest) = λ i. not (same_raw s.word i) && none_raw rest i
 
 pub keeps : ReadLinesAreOfScenario → ReadWordsAreOfScenario → plays.PlayedIsLegal →
-    plays.PlayedIsUnforged → HistoriesAreLegal → KeepsRules whole_runs
+    plays.PlayedIsUnforged → HistoriesAreLegal → KeepsRules program_readers
 keeps lines_read words_read legal unforged runs = record {
   played_legal = λ c lines sayings history valid script words is.
       (legal (record { scenario = c; sayings = sayings }) lines history valid

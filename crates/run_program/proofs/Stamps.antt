@@ -1,22 +1,21 @@
 -- The own lists of a legal history's actors have each stamp once.
 use Rattle.std.proofs.Common.{◌≡◌, ℕ, zero, suc, ◌+◌, ◌<◌, ◌≤◌, List, [], ◌∷◌, ◌++◌, length, filter, map, refl, sym}
-use Rattle.std.proofs.Common.{◌∙◌, ap, subst, inl, inr, ◌⊎◌, arith}
+use Rattle.std.proofs.Common.{◌∙◌, ap, inl, inr, ◌⊎◌, arith}
 use Rattle.std.proofs.lemmas.Bool.{ne_eqb, cases_eq, cases_lt}
 use Rattle.std.proofs.lemmas.List.{length-append}
 use Rattle.std.proofs.lemmas.List.Folds.{flat_map-map}
 use Rattle.std.specs.List.{flat_map}
+use Rattle.plain_lists.specs.Lists.{IsIn}
+use Rattle.plain_lists.proofs.Members.{none_in, in_cons_cases, in_cases}
 use Rattle.quorum_sets.specs.Masters.{numbers_below}
 use Rattle.history_rules.specs.Events.{Entry}
 use Rattle.history_rules.specs.Setup.{Setup, own}
 use Rattle.history_rules.specs.Legal.{IsLegal}
-use Rattle.history_rules.specs.Audit.{IsIn}
-use Rattle.history_rules.specs.Counts.{stamped}
-use Rattle.agreement.proofs.Known.{own_none}
-use Rattle.agreement.proofs.Lists.{none_in, in_cons_cases, in_cases}
+use Rattle.agreement.proofs.KnownAsItGrows.{own_none}
 use Rattle.agreement.proofs.Places.{by_growth, legal_before, stands_last}
-use Rattle.audit_counts.proofs.Forged.{filter_none}
-use Rattle.audit_counts.proofs.Merged.{none_below, own_within}
-use Rattle.own_histories.specs.Own.{HasEachStampOnce}
+use Rattle.history_laws.proofs.Forged.{filter_none}
+use Rattle.history_laws.proofs.Merged.{none_below, own_within}
+use Rattle.history_laws.specs.Own.{HasEachStampOnce}
 use Rattle.quorum_sets.proofs.Numbered.{flat_below, below_step}
 use Rattle.history_rules.proofs.Entries.{own_else, own_same, has_stamp, last_stamped, last_other}
 

@@ -1,34 +1,30 @@
 -- What blame and trends are worth, of each call that puts one.
-use Rattle.std.proofs.Common.{◌≡◌, ℕ, List, Option, Some, Result, Ok, Err, refl, sym, ◌∙◌, ap, subst}
+use Rattle.std.proofs.Common.{◌≡◌, ℕ, List, Result, Ok, Err, refl, ◌∙◌, ap}
 use Rattle.outside.specs.Piece.{with_piece}
 use Rattle.scenario_file.specs.Reading.{Contents}
 use Rattle.history_rules.specs.Events.{Entry}
-use Rattle.world_rules.specs.Headline.{Premises}
-use Rattle.world_rules.specs.Scenarios.{setup_of}
 use Rattle.run_questions.specs.BlameLaws.{BlamedAreProved, QuorumsAreBlamed, CorrectAreNotBlamed}
 use Rattle.run_questions.specs.BlameText.{blame_text}
-use Rattle.run_questions.specs.TrendAnswers.{trend_in, changes_by}
-use Rattle.run_questions.specs.TrendLaws.{IsHeadlined, PrintsTheChangesOfOne, PrintsTheChangesOfAll, AlwaysMatches}
-use Rattle.run_questions.specs.TrendText.{changes_text}
+use Rattle.run_questions.specs.TrendAnswers.{trend_in}
+use Rattle.run_questions.specs.TrendLaws.{PrintsTheChangesOfOne, PrintsTheChangesOfAll, AlwaysMatches}
 use Rattle.run_questions.specs.declared.trend.fault.TrendRefusal.{TrendRefusal}
 use Rattle.run_questions.specs.declared.trend.fault.TrendRefusal.TheVariants as trend
 use Rattle.command_ends.specs.Calls.{Call}
 use Rattle.command_ends.specs.Ended.{ErrorSink}
 use Rattle.command_ends.specs.declared.refusal.NoAnswer.{NoAnswer}
 use Rattle.command_ends.specs.declared.refusal.NoAnswer.TheVariants as none
-use Rattle.run_commands.specs.declared.questions.Question.{Question}
 use Rattle.run_commands.specs.declared.questions.Question.TheVariants as question
-use Rattle.run_commands.specs.Answered.{Answered, Unanswered, KeepsAnswers, asked_by}
+use Rattle.run_commands.specs.Answered.{Answered, Unanswered, KeepsAnswers}
 use Rattle.run_program.specs.Asked.{trend_lack, trend_or_lack}
 use Rattle.run_program.specs.Blame.{Blames, KeepsBlame}
 use Rattle.run_program.specs.Trends.{ShowsTrend, ShowsNoTrend, KeepsTrend}
-use Rattle.run_program.specs.Whole.{whole_runs}
+use Rattle.run_program.specs.Whole.{program_readers}
 
 same_text : (a b : List ℕ) → (let one : Result (List ℕ) NoAnswer = Ok a in one ≡ Ok b) → b ≡ a
 same_text a b is = cc
 
 blames : BlamedAreProved → QuorumsAreBlamed → CorrectAreNotBlamed → (call : Call) →
-    Answered whole_runs call question.Blame → Blames call
+    Answered program_readers call question.Blame → Blames call
 blames proved many intruded call a = record {
   scenario = a.scenario;
   history = a.history;
@@ -42,7 +38,7 @@ blames proved many intruded call a = record {
 -- whom each call of `blame` names that ends well
 pub keeps_blame : BlamedAreProved → QuorumsAreBlamed → CorrectAreNotBlamed →
     (call : Call) (err : ErrorSink) (status : ℕ)
-    → KeepsAnswers whole_runs call err status → KeepsBlame call status
+    → KeepsAnswers program_readers call err status → KeepsBlame call status
 keeps_blame proved many intruded call err status keeps zero asked =
     blames proved many intruded call (keeps.answers zero question.Blame asked)
 
@@ -62,7 +58,7 @@ unmatched_of (Ok made) is = absurd (cc)
 unmatched_of (Err why) is = let same : trend_lack why ≡ none.NoMatch = cc in ap Err (unmatched why same)
 
 shows : PrintsTheChangesOfOne → PrintsTheChangesOfAll → (call : Call) (point first last : ℕ) →
-    Answered whole_runs call (question.Trend point first last)
+    Answered program_readers call (question.Trend point first last)
     → ShowsTrend call point first last
 shows one all call point first last a =
     let c : Contents = a.scenario in
@@ -83,7 +79,7 @@ shows one all call point first last a =
     }
 
 lacks : AlwaysMatches → (call : Call) (err : ErrorSink) (status point first last : ℕ) →
-    Unanswered whole_runs call err status (question.Trend point first last)
+    Unanswered program_readers call err status (question.Trend point first last)
     → ShowsNoTrend call err status point first last
 lacks matches call err status point first last u = record {
   scenario = u.scenario;
@@ -99,7 +95,7 @@ lacks matches call err status point first last u = record {
 -- which trend each call of `trend` shows, or why none
 pub keeps_trend : PrintsTheChangesOfOne → PrintsTheChangesOfAll → AlwaysMatches →
     (call : Call) (err : ErrorSink) (status : ℕ)
-    → KeepsAnswers whole_runs call err status → KeepsTrend call err status
+    → KeepsAnswers program_readers call err status → KeepsTrend call err status
 keeps_trend one all matches call err status keeps = record {
   shows = λ zero point first last asked. shows one all call point first last
       (keeps.answers zero (question.Trend point first last) asked);

@@ -1,5 +1,5 @@
 -- Why there is no run, as the program tells it. (This project's own.)
-use Rattle.std.specs.Prelude.{◌≡◌, ℕ, List, Result, Ok, Err}
+use Rattle.std.specs.Prelude.{ℕ, List, Result, Ok, Err}
 use Rattle.history_rules.specs.Events.{Entry}
 use Rattle.run_scripts.specs.declared.answer.StepRefusal.{StepRefusal}
 use Rattle.run_scripts.specs.declared.answer.StepRefusal.TheVariants as stop

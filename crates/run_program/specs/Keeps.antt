@@ -8,15 +8,15 @@ use Rattle.run_commands.specs.Keeps.{KeepsComplete}
 use Rattle.run_program.specs.Blame.{KeepsBlame}
 use Rattle.run_program.specs.Requests.{KeepsParts, KeepsRebuild}
 use Rattle.run_program.specs.Trends.{KeepsTrend}
-use Rattle.run_program.specs.Whole.{whole_runs}
+use Rattle.run_program.specs.Whole.{program_readers}
 
 -- It ends in one way, for its cause, with its status and line, and no other fault came; where nothing is in its way it
 -- ends as its words and files have it; the headline holds of what is played, run or replayed; and what is asked over a
 -- history or rebuilt of parts is what that history or those parts give.
 pub record Keeps (call : Call) (err : ErrorSink) (status : ℕ) : Type 0 where
-  pub ends : Ends (NextStep whole_runs) call err status
-  pub complete : KeepsComplete whole_runs call err status
-  pub headline : KeepsHeadline whole_runs call status
+  pub ends : Ends (NextStep program_readers) call err status
+  pub complete : KeepsComplete program_readers call err status
+  pub headline : KeepsHeadline program_readers call status
   pub blame : KeepsBlame call status
   pub trend : KeepsTrend call err status
   pub parts : KeepsParts call status

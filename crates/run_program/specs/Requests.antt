@@ -3,7 +3,7 @@
 -- hold, any f + 1 of these lines rebuild a text of the digest, whatever the other lines are. Of lines with parts of one
 -- text of the digest, f + 1 suffice for a call of `rebuild` without any premise: it puts a text of the digest and names
 -- exactly the masters whose parts aren't that text's, and never ends for want of one.
-use Rattle.std.specs.Prelude.{◌≡◌, ◌≤◌, ℕ, List, Option, Some, Ok, length}
+use Rattle.std.specs.Prelude.{◌≡◌, ◌≤◌, ℕ, List, Some, Ok, length}
 use Rattle.outside.specs.Piece.{with_piece}
 use Rattle.sha2.specs.Sha256.{sha256}
 use Rattle.scenario_file.specs.Reading.{Contents}
@@ -23,12 +23,12 @@ use Rattle.command_words.specs.Wanted.{rebuild, wanted_in}
 use Rattle.command_ends.specs.Calls.{Call}
 use Rattle.run_commands.specs.declared.questions.Question.TheVariants as question
 use Rattle.run_commands.specs.Answered.{HasPieces, Spells, asked_by}
-use Rattle.run_program.specs.Whole.{whole_runs}
+use Rattle.run_program.specs.Whole.{program_readers}
 
 pub record PrintsParts (call : Call) (originator number : ℕ) : Type 0 where
   pub scenario : Contents
   pub history : List Entry
-  pub spells : Spells whole_runs call (question.Parts originator number) scenario history
+  pub spells : Spells program_readers call (question.Parts originator number) scenario history
   pub printed : List ℕ
   pub put : call.put_after ≡ with_piece call.put_before printed
   pub defined : parts_in scenario history originator number ≡ Some printed

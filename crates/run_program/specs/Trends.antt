@@ -1,7 +1,7 @@
 -- What a call of `trend` puts that ends well: a point's changes in a correct master's executions, of one legal history.
 -- Where the headline's premises hold, they are those in the executions of every correct master that reach so far, and
 -- it never comes that too few answers are equal.
-use Rattle.std.specs.Prelude.{◌≡◌, ℕ, List, Option, Some, Ok, Err}
+use Rattle.std.specs.Prelude.{◌≡◌, ℕ, List, Some}
 use Rattle.outside.specs.Piece.{with_piece}
 use Rattle.scenario_file.specs.Reading.{Contents}
 use Rattle.history_rules.specs.Events.{Entry}
@@ -15,15 +15,14 @@ use Rattle.command_ends.specs.Ended.{ErrorSink, Told}
 use Rattle.command_ends.specs.declared.refusal.NoAnswer.{NoAnswer}
 use Rattle.command_ends.specs.declared.refusal.NoAnswer.TheVariants as none
 use Rattle.command_ends.specs.declared.refusal.Refusal.TheVariants as refusal
-use Rattle.run_commands.specs.declared.questions.Question.{Question}
 use Rattle.run_commands.specs.declared.questions.Question.TheVariants as question
 use Rattle.run_commands.specs.Answered.{asked_by, Spells}
-use Rattle.run_program.specs.Whole.{whole_runs}
+use Rattle.run_program.specs.Whole.{program_readers}
 
 pub record ShowsTrend (call : Call) (point first last : ℕ) : Type 0 where
   pub scenario : Contents
   pub history : List Entry
-  pub spells : Spells whole_runs call (question.Trend point first last) scenario history
+  pub spells : Spells program_readers call (question.Trend point first last) scenario history
   pub master : ℕ
   pub reaches : Reaches scenario history last master
   pub put : call.put_after ≡ with_piece call.put_before
@@ -35,7 +34,7 @@ pub record ShowsTrend (call : Call) (point first last : ℕ) : Type 0 where
 pub record ShowsNoTrend (call : Call) (err : ErrorSink) (status point first last : ℕ) : Type 0 where
   pub scenario : Contents
   pub history : List Entry
-  pub spells : Spells whole_runs call (question.Trend point first last) scenario history
+  pub spells : Spells program_readers call (question.Trend point first last) scenario history
   pub why : NoAnswer
   pub told : Told (refusal.NoAnswer why) err status
   pub matches : Premises (setup_of scenario) history → why ≡ none.NoMatch → ⊥

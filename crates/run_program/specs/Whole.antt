@@ -1,6 +1,6 @@
 -- The definitions that the program goes by: the one history of a script and words, the histories that a run in threads of
 -- them may make, in which each actor's list goes turn by turn for what they give it, the history that a printed text tells, the text of a history, what is answered over one, and the request that parts rebuild. (This project's own.)
-use Rattle.std.specs.Prelude.{◌<◌, ◌^◌, ℕ, List, length}
+use Rattle.std.specs.Prelude.{◌<◌, ◌^◌, List, length}
 use Rattle.scenario_file.specs.Reading.{Contents}
 use Rattle.history_rules.specs.Events.{Entry}
 use Rattle.history_rules.specs.Legal.{IsLegal}
@@ -8,7 +8,7 @@ use Rattle.world_rules.specs.Scenarios.{setup_of}
 use Rattle.world_history.specs.State.{BenchState}
 use Rattle.world_history.specs.Benches.{lists_of, AreBenches, AreOfAll}
 use Rattle.history_rules.specs.Counts.{merged}
-use Rattle.own_histories.specs.Own.{HasEachStampOnce}
+use Rattle.history_laws.specs.Own.{HasEachStampOnce}
 use Rattle.run_scripts.specs.Making.{played}
 use Rattle.replica_threads.specs.Courses.{inputs_given}
 use Rattle.replica_threads.specs.Ended.{IsHistoryOf}
@@ -18,8 +18,9 @@ use Rattle.run_commands.specs.Readers.{Readers}
 use Rattle.run_program.specs.Asked.{answered, requested}
 use Rattle.run_program.specs.Faults.{played_or_fault, history_or_fault}
 
-abbrev pub whole_runs : Readers
-whole_runs = record {
+-- what the program reads and makes, by the names of its definitions
+abbrev pub program_readers : Readers
+program_readers = record {
   played = λ c lines sayings. played_or_fault (played (record { scenario = c; sayings = sayings }) lines);
   may_run = λ c lines sayings turns history. IsHistoryOf c (inputs_given c lines sayings) turns history;
   history_in = λ c text. history_or_fault (history_in c text);

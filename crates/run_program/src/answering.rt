@@ -1,12 +1,11 @@
 //! Answers to what is asked over the history of a printed text.
-ghost use Rattle.std.specs.Prelude.{◌≡◌};
 ghost use Rattle.world_history.specs.Benches.{AreBenches};
 ghost use Rattle.history_rules.specs.Legal.{IsLegal};
 ghost use Rattle.run_commands.specs.Readers.{AnswerGives, RebuildGives};
 ghost use Rattle.scenario_file.specs.Reading.{contents};
 ghost use Rattle.scenario_file.specs.Valid.{IsScenario};
 ghost use Rattle.run_program.specs.Asked.{Answers};
-ghost use Rattle.run_program.specs.Whole.{whole_runs};
+ghost use Rattle.run_program.specs.Whole.{program_readers};
 ghost use Rattle.world_rules.specs.Scenarios.{setup_of};
 
 use crate::faults::{history_refusal, parts_refusal, request_refusal, trend_refusal};
@@ -29,7 +28,7 @@ pub(crate) fn answered_text(
     question: Question,
 ) -> Result<Vec<u8>, Refusal>
     requires { IsScenario (contents scenario.now) }
-    ensures { AnswerGives whole_runs (contents scenario.now) text.now question result }
+    ensures { AnswerGives program_readers (contents scenario.now) text.now question result }
 {
     match read_replay(alloc, scenario, text) {
         Ok(replay) => answer(alloc, scenario, &replay, question),
@@ -83,7 +82,7 @@ pub(crate) fn request_text(
     pieces: &[u8],
 ) -> Result<Vec<u8>, Refusal>
     requires { IsScenario (contents scenario.now) }
-    ensures { RebuildGives whole_runs (contents scenario.now) pieces.now result }
+    ensures { RebuildGives program_readers (contents scenario.now) pieces.now result }
 {
     match rebuilt_text(alloc, scenario, pieces) {
         Ok(text) => Ok(text),

@@ -4,9 +4,9 @@ ghost use Rattle.command_ends.specs.Calls.{call_of};
 ghost use Rattle.command_ends.specs.Ended.{sink_of};
 ghost use Rattle.run_commands.specs.Headline.{KeepsHeadline};
 ghost use Rattle.run_program.specs.Keeps.{Keeps};
-ghost use Rattle.run_program.specs.Whole.{whole_runs};
+ghost use Rattle.run_program.specs.Whole.{program_readers};
 
-use crate::runs::WholeRuns;
+use crate::runs::ProgramRuns;
 use outside::{Files, Sink};
 use part_lines::laws::enough_lines_rebuild;
 use run_commands::Program;
@@ -36,7 +36,7 @@ pub fn spire<R: Threads + Wait + Sync, F: Files, O: Sink, E: Sink>(
         (call_of (map string_bytes words.now) (F.held files.old) (F.faults files.old) (F.faults files.new) (O.faults out.old) (O.faults out.new) (O.told out.old) (O.told out.new))
         (sink_of (E.faults err.old) (E.faults err.new) (E.told err.old) (E.told err.new))
         result }
-    ensures headline { KeepsHeadline whole_runs
+    ensures headline { KeepsHeadline program_readers
         (call_of (map string_bytes words.now) (F.held files.old) (F.faults files.old) (F.faults files.new) (O.faults out.old) (O.faults out.new) (O.told out.old) (O.told out.new))
         result }
 {
@@ -50,7 +50,7 @@ pub fn spire<R: Threads + Wait + Sync, F: Files, O: Sink, E: Sink>(
     printed_lines_rebuild();
     enough_lines_rebuild();
     let program = Program {
-        runs: WholeRuns { rt },
+        runs: ProgramRuns { rt },
     };
     run_command(alloc, &program, words, files, out, err)
 }

@@ -8,7 +8,7 @@ ghost use Rattle.history_rules.specs.Events.{Entry};
 ghost use Rattle.printed_run.specs.Printed.{text_of};
 ghost use Rattle.world_history.specs.Benches.{lists_of};
 ghost use Rattle.run_commands.specs.Readers.{PlayGives};
-ghost use Rattle.run_program.specs.Whole.{whole_runs, AreAfter, CanBePrinted};
+ghost use Rattle.run_program.specs.Whole.{program_readers, AreAfter, CanBePrinted};
 
 use crate::faults::play_refusal;
 use command_ends::Refusal;
@@ -31,7 +31,7 @@ pub(crate) fn played_text(
     requires valid { IsScenario (contents scenario.now) }
     requires lines { are_lines_of (contents scenario.now) script.now ≡ true }
     requires words { are_sayings_of (contents scenario.now) words.now ≡ true }
-    ensures { PlayGives whole_runs (contents scenario.now) script.now words.now result }
+    ensures { PlayGives program_readers (contents scenario.now) script.now words.now result }
 {
     played_is_legal();
     match play(alloc, scenario, script, words) {

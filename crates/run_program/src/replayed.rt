@@ -2,7 +2,7 @@
 ghost use Rattle.scenario_file.specs.Reading.{contents};
 ghost use Rattle.scenario_file.specs.Valid.{IsScenario};
 ghost use Rattle.run_commands.specs.Readers.{ReplayGives};
-ghost use Rattle.run_program.specs.Whole.{whole_runs};
+ghost use Rattle.run_program.specs.Whole.{program_readers};
 
 use crate::faults::history_refusal;
 use command_ends::Refusal;
@@ -19,7 +19,7 @@ pub(crate) fn replayed_text(
     text: &[u8],
 ) -> Result<Vec<u8>, Refusal>
     requires { IsScenario (contents scenario.now) }
-    ensures { ReplayGives whole_runs (contents scenario.now) text.now result }
+    ensures { ReplayGives program_readers (contents scenario.now) text.now result }
 {
     match read_replay(alloc, scenario, text) {
         Ok(replay) => match write_run_of(alloc, scenario, &replay.history, &replay.benches) {

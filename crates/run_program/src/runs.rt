@@ -16,15 +16,15 @@ use std::thread::Threads;
 
 /// Plays, runs in these threads and replays of whole runs, and what is asked over them.
 #[derive(Drop)]
-pub struct WholeRuns<'a, R: Threads + Wait + Sync> {
+pub struct ProgramRuns<'a, R: Threads + Wait + Sync> {
     pub rt: &'a R,
 }
 
-impl<R: Threads + Wait + Sync> Runs for WholeRuns<'_, R> {
+impl<R: Threads + Wait + Sync> Runs for ProgramRuns<'_, R> {
     ghost use denote.Param.Send.{IsSync};
-    ghost use Rattle.run_program.specs.Whole.{whole_runs};
+    ghost use Rattle.run_program.specs.Whole.{program_readers};
 
-    ghost readers = { whole_runs };
+    ghost readers = { program_readers };
 
     ghost ready = { λ _. IsSync R.row };
 

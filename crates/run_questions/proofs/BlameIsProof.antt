@@ -8,7 +8,7 @@ use Rattle.message_types.specs.declared.body.Body.{Body}
 use Rattle.message_types.specs.Texts.{body_text}
 use Rattle.protocol_rules.specs.Group.{Group}
 use Rattle.scenario_file.specs.Reading.{Contents}
-use Rattle.audit_counts.proofs.Forged.{forged_counts}
+use Rattle.history_laws.proofs.Forged.{forged_counts}
 use Rattle.world_rules.specs.Scenarios.{group_in, masters_in, setup_of}
 use Rattle.world_rules.proofs.Fields.{setup_goes_by, group_is, sizes_of_group}
 use Rattle.blame_check.specs.declared.pairs.Named.{Named}

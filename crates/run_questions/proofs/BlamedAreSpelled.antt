@@ -2,6 +2,8 @@
 use Rattle.std.proofs.Common.{◌≡◌, ℕ, zero, suc, ◌<◌, true, List, [], ◌∷◌, length, get_or, refl, sym, subst, arith}
 use Rattle.std.proofs.lemmas.Bool.{and_from}
 use Rattle.std.specs.List.{All, flat_map}
+use Rattle.plain_lists.specs.Lists.{IsIn, here, there}
+use Rattle.plain_lists.proofs.Members.{none_in, in_flat_map_from, in_filter_map_from, all_at}
 use Rattle.quorum_sets.specs.Masters.{numbers_below}
 use Rattle.message_types.specs.declared.signed.Signed.{Signed}
 use Rattle.message_types.specs.declared.body.Body.{Body}
@@ -11,8 +13,7 @@ use Rattle.protocol_rules.specs.Master.{taken_frames}
 use Rattle.history_rules.specs.Events.{Event, Took, Entry, frame_taken}
 use Rattle.history_rules.specs.Setup.{Setup}
 use Rattle.history_rules.specs.Legal.{IsLegal, TakesWell}
-use Rattle.history_rules.specs.Audit.{IsIn, here, there, parts_taken}
-use Rattle.agreement.proofs.Lists.{none_in, in_flat_map_from, in_filter_map_from, all_at}
+use Rattle.history_rules.specs.Audit.{parts_taken}
 use Rattle.words_in_place.proofs.Spelled.{parts_are_spelled}
 use Rattle.scenario_file.specs.Reading.{Contents}
 use Rattle.world_rules.specs.Scenarios.{setup_of}

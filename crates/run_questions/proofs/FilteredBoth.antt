@@ -2,7 +2,7 @@
 use Rattle.std.proofs.Common.{◌≡◌, suc, ◌≤◌, Bool, true, false, cond, ◌&&◌, List, [], ◌∷◌, filter, length, map, refl}
 use Rattle.std.proofs.Common.{ap, arith}
 use Rattle.std.proofs.lemmas.Bool.{false≢true}
-use Rattle.history_rules.specs.Audit.{IsIn, here, there}
+use Rattle.plain_lists.specs.Lists.{IsIn, here, there}
 
 -- those that pass one test and another
 pub filter_both : {X : Type 0} (p q : X → Bool) (xs : List X) → filter (λ x. p x && q x) xs ≡ filter q (filter p xs)

@@ -2,11 +2,10 @@
 use Rattle.std.proofs.Common.{◌≡◌, ℕ, ◌≤◌, true, List, [], ◌∷◌, nat_le, filter, length, refl, sym, ◌∙◌, ap, subst}
 use Rattle.std.proofs.Common.{inl, inr, arith}
 use Rattle.std.proofs.lemmas.Bool.{cases_lt, le-leb, leb-true}
-use Rattle.history_rules.specs.Audit.{IsIn, here, there}
-use Rattle.agreement.proofs.Lists.{in_cons_cases, in_filter, in_filter_from, none_in}
-use Rattle.agreement.proofs.Planned.{greatest_above}
-use Rattle.protocol_rules.specs.Words.{greatest_of}
-use Rattle.run_questions.specs.TrendAnswers.{greatest_reached}
+use Rattle.plain_lists.specs.Lists.{IsIn, here, there}
+use Rattle.plain_lists.proofs.Members.{in_cons_cases, in_filter, in_filter_from, none_in}
+use Rattle.agreement.proofs.PlannedRows.{greatest_above}
+use Rattle.protocol_rules.specs.Words.{greatest_of, greatest_reached}
 use Rattle.run_questions.proofs.FilteredBoth.{filter_fewer}
 
 -- how many of the numbers reach a number
@@ -53,7 +52,6 @@ least x (z ∷ zs) = by (least z zs)
 
 -- where the q-th greatest reaches a number above 0, q of them do
 pub reached-up : (q x : ℕ) (numbers : List ℕ) → 1 ≤ x → x ≤ greatest_reached q numbers → q ≤ how_many x numbers
-unfolding greatest_reached
 reached-up q x numbers some low =
     let one = one_as_great x (filter (λ z. nat_le q (how_many z numbers)) numbers) some low in
     let among = in_filter_from (λ z. nat_le q (how_many z numbers)) numbers one.1 in
@@ -84,7 +82,6 @@ by_least q x numbers far e many l =
 
 -- where q of them reach a number, the q-th greatest does
 pub reached-down : (q x : ℕ) (numbers : List ℕ) → 1 ≤ q → q ≤ how_many x numbers → x ≤ greatest_reached q numbers
-unfolding greatest_reached
 reached-down q x numbers some many = by (filter (λ y. nat_le x y) numbers) refl
   where
     by : (far : List ℕ) → filter (λ y. nat_le x y) numbers ≡ far → x ≤ greatest_of (reached_of q numbers)
@@ -95,6 +92,5 @@ reached-down q x numbers some many = by (filter (λ y. nat_le x y) numbers) refl
 pub reached-by : (q : ℕ) (given numbers : List ℕ) (r : ℕ) →
     r ≡ greatest_of (filter (λ x. nat_le q (length (filter (λ y. nat_le x y) given))) given) → given ≡ numbers
     → r ≡ greatest_reached q numbers
-unfolding greatest_reached
 reached-by q given numbers r is same =
     is ∙ (λ i. greatest_of (filter (λ x. nat_le q (length (filter (λ y. nat_le x y) (same i)))) (same i)))

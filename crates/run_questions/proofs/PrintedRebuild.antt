@@ -7,11 +7,12 @@ use Rattle.std.specs.List.{AllByRecursion, list_any, filter_map, flat_map, cons_
 use Rattle.std.specs.Option.{option_map}
 use Rattle.std.specs.Str.{bytes_eq}
 use Rattle.std.proofs.lemmas.List.Concat.{flat_map-append}
+use Rattle.plain_lists.specs.Lists.{Begins}
 use Rattle.sha2.specs.Sha256.{sha256}
 use Rattle.sha2.proofs.Facts256.{length-sha256}
-use Rattle.agreement.specs.Laws.{Begins, IsSound, known_by}
-use Rattle.agreement.proofs.Executions.{certified_agree}
-use Rattle.audit_counts.proofs.Sound.{sound_by_counts}
+use Rattle.agreement.specs.Laws.{IsSound, known_by}
+use Rattle.agreement.proofs.ExecutionsAgree.{certified_agree}
+use Rattle.history_laws.proofs.Sound.{sound_by_counts}
 use Rattle.message_types.specs.declared.updates.Update.{Update}
 use Rattle.message_types.specs.Digests.{digest_of_update}
 use Rattle.message_types.specs.Texts.{update_text}

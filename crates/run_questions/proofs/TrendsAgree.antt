@@ -2,16 +2,15 @@
 use Rattle.std.proofs.Common.{◌≡◌, ℕ, ◌+◌, ◌<◌, ◌≤◌, Bool, true, ◌&&◌, List, [], ◌∷◌, Option, Some, None, Result, Ok}
 use Rattle.std.proofs.Common.{Err, filter, length, map, nat_eq, nat_le, refl, sym, ◌∙◌, ap, inl, inr, arith}
 use Rattle.std.proofs.lemmas.Bool.{and_parts, cases_lt, leb-true}
+use Rattle.plain_lists.specs.Lists.{IsIn, here, Begins}
+use Rattle.plain_lists.proofs.Members.{any_from, any_in, in_filter, in_filter_from, in_map, in_map_from}
 use Rattle.quorum_sets.specs.Masters.{numbers_below, voters}
 use Rattle.message_types.specs.declared.updates.Update.{Update}
 use Rattle.protocol_rules.specs.Group.{Group}
 use Rattle.scenario_file.specs.Reading.{Contents}
-use Rattle.history_rules.specs.Audit.{IsIn, here}
 use Rattle.history_rules.specs.Events.{Entry}
 use Rattle.history_rules.specs.Setup.{is_correct_master}
 use Rattle.history_rules.specs.Legal.{executions}
-use Rattle.agreement.specs.Laws.{Begins}
-use Rattle.agreement.proofs.Lists.{any_from, any_in, in_filter, in_filter_from, in_map, in_map_from}
 use Rattle.world_rules.specs.Scenarios.{setup_of, masters_in}
 use Rattle.world_rules.proofs.Fields.{group_is}
 use Rattle.world_rules.proofs.Headline.{headline_of_legal}

@@ -1,6 +1,7 @@
 -- What a printed blame is worth, as statements over every scenario and legal history. (This project's own; that two
 -- quorums' commits of different digests show f + 1 masters at fault is PBFT's argument for safety, turned round.)
 use Rattle.std.specs.Prelude.{◌≡◌, ℕ, ◌+◌, ◌<◌, ◌≤◌, true, List, length}
+use Rattle.plain_lists.specs.Lists.{IsIn}
 use Rattle.quorum_sets.specs.Quorum.{quorum_size}
 use Rattle.quorum_sets.specs.Masters.{has_master, voters}
 use Rattle.hash_signatures.specs.Signatures.{key_public}
@@ -12,7 +13,6 @@ use Rattle.scenario_file.specs.Reading.{Contents}
 use Rattle.scenario_file.specs.Valid.{IsScenario}
 use Rattle.history_rules.specs.Events.{Entry}
 use Rattle.history_rules.specs.Legal.{IsLegal}
-use Rattle.history_rules.specs.Audit.{IsIn}
 use Rattle.history_rules.specs.Counts.{forged}
 use Rattle.world_rules.specs.Scenarios.{masters_in, key_in, setup_of}
 use Rattle.blame_check.specs.declared.pairs.Named.{Named}

@@ -6,7 +6,7 @@ use Rattle.std.specs.declared.vec.Vec.{Vec}
 use Rattle.std.specs.declared.alloc.Global.{Global}
 use Rattle.message_types.specs.declared.updates.Update.{Update}
 use Rattle.quorum_sets.specs.Masters.{voters}
-use Rattle.protocol_rules.specs.Words.{greatest_of}
+use Rattle.protocol_rules.specs.Words.{greatest_reached}
 use Rattle.scenario_file.specs.Reading.{Contents}
 use Rattle.history_rules.specs.Events.{Entry}
 use Rattle.history_rules.specs.Setup.{Setup, is_correct_master}
@@ -30,10 +30,6 @@ correct_masters w = voters (is_correct_master w) w.group.n
 -- how many updates each of them executed
 abbrev pub counts_in : Setup → List Entry → List ℕ
 counts_in w history = map (λ i. length (executions w history i)) (correct_masters w)
-
--- the q-th greatest of some numbers: the greatest of them that q of them reach, 0 where there is none
-unfoldable pub greatest_reached : ℕ → List ℕ → ℕ
-greatest_reached q numbers = greatest_of (filter (λ x. nat_le q (length (filter (λ y. nat_le x y) numbers))) numbers)
 
 -- those of the correct masters that executed so many updates
 unfoldable pub reaching : Setup → List Entry → ℕ → List ℕ

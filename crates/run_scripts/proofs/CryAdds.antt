@@ -1,14 +1,12 @@
 -- A cry more in a play.
-use Rattle.std.proofs.Common.{◌≡◌, ℕ, zero, suc, ◌+◌, ◌<◌, ◌≤◌, Bool, true, false, cond, not, List, [], ◌∷◌, ◌++◌}
-use Rattle.std.proofs.Common.{Option, Some, None, Ok, Err, filter, length, map, take, drop, get_or, set, nat_eq, refl}
+use Rattle.std.proofs.Common.{◌≡◌, ℕ, zero, suc, ◌+◌, ◌<◌, Bool, true, false, cond, not, List, [], ◌∷◌, ◌++◌}
+use Rattle.std.proofs.Common.{Option, Some, None, Err, filter, length, map, take, drop, get_or, set, refl}
 use Rattle.std.proofs.Common.{sym, ◌∙◌, ap, subst, arith, inl, inr, ◌⊎◌}
 use Rattle.std.specs.Prelude.{slice_get}
 use Rattle.std.specs.List.{flat_map}
-use Rattle.std.proofs.lemmas.Bool.{cases_eq, cases_Bool, eqb-true, eq-eqb, ne_eqb}
+use Rattle.std.proofs.lemmas.Bool.{cases_eq}
 use Rattle.std.proofs.lemmas.List.{length_push, length-append, length-set, get_or-set_same, get_or-set_other}
-use Rattle.std.proofs.lemmas.List.{get_or_read, drop_all}
 use Rattle.std.proofs.lemmas.List.Elements.{filter-append}
-use Rattle.scenario_file.specs.Reading.{Contents}
 use Rattle.history_rules.specs.Events.{Event, Cry, Entry}
 use Rattle.history_rules.specs.Setup.{own}
 use Rattle.history_rules.specs.Legal.{says_in}
@@ -29,13 +27,12 @@ use Rattle.run_scripts.specs.declared.answer.StepRefusal.TheVariants as stop
 use Rattle.run_scripts.specs.declared.mail.Post.{Post}
 use Rattle.run_scripts.specs.declared.playing.Playing.{Playing}
 use Rattle.run_scripts.specs.Mail.{post_to, sent}
-use Rattle.run_scripts.specs.Making.{Given, Making, Going, is_cry, is_raw, words_said, words_signed, bench_at}
+use Rattle.play_words.specs.Accepted.{is_raw}
+use Rattle.run_scripts.specs.Making.{Given, Making, is_cry, words_said, words_signed, bench_at}
 use Rattle.run_scripts.specs.Making.{is_full, next_word, after_cry, cries, cries_word, cries_bytes}
-use Rattle.run_scripts.specs.Playing.{IsSound, IsMaking, IsMail, IsKeptAt, IsSaidTo}
-use Rattle.run_scripts.specs.Crying.{IsNextWord}
-use Rattle.run_scripts.proofs.Lists.{filter_one, filter_none}
+use Rattle.run_scripts.specs.Playing.{IsSound, IsMaking, IsMail, IsSaidTo}
+use Rattle.run_scripts.proofs.Lists.{filter_one}
 use Rattle.run_scripts.proofs.EventAdds.{kept_after}
-use Rattle.plain_lists.proofs.Lists.{left_more}
 use Rattle.history_rules.proofs.Entries.{own_same, own_else}
 use Rattle.world_history.proofs.WordsSigned.{never_signs, signed_so}
 
@@ -250,33 +247,3 @@ cry_is g m master s o is room says =
     ∙ ap (λ b. cond b (Err stop.TooMany) (cries_bytes g master s.to (spoken (bench_at g m.history master) s.word) m))
     room
     ∙ ap (λ (x : Option (List ℕ)). cries_bytes g master s.to x m) says
-
-words_first : (words : List Saying) (master place : ℕ) (x : Saying) → place < length words →
-    x ≡ get_or words place x → nat_eq x.speaker master ≡ true
-    → own_words master (drop place words) ≡ x ∷ own_words master (drop (place + 1) words)
-words_first words master place x below is mine =
-    ap (own_words master) (left_more words place x below is)
-    ∙ ap (λ b. cond b (x ∷ own_words master (drop (place + 1) words)) (own_words master (drop (place + 1) words))) mine
-
-pub next_found : (words : List Saying) (from master place : ℕ) (x : Saying) → place < length words →
-    x ≡ get_or words place x → nat_eq x.speaker master ≡ true
-    → own_words master (drop from words) ≡ own_words master (drop place words) → IsNextWord words from master place
-next_found words from master place x below is mine passed = record {
-  below = below;
-  first = λ s at.
-      let same : s ≡ x = get_or_read words place s below at x ∙ sym is in
-      passed ∙ subst (λ (y : Saying). own_words master (drop place words) ≡ y ∷ own_words master
-      (drop (place + 1) words)) (sym same) (words_first words master place x below is mine);
-}
-
-pub next_passed : (words : List Saying) (from master place : ℕ) (x : Saying) → place < length words →
-    x ≡ get_or words place x → nat_eq x.speaker master ≡ false
-    → own_words master (drop from words) ≡ own_words master (drop place words) →
-    own_words master (drop from words) ≡ own_words master (drop (place + 1) words)
-next_passed words from master place x below is other passed =
-    passed ∙ ap (own_words master) (left_more words place x below is)
-    ∙ ap (λ b. cond b (x ∷ own_words master (drop (place + 1) words)) (own_words master (drop (place + 1) words))) other
-
-pub no_more_words : (words : List Saying) (from master place : ℕ) → length words ≤ place →
-    own_words master (drop from words) ≡ own_words master (drop place words) → own_words master (drop from words) ≡ []
-no_more_words words from master place past passed = passed ∙ ap (own_words master) (drop_all place words past)

@@ -1,6 +1,6 @@
 -- An event more in a play: what it makes of the history in the making, and of the play at work.
-use Rattle.std.proofs.Common.{◌≡◌, ℕ, zero, suc, ◌+◌, ◌<◌, ◌≤◌, ◌≢◌, Bool, true, false, cond, ◌&&◌, not, List, []}
-use Rattle.std.proofs.Common.{◌∷◌, ◌++◌, Option, Some, None, filter, length, map, take, drop, get_or, set, nat_eq}
+use Rattle.std.proofs.Common.{◌≡◌, ℕ, ◌+◌, ◌<◌, Bool, true, false, cond, ◌&&◌, not, List, []}
+use Rattle.std.proofs.Common.{◌∷◌, ◌++◌, filter, length, map, take, drop, get_or, set}
 use Rattle.std.proofs.Common.{nat_le, nat_lt, refl, sym, ◌∙◌, ap, subst, arith, inl, inr, ◌⊎◌}
 use Rattle.std.specs.List.{list_all, list_any, flat_map}
 use Rattle.std.proofs.lemmas.Bool.{and_parts, and_from, cases_eq, lt-ltb, ltb-true}
@@ -15,24 +15,25 @@ use Rattle.history_rules.specs.Keeping.{is_halted, keeper_calls}
 use Rattle.quorum_sets.specs.Masters.{has_master}
 use Rattle.world_rules.specs.Frames.{cried}
 use Rattle.history_rules.specs.Legal.{TakesWell, IsLegal, says_in}
-use Rattle.own_histories.specs.Own.{IsOwnEntry}
-use Rattle.own_histories.proofs.EntryByEntry.{one_more_is_legal, own_entry_is_legal}
-use Rattle.world_rules.specs.Scenarios.{setup_of, group_in, masters_in, fits_in, actors_in}
+use Rattle.history_laws.specs.Own.{IsOwnEntry}
+use Rattle.history_laws.proofs.EntryByEntry.{one_more_is_legal, own_entry_is_legal}
+use Rattle.world_rules.specs.Scenarios.{setup_of, masters_in, fits_in, actors_in}
 use Rattle.world_rules.proofs.Fields.{group_is, setup_goes_by}
 use Rattle.world_history.specs.State.{BenchState, entry_at, with_entry}
-use Rattle.world_history.specs.KeptState.{KeptState, frames_kept}
+use Rattle.world_history.specs.KeptState.{KeptState}
 use Rattle.script_lines.specs.declared.saying.Saying.{Saying}
 use Rattle.script_lines.specs.Given.{own_words}
 use Rattle.run_scripts.specs.declared.mail.Post.{Post}
 use Rattle.run_scripts.specs.declared.playing.Playing.{Playing}
 use Rattle.script_laws.specs.Accepted.{is_there, may_do, is_intruded}
 use Rattle.run_scripts.specs.Mail.{sent, post_to}
-use Rattle.run_scripts.specs.Making.{Given, Making, is_cry, is_raw, words_said, words_signed, bench_at, has_halted}
+use Rattle.play_words.specs.Accepted.{is_raw}
+use Rattle.run_scripts.specs.Making.{Given, Making, is_cry, words_said, words_signed, bench_at, has_halted}
 use Rattle.run_scripts.specs.Making.{most_entries, stamp_said, posts_at, after, after_cry}
 use Rattle.run_scripts.specs.Playing.{IsSound, IsMaking, IsMail, IsKeptAt, IsSaidTo, new_posts, is_posted_well}
 use Rattle.run_scripts.specs.Playing.{is_due}
 use Rattle.world_history.proofs.Lists.{all_join}
-use Rattle.run_scripts.proofs.Lists.{all_flat, filter_none, filter_one}
+use Rattle.run_scripts.proofs.Lists.{all_flat, filter_none}
 use Rattle.run_scripts.proofs.SoundStays.{stamps_below, all_posted_later, all_due_later, posts_are_well, posts_are_due}
 use Rattle.run_scripts.proofs.SoundStays.{cried_are_well, cried_are_due, stamp_not_above}
 use Rattle.history_rules.proofs.Entries.{own_else, own_same}

@@ -1,11 +1,10 @@
 -- Frames that are posted one after another.
-use Rattle.std.proofs.Common.{◌≡◌, ℕ, suc, ◌+◌, ◌*◌, ◌<◌, ◌≤◌, Bool, true, false, cond, ◌&&◌, List, [], ◌∷◌, ◌++◌}
-use Rattle.std.proofs.Common.{Option, length, take, get_or, nat_lt, refl, sym, ◌∙◌, ap, subst, arith, append_assoc}
-use Rattle.std.specs.List.{list_all, flat_map}
+use Rattle.std.proofs.Common.{◌≡◌, ℕ, ◌+◌, ◌<◌, ◌≤◌, Bool, true, false, ◌&&◌, List, [], ◌∷◌, ◌++◌}
+use Rattle.std.proofs.Common.{length, take, get_or, nat_lt, refl, sym, ◌∙◌, ap, subst, append_assoc}
+use Rattle.std.specs.List.{flat_map}
 use Rattle.std.proofs.lemmas.Bool.{and_parts, ltb-true}
 use Rattle.std.proofs.lemmas.List.{append-nil, take_more, take_all}
 use Rattle.std.proofs.lemmas.List.Concat.{flat_map-append}
-use Rattle.run_scripts.specs.declared.mail.Held.{Held}
 use Rattle.run_scripts.specs.declared.mail.Post.{Post}
 use Rattle.run_scripts.specs.declared.mail.Delivery.{Delivery}
 use Rattle.run_scripts.specs.declared.mail.Mail.{Mail}
@@ -19,10 +18,6 @@ slot_there slots p has =
     let outer = and_parts (nat_lt p.from 26 && nat_lt p.kind 22) (nat_lt (slot_at p.from p.kind) slots) has in
     let inner = and_parts (nat_lt p.from 26) (nat_lt p.kind 22) outer.0 in
     (ltb-true p.from 26 inner.0, ltb-true p.kind 22 inner.1, ltb-true (slot_at p.from p.kind) slots outer.1)
-
-pub no_new_posts : (posts : List Post) (is_new : Bool) → new_posts is_new [] ≡ []
-no_new_posts posts true = refl
-no_new_posts posts false = refl
 
 new_more : (is_new : Bool) (xs : List Post) (i : ℕ) (x : Post) → i < length xs → x ≡ get_or xs i x
     → new_posts is_new (take (i + 1) xs) ≡ new_posts is_new (take i xs) ++ new_posts is_new (x ∷ [])

@@ -11,7 +11,8 @@ use Rattle.script_lines.specs.declared.saying.Saying.{Saying}
 use Rattle.script_lines.specs.Given.{own_words}
 use Rattle.world_rules.specs.Scenarios.{actors_in}
 use Rattle.run_scripts.specs.declared.playing.Playing.{Playing}
-use Rattle.run_scripts.specs.Making.{Given, is_raw, bench_at, beginning}
+use Rattle.play_words.specs.Accepted.{is_raw}
+use Rattle.run_scripts.specs.Making.{Given, bench_at, beginning}
 use Rattle.run_scripts.specs.Playing.{IsMaking, IsMail, IsKeptAt, IsSaidTo}
 use Rattle.run_scripts.proofs.PlayKeeps.{beginning_sound}
 use Rattle.quorum_sets.proofs.Numbered.{length-numbers_below}

@@ -8,7 +8,8 @@ use Rattle.std.specs.List.{list_all, flat_map}
 use Rattle.std.proofs.lemmas.Bool.{and_parts, and_from, leb-false, ltb-true}
 use Rattle.std.proofs.lemmas.List.{length-append}
 use Rattle.std.proofs.lemmas.List.Folds.{list_all-map}
-use Rattle.agreement.proofs.Lists.{none_in, in_cases}
+use Rattle.plain_lists.proofs.Members.{none_in, in_cases}
+use Rattle.plain_lists.specs.Lists.{IsIn, here, there}
 use Rattle.quorum_sets.specs.Masters.{has_master}
 use Rattle.quorum_sets.proofs.Numbered.{numbers_pass}
 use Rattle.plain_lists.proofs.Lists.{all_at_place, all_filter}
@@ -18,8 +19,7 @@ use Rattle.scenario_file.specs.Valid.{IsScenario}
 use Rattle.history_rules.specs.Events.{Event, Took, Tick, Command, Field, Poll, Cry, Restart, Entry, is_restart}
 use Rattle.history_rules.specs.Setup.{own, stands}
 use Rattle.history_rules.specs.Legal.{TakesWell}
-use Rattle.own_histories.proofs.EntryByEntry.{none_is_legal}
-use Rattle.history_rules.specs.Audit.{IsIn, here, there}
+use Rattle.history_laws.proofs.EntryByEntry.{none_is_legal}
 use Rattle.world_rules.specs.Frames.{cried}
 use Rattle.world_rules.specs.Scenarios.{setup_of, masters_in, fits_in, actors_in}
 use Rattle.world_rules.proofs.Clients.{fits_tick}

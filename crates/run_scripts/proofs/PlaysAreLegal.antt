@@ -3,8 +3,8 @@ use Rattle.std.proofs.Common.{◌≡◌, ◌≤◌, true, List, Ok, length, subs
 use Rattle.history_rules.specs.Events.{Entry}
 use Rattle.history_rules.specs.Setup.{own}
 use Rattle.history_rules.specs.Legal.{IsLegal}
-use Rattle.own_histories.proofs.OwnEntries.{own_of_legal}
-use Rattle.own_histories.proofs.BenchLists.{own_history_is_bench_list}
+use Rattle.history_laws.proofs.OwnEntries.{own_of_legal}
+use Rattle.history_laws.proofs.BenchLists.{own_history_is_bench_list}
 use Rattle.world_rules.specs.Scenarios.{setup_of}
 use Rattle.run_scripts.specs.declared.mail.Held.{Held}
 use Rattle.run_scripts.specs.declared.mail.Delivery.{Delivery}

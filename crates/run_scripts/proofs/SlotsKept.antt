@@ -1,32 +1,22 @@
 -- Slots of posted frames, frame by frame.
-use Rattle.std.proofs.Common.{◌≡◌, ℕ, suc, ◌+◌, ◌-◌, ◌*◌, ◌<◌, ◌≤◌, ◌≢◌, Bool, true, false, cond, ◌&&◌, List, [], ◌∷◌}
-use Rattle.std.proofs.Common.{◌++◌, Option, Some, None, length, map, filter, take, drop, get_or, set, nat_eq, nat_lt}
-use Rattle.std.proofs.Common.{refl, sym, ◌∙◌, ap, subst, arith, replicate, inl, inr, ◌⊎◌}
-use Rattle.std.specs.List.{list_all, flat_map}
+use Rattle.std.proofs.Common.{◌≡◌, ℕ, ◌+◌, ◌-◌, ◌*◌, ◌<◌, ◌≢◌, false, cond, ◌&&◌, List, [], ◌∷◌}
+use Rattle.std.proofs.Common.{◌++◌, Option, None, length, map, filter, get_or, set, nat_eq}
+use Rattle.std.proofs.Common.{refl, sym, ◌∙◌, ap, subst, arith, inl, inr, ◌⊎◌}
 use Rattle.std.specs.Prelude.{slice_get}
 use Rattle.std.specs.declared.vec.Vec.{Vec}
 use Rattle.std.specs.declared.alloc.Global.{Global}
 use Rattle.std.proofs.lemmas.List.Elements.{filter-append}
 use Rattle.play_words.specs.declared.words.Ref.{Ref}
-use Rattle.std.proofs.lemmas.Bool.{and_parts, and_left, and_right, cases_eq, eq-eqb, ne_eqb, ltb-true}
+use Rattle.std.proofs.lemmas.Bool.{and_left, and_right, cases_eq, eq-eqb, ne_eqb}
 use Rattle.std.proofs.lemmas.List.{append-nil, map-append, length-set, get_or-set_same, get_or-set_other}
-use Rattle.std.proofs.lemmas.List.{get_or-replicate, length-replicate, map-set, get_or-map}
+use Rattle.std.proofs.lemmas.List.{map-set, get_or-map}
 use Rattle.run_scripts.specs.declared.mail.Held.{Held}
 use Rattle.run_scripts.specs.declared.mail.Post.{Post}
 use Rattle.run_scripts.specs.declared.mail.Delivery.{Delivery}
 use Rattle.run_scripts.specs.declared.mail.Mail.{Mail}
 use Rattle.run_scripts.specs.Mail.{posted_by, post_named}
-use Rattle.run_scripts.specs.Playing.{AreSlots, IsMail, slots_of, slot_at, has_slot, new_posts}
+use Rattle.run_scripts.specs.Playing.{AreSlots, IsMail, slots_of, slot_at}
 use Rattle.run_scripts.proofs.Lists.{filter_none, filter_one, one_slot}
-
-pub no_slots : (actors : ℕ) (slots : List (List (Option Held))) → slots ≡ replicate (22 * actors) [] →
-    AreSlots actors [] slots
-no_slots actors slots are = record {
-  all = ap length are ∙ length-replicate (22 * actors) [];
-  each = λ actor kind below under.
-      ap (λ (s : List (List (Option Held))). get_or s (slot_at actor kind) []) are ∙ get_or-replicate (22 * actors)
-      (slot_at actor kind) [] [] (omega arith);
-}
 
 posted_join : (actor kind : ℕ) (posts : List Post) (p : Post)
     → posted_by actor kind (posts ++ p ∷ []) ≡ posted_by actor kind posts ++ map (λ (q : Post). q.held)

@@ -1,42 +1,29 @@
 -- What holds of each history in the making stays so.
-use Rattle.std.proofs.Common.{◌≡◌, ℕ, zero, suc, ◌+◌, ◌^◌, ◌<◌, ◌≤◌, Bool, true, false, cond, ◌&&◌, List, [], ◌∷◌}
-use Rattle.std.proofs.Common.{◌++◌, Option, Some, None, filter, length, map, nat_eq, nat_le, nat_lt, refl, sym, ◌∙◌}
-use Rattle.std.proofs.Common.{ap, subst, arith}
+use Rattle.std.proofs.Common.{◌≡◌, ℕ, suc, ◌+◌, ◌^◌, ◌<◌, ◌≤◌, Bool, true, false, cond, ◌&&◌, List, [], ◌∷◌}
+use Rattle.std.proofs.Common.{Option, Some, None, filter, length, map, nat_eq, nat_lt, refl, ◌∙◌}
+use Rattle.std.proofs.Common.{ap, arith}
 use Rattle.std.specs.Prelude.{slice_get}
-use Rattle.std.specs.List.{list_all, flat_map}
-use Rattle.std.proofs.lemmas.Bool.{and_parts, and_from, lt-ltb, ltb-true, leb-true}
-use Rattle.std.proofs.lemmas.List.{length_push}
-use Rattle.std.proofs.lemmas.List.Folds.{list_all-map}
+use Rattle.std.specs.List.{list_all}
+use Rattle.std.proofs.lemmas.Bool.{and_parts, and_from, lt-ltb, ltb-true}
+use Rattle.plain_lists.proofs.Members.{in_filter_from}
 use Rattle.message_types.specs.declared.signed.Signed.{Signed}
 use Rattle.message_types.specs.declared.body.Body.{Body}
 use Rattle.scenario_file.specs.Reading.{Contents}
-use Rattle.scenario_file.specs.Valid.{IsScenario}
-use Rattle.history_rules.specs.Events.{Event, Took, Entry, is_restart}
+use Rattle.history_rules.specs.Events.{Event, Entry, is_restart}
 use Rattle.history_rules.specs.Setup.{Setup, stands, own}
-use Rattle.history_rules.specs.Legal.{TakesWell, Stands, IsLegalEntry, IsLegal}
-use Rattle.own_histories.specs.Own.{IsOwnEntry}
-use Rattle.own_histories.proofs.EntryByEntry.{one_more_is_legal, own_entry_is_legal, none_is_legal}
-use Rattle.history_rules.specs.Audit.{IsIn}
-use Rattle.audit_counts.proofs.Forged.{in_of_stands}
-use Rattle.agreement.proofs.Lists.{in_filter_from}
+use Rattle.history_rules.specs.Legal.{IsLegal}
 use Rattle.std.proofs.lemmas.List.{length-append}
 use Rattle.world_rules.specs.Frames.{addressees}
-use Rattle.world_rules.specs.Scenarios.{setup_of, group_in, fits_in, actors_in}
-use Rattle.world_rules.specs.Laws.{GoesBy}
-use Rattle.world_rules.proofs.Fields.{group_is, setup_goes_by}
-use Rattle.world_history.specs.State.{BenchState, entry_at}
+use Rattle.world_rules.specs.Scenarios.{setup_of}
 use Rattle.world_history.specs.Lists.{last_of}
-use Rattle.world_history.specs.KeptState.{frames_kept}
 use Rattle.run_scripts.specs.declared.mail.Held.{Held}
 use Rattle.run_scripts.specs.declared.mail.Post.{Post}
 use Rattle.run_scripts.specs.declared.mail.Delivery.{Delivery}
-use Rattle.script_laws.specs.Accepted.{is_there, may_do}
-use Rattle.run_scripts.specs.Mail.{held_at, post_to, posts_from, sent, sent_held, taking}
-use Rattle.run_scripts.specs.Making.{Given, Making, bench_at, has_halted, most_entries, last_stamp, stamp_said}
-use Rattle.run_scripts.specs.Making.{posts_at, after}
-use Rattle.run_scripts.specs.Playing.{IsSound, is_held_well, is_posted_well, is_due}
-use Rattle.world_history.proofs.Lists.{all_join}
-use Rattle.run_scripts.proofs.Lists.{all_flat}
+use Rattle.script_laws.specs.Accepted.{is_there}
+use Rattle.run_scripts.specs.Mail.{held_at, post_to, posts_from, sent, sent_held}
+use Rattle.run_scripts.specs.Making.{last_stamp, stamp_said}
+use Rattle.run_scripts.specs.Making.{after}
+use Rattle.run_scripts.specs.Playing.{is_held_well, is_posted_well, is_due}
 use Rattle.world_history.proofs.Addressed.{addressees_there}
 use Rattle.history_rules.proofs.Entries.{all_from}
 use Rattle.plain_lists.proofs.Lists.{all_weaker, all_at_place}

@@ -6,6 +6,8 @@ use Rattle.std.proofs.Common.{inr}
 use Rattle.std.specs.List.{flat_map}
 use Rattle.std.specs.Option.{option_map}
 use Rattle.std.proofs.lemmas.Bool.{and_parts, and_from, false≢true}
+use Rattle.plain_lists.specs.Lists.{IsIn, Each}
+use Rattle.plain_lists.proofs.Members.{in_cons_cases, none_some}
 use Rattle.wire_parts.specs.Fields.{u32_bytes}
 use Rattle.message_types.specs.declared.signed.Signed.{Signed}
 use Rattle.message_types.specs.declared.body.Body.{Body}
@@ -23,22 +25,19 @@ use Rattle.scenario_file.specs.Reading.{Contents}
 use Rattle.scenario_file.specs.Valid.{IsScenario}
 use Rattle.history_rules.specs.Events.{Cry, Entry, frame_taken}
 use Rattle.history_rules.specs.Setup.{Setup, is_correct, leaves_used}
-use Rattle.history_rules.specs.Audit.{IsIn}
-use Rattle.agreement.proofs.Lists.{Each, in_cons_cases, none_some}
-use Rattle.agreement.proofs.Inside.{Closed, closed_parts, closed_flat_map, option_map_from}
+use Rattle.agreement.proofs.FramesInside.{Closed, closed_parts, closed_flat_map, option_map_from}
 use Rattle.words_in_place.proofs.Limits.{all_from}
 use Rattle.world_rules.specs.Frames.{cried, overheard}
 use Rattle.world_rules.specs.Scenarios.{setup_of, masters_in}
 use Rattle.world_rules.proofs.Fields.{setup_goes_by, group_is, sizes_of_group}
 use Rattle.play_words.specs.declared.words.Word.{Word}
 use Rattle.play_words.specs.declared.words.Word.TheVariants as word
-use Rattle.play_words.specs.Accepted.{is_accepted}
+use Rattle.play_words.specs.Accepted.{is_accepted, is_raw}
 use Rattle.intruder_words.specs.Speaking.{body_of}
 use Rattle.intruder_words.proofs.Whole.{fits-some}
 use Rattle.intruder_words.proofs.Learning.{read-cry}
 use Rattle.world_history.specs.State.{BenchState, setup_in, leaves_left, word_body, word_frame, spoken}
 use Rattle.script_laws.specs.Accepted.{is_intruded}
-use Rattle.run_scripts.specs.Making.{is_raw}
 use Rattle.world_history.proofs.Addressed.{few_masters}
 use Rattle.run_scripts.proofs.UnforgedKnown.{fits_part}
 use Rattle.run_scripts.proofs.UnforgedWords.{SpelledAlike, word_kept}

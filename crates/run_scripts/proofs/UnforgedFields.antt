@@ -6,6 +6,7 @@ use Rattle.std.specs.List.{list_all, flat_map, AllByRecursion}
 use Rattle.std.specs.Int.{byte_at, bytes_high_first}
 use Rattle.std.proofs.Math.Nat.{mod-lt, one-le-pow}
 use Rattle.std.proofs.lemmas.List.{append-nil, length-map}
+use Rattle.plain_lists.specs.Lists.{here, there, Each}
 use Rattle.byteorder.specs.Endian.{big_from, big_number}
 use Rattle.byteorder.specs.Numbers.{big_from-bytes}
 use Rattle.wire_parts.specs.Fields.{u16_bytes, u32_bytes, u64_bytes}
@@ -14,8 +15,6 @@ use Rattle.wire_parts.specs.FieldLaws.{u32_bytes-big_number, u64_bytes-big_numbe
 use Rattle.message_types.specs.Texts.{list_text, rows_text}
 use Rattle.message_types.specs.Spelling.{row_fits, rows_fit}
 use Rattle.message_forms.specs.Widths.{FitsRow, FitsRows}
-use Rattle.history_rules.specs.Audit.{here, there}
-use Rattle.agreement.proofs.Lists.{Each}
 
 byte_low : (k x : ℕ) → byte_at k x < 256
 byte_low zero x = mod-lt x {m = 256} (omega arith)

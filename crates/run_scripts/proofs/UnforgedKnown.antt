@@ -3,6 +3,9 @@ use Rattle.std.proofs.Common.{◌≡◌, ℕ, ◌≤◌, Bool, true, false, cond
 use Rattle.std.proofs.Common.{nat_eq, refl, sym, subst, inl, inr}
 use Rattle.std.specs.List.{find, filter_map}
 use Rattle.std.specs.Option.{option_and_then}
+use Rattle.plain_lists.specs.Lists.{IsIn, Each}
+use Rattle.plain_lists.proofs.Members.{each_none, in_cons_cases, in_filter_map_from, in_take, find_some, some_same, none_some}
+use Rattle.protocol_rules.proofs.FirstMet.{first_in, first_met_from}
 use Rattle.sha2.proofs.Facts256.{length-sha256}
 use Rattle.quorum_sets.specs.Masters.{numbers_below}
 use Rattle.message_types.specs.declared.signed.Signed.{Signed}
@@ -28,12 +31,9 @@ use Rattle.protocol_rules.specs.Matrix.{rows_of_frames}
 use Rattle.protocol_rules.specs.Order.{prepare_by, commit_by, mark_by, first_votes, quorum_of, is_voted, prepared}
 use Rattle.protocol_rules.specs.Order.{certificate_of, marks_at}
 use Rattle.protocol_rules.specs.Reconcile.{request_of, ack_of, quorum_of_acks}
-use Rattle.history_rules.specs.Audit.{IsIn}
-use Rattle.agreement.proofs.Lists.{Each, each_none, in_cons_cases, in_filter_map_from, in_take, first_in}
-use Rattle.agreement.proofs.Lists.{first_met_from, find_some, some_same, none_some}
-use Rattle.agreement.proofs.Spoken.{if_some}
-use Rattle.agreement.proofs.Inside.{fact_from, vote_from, prepare_by_from, commit_by_from, mark_by_from}
-use Rattle.agreement.proofs.Inside.{option_map_from}
+use Rattle.agreement.proofs.SpokenByKind.{if_some}
+use Rattle.agreement.proofs.FramesInside.{fact_from, vote_from, prepare_by_from, commit_by_from, mark_by_from}
+use Rattle.agreement.proofs.FramesInside.{option_map_from}
 use Rattle.play_words.specs.declared.words.Item.{Item}
 use Rattle.play_words.specs.declared.words.Ref.{Ref}
 use Rattle.intruder_words.specs.Naming.{named}

@@ -4,6 +4,8 @@ use Rattle.std.proofs.Common.{◌≡◌, ℕ, ◌+◌, ◌<◌, ◌≤◌, ◌^�
 use Rattle.std.proofs.Common.{arith, inl, inr}
 use Rattle.std.specs.List.{list_all, flat_map}
 use Rattle.std.proofs.lemmas.Bool.{and_parts, leb-true, ltb-true}
+use Rattle.plain_lists.specs.Lists.{IsIn, here, Each}
+use Rattle.plain_lists.proofs.Members.{each_none, in_left, in_right, in_cases, none_in, in_map, in_flat_map, all_at}
 use Rattle.message_types.specs.declared.signed.Signed.{Signed}
 use Rattle.message_types.specs.declared.updates.Op.{Op}
 use Rattle.message_types.specs.declared.updates.Op.TheVariants as op
@@ -24,12 +26,11 @@ use Rattle.protocol_rules.specs.Master.{taken_frames}
 use Rattle.history_rules.specs.Events.{Event, Took, Entry, frame_taken}
 use Rattle.history_rules.specs.Setup.{Setup, is_correct}
 use Rattle.history_rules.specs.Legal.{Stands, TakesWell, IsLegal}
-use Rattle.history_rules.specs.Audit.{IsIn, here, HasSaid, NothingForged, parts_taken}
+use Rattle.history_rules.specs.Audit.{HasSaid, NothingForged, parts_taken}
 use Rattle.agreement.specs.Laws.{HasSizes}
-use Rattle.agreement.proofs.Lists.{Each, each_none, in_left, in_right, in_cases, none_in, in_map, in_flat_map, all_at}
 use Rattle.agreement.proofs.Places.{stands_on, said_on, said_whole, legal_before, unforged_before}
-use Rattle.agreement.proofs.Inside.{Closed, parts_closed}
-use Rattle.agreement.proofs.Good.{GoodOp, GoodFrame, GoodCertificate, GoodRows, good_event, number_small}
+use Rattle.agreement.proofs.FramesInside.{Closed, parts_closed}
+use Rattle.agreement.proofs.LearnedInPlace.{GoodOp, GoodFrame, GoodCertificate, GoodRows, good_event, number_small}
 use Rattle.words_in_place.proofs.Limits.{all_each, number_bounds}
 use Rattle.world_history.proofs.StandingFrames.{standing_is_whole}
 use Rattle.intruder_words.proofs.Fits.{known-spelled, parts-spelled}

@@ -4,11 +4,13 @@ use Rattle.std.proofs.Common.{◌≡◌, ℕ, ◌+◌, ◌<◌, ◌≤◌, ◌^�
 use Rattle.std.proofs.Common.{nat_lt, refl, sym, ◌∙◌, ap, subst, arith, inl, inr, ◌⊎◌}
 use Rattle.std.specs.List.{list_all, flat_map}
 use Rattle.std.proofs.lemmas.Bool.{and_parts, ltb-true, not-true}
+use Rattle.plain_lists.specs.Lists.{IsIn, Each}
+use Rattle.plain_lists.proofs.Members.{each_none, none_in, in_left, in_first, in_cases, in_cons_cases, in_flat_map, in_flat_map_from}
 use Rattle.message_types.specs.declared.signed.Signed.{Signed}
 use Rattle.message_types.specs.declared.body.Body.{Body}
 use Rattle.message_types.specs.Parts.{parts}
 use Rattle.play_words.specs.declared.words.Word.{Word}
-use Rattle.play_words.specs.Accepted.{is_accepted}
+use Rattle.play_words.specs.Accepted.{is_accepted, is_raw}
 use Rattle.quorum_sets.specs.Masters.{has_master}
 use Rattle.protocol_rules.specs.Group.{Group}
 use Rattle.protocol_rules.specs.Master.{taken_frames}
@@ -17,11 +19,9 @@ use Rattle.scenario_file.specs.Valid.{IsScenario}
 use Rattle.history_rules.specs.Events.{Event, Took, Tick, Command, Field, Poll, Cry, Skip, Restart, Entry, frame_taken}
 use Rattle.history_rules.specs.Setup.{Setup, is_correct, own}
 use Rattle.history_rules.specs.Legal.{Stands, IsLegal}
-use Rattle.history_rules.specs.Audit.{IsIn, HasSaid, parts_taken}
-use Rattle.audit_counts.proofs.Forged.{forged_counts}
-use Rattle.own_histories.proofs.EntryByEntry.{last_or_before, nothing_stands}
-use Rattle.agreement.proofs.Lists.{Each, each_none, none_in, in_left, in_first, in_cases, in_cons_cases, in_flat_map}
-use Rattle.agreement.proofs.Lists.{in_flat_map_from}
+use Rattle.history_rules.specs.Audit.{HasSaid, parts_taken}
+use Rattle.history_laws.proofs.Forged.{forged_counts}
+use Rattle.history_laws.proofs.EntryByEntry.{last_or_before, nothing_stands}
 use Rattle.world_rules.specs.Frames.{cried, overheard}
 use Rattle.world_rules.specs.Scenarios.{setup_of, masters_in}
 use Rattle.world_rules.proofs.Fields.{group_is, sizes_of_group}
@@ -33,7 +33,7 @@ use Rattle.script_laws.specs.Accepted.{is_intruded}
 use Rattle.run_scripts.specs.declared.mail.Held.{Held}
 use Rattle.run_scripts.specs.declared.mail.Post.{Post}
 use Rattle.run_scripts.specs.Mail.{post_to}
-use Rattle.run_scripts.specs.Making.{Given, Making, is_raw, bench_at}
+use Rattle.run_scripts.specs.Making.{Given, Making, bench_at}
 use Rattle.run_scripts.specs.Making.{stamp_said, posts_at, after}
 use Rattle.run_scripts.specs.Making.{takes}
 use Rattle.run_scripts.specs.Making.{after_cry, cries}

@@ -3,15 +3,14 @@ use Rattle.std.proofs.Common.{◌≡◌, ℕ, suc, ◌^◌, Bool, true, false, c
 use Rattle.std.proofs.Common.{None, map, filter, nat_eq, nat_lt, refl, sym, ◌∙◌, ap, inl, inr, ◌⊎◌, eqb-true, ◌-◌}
 use Rattle.std.specs.Prelude.{slice_get}
 use Rattle.std.specs.List.{flat_map}
+use Rattle.plain_lists.specs.Lists.{IsIn, here, there}
+use Rattle.plain_lists.proofs.Members.{none_in, in_cons_cases, in_map_from, in_flat_map_from, in_filter_from, none_some, some_same}
 use Rattle.message_types.specs.declared.signed.Signed.{Signed}
 use Rattle.message_types.specs.declared.body.Body.{Body}
 use Rattle.history_rules.specs.Events.{Event, Entry, is_restart}
 use Rattle.history_rules.specs.Setup.{Setup, stands, own, leaves_used}
 use Rattle.history_rules.specs.Keeping.{is_halted}
-use Rattle.history_rules.specs.Audit.{IsIn, here, there}
-use Rattle.agreement.proofs.Lists.{none_in, in_cons_cases, in_map_from, in_flat_map_from, in_filter_from, none_some}
-use Rattle.agreement.proofs.Lists.{some_same}
-use Rattle.agreement.proofs.Known.{signed_from_in}
+use Rattle.agreement.proofs.KnownAsItGrows.{signed_from_in}
 use Rattle.words_in_place.proofs.Limits.{slice_in}
 use Rattle.world_history.specs.State.{BenchState, setup_in, entry_at, frames_said}
 use Rattle.world_history.specs.Lists.{last_of, before_last, frames_at, frames_of_last}

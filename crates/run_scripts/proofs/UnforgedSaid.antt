@@ -2,6 +2,8 @@
 use Rattle.std.proofs.Common.{◌≡◌, ℕ, ◌-◌, Bool, true, false, cond, ◌&&◌, not, List, [], ◌∷◌, length, take, nat_lt}
 use Rattle.std.proofs.Common.{refl, sym, ◌∙◌, ap, subst, inl, inr}
 use Rattle.std.proofs.lemmas.Bool.{false≢true, ltb-true}
+use Rattle.plain_lists.specs.Lists.{IsIn, Each}
+use Rattle.plain_lists.proofs.Members.{each_one, each_none, each_map, in_cons_cases, in_take, none_in}
 use Rattle.message_types.specs.declared.signed.Signed.{Signed}
 use Rattle.message_types.specs.declared.updates.Update.{Update}
 use Rattle.message_types.specs.declared.vouchers.Order.{Order}
@@ -16,13 +18,11 @@ use Rattle.scenario_file.specs.Reading.{Contents}
 use Rattle.history_rules.specs.Events.{Event, Command, Poll, Entry, frame_taken}
 use Rattle.history_rules.specs.Setup.{Setup, is_correct_master, room, own}
 use Rattle.history_rules.specs.Legal.{Stands, IsLegal, heard, says, says_in, master_says}
-use Rattle.history_rules.specs.Audit.{IsIn}
-use Rattle.agreement.proofs.Lists.{Each, each_one, each_none, each_map, in_cons_cases, in_take, none_in}
-use Rattle.agreement.proofs.Known.{learned_by, known_then, known_then_from}
-use Rattle.agreement.proofs.Spoken.{Due}
-use Rattle.agreement.proofs.Inside.{due_inside}
-use Rattle.agreement.proofs.Origin.{DueThen, first_said, known_closed, learned_all, taken_known}
-use Rattle.own_histories.proofs.BenchLists.{intruded_say_nothing}
+use Rattle.agreement.proofs.KnownAsItGrows.{learned_by, known_then, known_then_from}
+use Rattle.agreement.proofs.SpokenByKind.{Due}
+use Rattle.agreement.proofs.FramesInside.{due_inside}
+use Rattle.agreement.proofs.LearnedWasSaid.{DueThen, first_said, known_closed, learned_all, taken_known}
+use Rattle.history_laws.proofs.BenchLists.{intruded_say_nothing}
 use Rattle.world_rules.specs.Clients.{front_of, desk_of, proxy_says, screen_says}
 use Rattle.world_rules.specs.Scenarios.{setup_of, masters_in, proxies_in, client_in}
 use Rattle.world_rules.proofs.Fields.{setup_goes_by}

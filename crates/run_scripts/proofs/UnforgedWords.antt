@@ -5,6 +5,8 @@ use Rattle.std.proofs.Common.{refl, sym, ◌∙◌, ap, subst, inl, inr}
 use Rattle.std.specs.List.{list_all, filter_map}
 use Rattle.std.specs.Option.{option_map}
 use Rattle.std.proofs.lemmas.List.{length-map}
+use Rattle.plain_lists.specs.Lists.{IsIn, Each}
+use Rattle.plain_lists.proofs.Members.{each_none, each_one, each_append, each_map, each_flat_map, in_cons_cases, in_map_from, some_same, none_some}
 use Rattle.wire_parts.specs.Fields.{u8_bytes, u16_bytes, u32_bytes, u64_bytes}
 use Rattle.message_types.specs.declared.signed.Signed.{Signed}
 use Rattle.message_types.specs.declared.updates.Update.{Update}
@@ -34,10 +36,7 @@ use Rattle.protocol_rules.specs.Preorder.{certified}
 use Rattle.protocol_rules.specs.Order.{ordered, marks_at}
 use Rattle.protocol_rules.specs.Reconcile.{request_of, quorum_of_acks}
 use Rattle.global_order.specs.Giving.{last_view, whole_order, given_order}
-use Rattle.history_rules.specs.Audit.{IsIn}
-use Rattle.agreement.proofs.Lists.{Each, each_none, each_one, each_append, each_map, each_flat_map, in_cons_cases}
-use Rattle.agreement.proofs.Lists.{in_map_from, some_same, none_some}
-use Rattle.agreement.proofs.Inside.{Closed, option_map_from}
+use Rattle.agreement.proofs.FramesInside.{Closed, option_map_from}
 use Rattle.play_words.specs.declared.words.Item.{Item}
 use Rattle.play_words.specs.declared.words.Word.{Word}
 use Rattle.play_words.specs.declared.words.Word.TheVariants as word

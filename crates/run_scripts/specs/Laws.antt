@@ -1,5 +1,5 @@
 -- What holds of each history that a script and words define, as statements.
-use Rattle.std.specs.Prelude.{◌≡◌, ℕ, ◌≤◌, true, not, List, Result, Ok, length}
+use Rattle.std.specs.Prelude.{◌≡◌, ℕ, ◌≤◌, true, not, List, Ok, length}
 use Rattle.std.specs.List.{list_all}
 use Rattle.scenario_file.specs.Valid.{IsScenario}
 use Rattle.history_rules.specs.Events.{Entry}
@@ -7,11 +7,12 @@ use Rattle.history_rules.specs.Setup.{own}
 use Rattle.history_rules.specs.Legal.{IsLegal}
 use Rattle.history_rules.specs.Counts.{forged}
 use Rattle.world_rules.specs.Scenarios.{setup_of}
-use Rattle.own_histories.specs.Lists.{IsBenchList}
+use Rattle.history_laws.specs.BenchLists.{IsBenchList}
 use Rattle.script_lines.specs.declared.saying.Saying.{Saying}
 use Rattle.script_lines.specs.declared.script.Line.{Line}
 use Rattle.script_laws.specs.Accepted.{are_lines_of, are_sayings_of}
-use Rattle.run_scripts.specs.Making.{Given, is_raw, played, most_entries}
+use Rattle.play_words.specs.Accepted.{is_raw}
+use Rattle.run_scripts.specs.Making.{Given, played, most_entries}
 
 -- It is legal, and has at most 50,000 entries; so each actor's own list is a bench's.
 pub record IsPlayed (g : Given) (history : List Entry) : Type 0 where

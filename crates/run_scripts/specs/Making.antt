@@ -2,14 +2,11 @@
 use Rattle.std.specs.Prelude.{ℕ, zero, suc, Bool, true, false, ◌||◌, not, List, [], ◌∷◌, ◌++◌, Option, Some, None}
 use Rattle.std.specs.Prelude.{Result, Ok, Err, length, map, filter, take, nat_eq, nat_le, slice_get, if◌then◌else◌}
 use Rattle.std.specs.List.{flat_map, list_any}
-use Rattle.message_types.specs.declared.signed.Signed.{Signed}
-use Rattle.message_types.specs.declared.body.Body.{Body}
 use Rattle.play_words.specs.declared.words.Ref.{Ref}
-use Rattle.play_words.specs.declared.words.Word.{Word}
-use Rattle.play_words.specs.declared.words.Word.TheVariants as word
+use Rattle.play_words.specs.Accepted.{is_raw}
 use Rattle.quorum_sets.specs.Masters.{numbers_below}
 use Rattle.scenario_file.specs.Reading.{Contents}
-use Rattle.history_rules.specs.Events.{Event, Took, Tick, Command, Field, Poll, Cry, Restart, Entry, is_restart}
+use Rattle.history_rules.specs.Events.{Event, Tick, Command, Field, Poll, Cry, Restart, Entry, is_restart}
 use Rattle.history_rules.specs.Setup.{own}
 use Rattle.world_rules.specs.Frames.{cried}
 use Rattle.world_rules.specs.Scenarios.{setup_of, masters_in, actors_in}
@@ -59,11 +56,6 @@ is_cry _ = false
 -- how many words an actor said that has these entries: each is a cry
 abbrev pub words_said : List Entry → ℕ
 words_said list = length (filter (λ e. is_cry e.event) list)
-
--- the word is bytes as they stand, which nobody signs
-abbrev pub is_raw : Word → Bool
-is_raw (word.Raw bytes) = true
-is_raw _ = false
 
 -- how many of them it signed
 abbrev pub words_signed : List Saying → ℕ → List Entry → ℕ

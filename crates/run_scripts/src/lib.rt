@@ -13,3 +13,4 @@ mod steps;
 
 pub use crate::answer::PlayAnswer;
 pub use crate::plays::play;
+pub use script_lines::{Script, Words, inputs};

@@ -1,13 +1,12 @@
 -- Lines, cut off one by one: the lines of a text are its first line and those of what follows, and what a file says is
 -- what its lines said so far and what those left say.
 use Rattle.std.proofs.Common.{if◌then◌else◌, not, ◌≡◌, ◌<◌, ◌≤◌, ◌+◌, ◌-◌, ℕ, suc, Bool, true, false, nat_lt, ◌==◌}
-use Rattle.std.proofs.Common.{List, [], ◌∷◌, ◌++◌, length, get_or, take, drop, Option, Some, None, Result, Ok, Err}
-use Rattle.std.proofs.Common.{append_assoc, add-one, refl, sym, ◌∙◌, ap, subst, arith}
-use Rattle.std.specs.List.{slice_split, position, position_or_len, before_first, after_first, count_by, All}
+use Rattle.std.proofs.Common.{List, [], ◌∷◌, ◌++◌, length, take, drop, Option, Some, None, Result, Ok, Err}
+use Rattle.std.proofs.Common.{append_assoc, refl, sym, ◌∙◌, ap, arith}
+use Rattle.std.specs.List.{slice_split, position, position_or_len, before_first, after_first}
 use Rattle.std.specs.List.{cons_option, filter_map}
 use Rattle.std.specs.Str.{IsUtf8, is_utf8}
 use Rattle.std.specs.Str.Lines.{lines, lines_of_parts, strip_carriage_return}
-use Rattle.std.proofs.lemmas.List.{append-nil}
 use Rattle.std.proofs.lemmas.Grind.{common_steps}
 use Rattle.std.proofs.lemmas.List.Sums.{fails_before_first, prefix_len-le-length}
 use Rattle.std.proofs.lemmas.Str.{IsUtf8-from_is_utf8, is_utf8-from_IsUtf8}
@@ -15,7 +14,7 @@ use Rattle.std.proofs.lemmas.List.Splits.{slice_split_none, slice_split_first, l
 use Rattle.script_grammar.specs.declared.fault.LineRefusal.{LineRefusal}
 use Rattle.script_grammar.specs.declared.fault.LineRefusal.TheVariants as fault
 use Rattle.script_grammar.specs.declared.fault.ScriptRefusal.{ScriptRefusal}
-use Rattle.script_grammar.specs.Faults.{said, bad, Answers, Refuses}
+use Rattle.script_grammar.specs.Faults.{said, bad, Refuses}
 use Rattle.script_grammar.specs.Lines.{Numbered, numbered, numbered_from, refusal_at, or_refusal, first_refusal}
 use Rattle.script_grammar.specs.Lines.{said_in, unless_refused, all_in, limited, line_in, file_in, is_silent}
 use Rattle.script_grammar.specs.Lines.{words_of, RefusesFile}
@@ -132,13 +131,6 @@ file_fault read front e number line left after all so_far cut this =
     sym so_far ∙ (ap (λ ls. behind front (all_in read (numbered_from number ls))) cut
     ∙ ap (behind front) (one_fault read (record { number = number; line = line })
     (numbered_from (suc number) after) e this))
-
--- no line is left
-pub file_end : {A : Type 0} (read : Numbered → Result (Option A) LineRefusal) (front : List A) (number : ℕ)
-    (left : List (List ℕ)) (all : Result (List A) ScriptRefusal)
-    → behind front (all_in read (numbered_from number left)) ≡ all → left ≡ [] → all ≡ Ok front
-file_end read front number left all so_far none =
-    sym so_far ∙ (ap (λ ls. behind front (all_in read (numbered_from number ls))) none ∙ ap Ok (append-nil front))
 
 -- a line that is text, and one that isn't
 pub text_line : {A : Type 0} (says : ℕ → List (List ℕ) → Result A LineRefusal) (number : ℕ) (line : List ℕ) →

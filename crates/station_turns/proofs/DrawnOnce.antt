@@ -7,7 +7,7 @@ use Rattle.std.proofs.lemmas.Bool.Decides.{nat_tests}
 use Rattle.std.proofs.lemmas.List.{length-append}
 use Rattle.history_rules.specs.Events.{Entry}
 use Rattle.history_rules.specs.Counts.{stamped}
-use Rattle.own_histories.proofs.MergedHistories.{merged_is_legal}
+use Rattle.history_laws.proofs.MergedHistories.{merged_is_legal}
 use Rattle.stamps.specs.Seats.{times, once_below}
 use Rattle.stamps.proofs.Counts.{times_none, times-append}
 use Rattle.station_turns.specs.Laws.{stamps_in, stamps_of, DrawnOnceIsStampedOnce, RunIsLegal}

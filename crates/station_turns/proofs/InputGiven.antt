@@ -1,10 +1,10 @@
 -- What an input comes to: its event, and the actor after it.
-use Rattle.std.proofs.Common.{◌≡◌, ℕ, ◌+◌, ◌-◌, ◌<◌, Bool, true, false, cond, ◌&&◌, List, [], ◌∷◌, Option, Some, None}
+use Rattle.std.proofs.Common.{◌≡◌, ℕ, ◌+◌, ◌-◌, Bool, true, false, cond, ◌&&◌, List, [], Option, Some, None}
 use Rattle.std.proofs.Common.{length, nat_lt, refl, sym, ◌∙◌, ap, subst, arith}
-use Rattle.std.specs.Prelude.{unwrap_or, IsTrue}
+use Rattle.std.specs.Prelude.{IsTrue}
 use Rattle.std.specs.Option.{option_map}
 use Rattle.std.specs.List.{list_all}
-use Rattle.std.proofs.lemmas.Bool.{and_parts, ltb-true, true≢false, false≢true}
+use Rattle.std.proofs.lemmas.Bool.{and_parts, false≢true}
 use Rattle.quorum_sets.specs.Masters.{has_master}
 use Rattle.message_types.specs.declared.signed.Signed.{Signed}
 use Rattle.message_types.specs.declared.body.Body.{Body}
@@ -211,14 +211,6 @@ given_fits_in b input.Restart ev fits is = subst (λ e. fits_in b.world b.actor 
 pub given_fits : (b : BenchState) (x : Input) (ev : Event) → fits_input b.world b.actor x ≡ true →
     event_given b x ≡ Some ev → (setup_in b).fits b.actor ev ≡ true
 given_fits b x ev fits is = (setup_goes_by b.world).fits b.actor ev ∙ given_fits_in b x ev fits is
-
--- the speaker of a word is an intruded master
-pub speaker_low : (b : BenchState) (to : List ℕ) (said : Word) →
-    fits_input b.world b.actor (input.Say to said) ≡ true → b.actor < masters_in b.world
-speaker_low b to said fits =
-    ltb-true b.actor (masters_in b.world)
-    (and_parts (nat_lt b.actor (masters_in b.world)) (has_master b.world.settings.intruded b.actor)
-    (speaks b.world b.actor to said fits).0).0
 
 pub speaker_intruded : (b : BenchState) (to : List ℕ) (said : Word) →
     fits_input b.world b.actor (input.Say to said) ≡ true → (setup_in b).intruded b.actor ≡ true

@@ -1,26 +1,24 @@
 -- Skips of a turn.
-use Rattle.std.proofs.Common.{◌≡◌, ℕ, zero, suc, ◌+◌, ◌*◌, ◌<◌, ◌≤◌, ◌^◌, Bool, true, false, ◌&&◌, List, [], ◌∷◌}
-use Rattle.std.proofs.Common.{◌++◌, Option, Some, None, length, map, nat_lt, nat_le, refl, sym, ◌∙◌, ap, subst, arith}
-use Rattle.std.proofs.Common.{append-nil, append_assoc, inl, inr, ◌⊎◌}
+use Rattle.std.proofs.Common.{◌≡◌, ℕ, suc, ◌+◌, ◌<◌, ◌^◌, true, false, ◌&&◌, List, [], ◌∷◌}
+use Rattle.std.proofs.Common.{◌++◌, Option, length, refl, sym, ◌∙◌, ap, arith}
+use Rattle.std.proofs.Common.{append-nil, append_assoc, inl, inr}
 use Rattle.std.specs.Prelude.{All}
 use Rattle.std.specs.List.{list_all}
-use Rattle.std.proofs.lemmas.Bool.{and_from, true≢false, false≢true}
+use Rattle.std.proofs.lemmas.Bool.{and_from}
 use Rattle.std.proofs.lemmas.List.{length-append, length_push}
 use Rattle.std.proofs.lemmas.List.Folds.{list_all-append}
-use Rattle.play_words.specs.declared.input.Input.{Input}
-use Rattle.history_rules.specs.Events.{Event, Skip, Entry}
+use Rattle.history_rules.specs.Events.{Skip, Entry}
 use Rattle.stamps.specs.Seats.{Drawer}
-use Rattle.world_history.specs.State.{BenchState, setup_in, entry_at, with_entry}
+use Rattle.world_history.specs.State.{BenchState, entry_at, with_entry}
 use Rattle.world_history.specs.KeptState.{KeptState, halted_in}
 use Rattle.station_turns.specs.declared.held.Held.{Held}
-use Rattle.station_turns.specs.Pace.{is_skip, is_outside, turns_made, inputs_used, words_signed, AreFewSkips}
-use Rattle.station_turns.specs.Turns.{Stationed, IsSteady, CanAdd, IsAlive, is_early, with_skips, drew, AreSkips}
-use Rattle.station_turns.specs.Turns.{HasSkipped, DrawsLast, DrawsOne, Draws}
+use Rattle.station_turns.specs.Pace.{is_skip, is_outside, turns_made, inputs_used, AreFewSkips}
+use Rattle.station_turns.specs.Turns.{Stationed, CanAdd, IsAlive, is_early, with_skips, drew, AreSkips}
+use Rattle.station_turns.specs.Turns.{HasSkipped, Draws}
 use Rattle.station_turns.proofs.CountsGrow.{turn_same, input_same, signed_same}
 use Rattle.station_turns.proofs.InputGiven.{skip_fits}
-use Rattle.station_turns.proofs.StateInOrder.{steady_more, drawn_can, drawn_few}
+use Rattle.station_turns.proofs.StateInOrder.{steady_more, drawn_can}
 use Rattle.world_history.proofs.KeptGrows.{event_at}
-use Rattle.world_history.proofs.WordsSigned.{signed_so}
 
 -- the entries of skips
 abbrev pub skip_entries : BenchState → List ℕ → List Entry
@@ -69,20 +67,6 @@ pub skips_inputs : (b : BenchState) (skips : List ℕ) → inputs_used (with_ski
 skips_inputs b [] = refl
 skips_inputs b (s ∷ rest) = skips_inputs (with_entry b s Skip) rest ∙ input_same b.list (entry_at b s Skip)
     (ap is_outside (event_at b s Skip))
-
-no_draws : (seat : Drawer) → seat ≡ drew seat []
-no_draws seat = ap (λ (xs : List ℕ). record seat { drawn = xs }) (sym (append-nil seat.drawn))
-
--- no skip yet
-pub none_skipped : (s : Stationed) (held : Option Held) → IsSteady s [] → HasSkipped s held [] [] s
-none_skipped s held steady = record {
-  are = record { early = refl; few = omega arith };
-  bench = refl;
-  seat = no_draws s.seat;
-  inputs = refl;
-  turns = refl;
-  steady = steady;
-}
 
 -- a stamp was drawn after some skips
 pub one_drawn : (old s new : Stationed) (held : Option Held) (skips : List ℕ) (stamp : ℕ) →
@@ -224,24 +208,6 @@ skips_on old s new held made stamp d early few added works seat inputs turns run
       many = omega (arith, length_push d.skips stamp);
       running = running;
     }
-
-pub skips_begin : (s : Stationed) (held : Option Held) (used count : ℕ) → IsAlive s used count →
-    halted_in s.kept.bench ≡ false → Skips s held 0 s
-skips_begin s held used count alive running =
-    record { skips = []; has = none_skipped s held alive.steady; many = refl; running = running }
-
--- what the seat's calls ask
-pub skips_seat : (old s : Stationed) (held : Option Held) (made : ℕ) → Skips old held made s → s.seat.of ≡ old.seat.of
-skips_seat old s held made k = ap (λ (d : Drawer). d.of) k.has.seat
-
-pub skips_alone : (old s : Stationed) (held : Option Held) (made : ℕ) → Skips old held made s →
-    s.seat.numbers ≡ s.seat.number ∷ []
-skips_alone old s held made k = k.has.steady.alone
-
-pub skips_drawn : (old s : Stationed) (held : Option Held) (made used count : ℕ) → IsAlive old used count →
-    halted_in old.kept.bench ≡ false → Skips old held made s → length s.seat.drawn < 2 ^ 32
-skips_drawn old s held made used count alive running k =
-    drawn_few s k.has.steady (skipped_short old s held made used count alive running k)
 
 -- the actor's state with another seat, or after an act
 abbrev pub seated_so : Stationed → Drawer → Stationed

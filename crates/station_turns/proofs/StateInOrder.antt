@@ -1,16 +1,15 @@
 -- An entry more of an actor whose state is in order.
-use Rattle.std.proofs.Common.{◌≡◌, ℕ, suc, ◌+◌, ◌<◌, ◌≤◌, ◌^◌, Bool, true, false, ◌&&◌, List, [], ◌∷◌, ◌++◌, length}
+use Rattle.std.proofs.Common.{◌≡◌, ℕ, suc, ◌+◌, ◌<◌, ◌^◌, Bool, true, false, List, [], ◌∷◌, ◌++◌, length}
 use Rattle.std.proofs.Common.{map, nat_lt, refl, sym, ◌∙◌, ap, subst, arith, append-nil}
 use Rattle.std.specs.List.{list_all}
 use Rattle.std.specs.Prelude.{All}
 use Rattle.std.proofs.lemmas.Bool.{and_from, lt-ltb}
-use Rattle.std.proofs.lemmas.List.{map-append, length-append, length_push}
+use Rattle.std.proofs.lemmas.List.{map-append, length-append}
 use Rattle.play_words.specs.declared.input.Input.{Input}
-use Rattle.scenario_file.specs.Reading.{Contents}
 use Rattle.history_rules.specs.Events.{Event, Entry}
 use Rattle.history_rules.specs.Legal.{TakesWell, says_in}
-use Rattle.own_histories.specs.Own.{IsOwnHistory}
-use Rattle.own_histories.proofs.EntryByEntry.{one_more_is_own}
+use Rattle.history_laws.specs.Own.{IsOwnHistory}
+use Rattle.history_laws.proofs.EntryByEntry.{one_more_is_own}
 use Rattle.world_rules.specs.Scenarios.{actors_in}
 use Rattle.stamps.specs.Seats.{Drawer}
 use Rattle.world_history.specs.State.{BenchState, setup_in, entry_at, with_entry}

@@ -1,17 +1,15 @@
 -- What is seen of a station that isn't given up.
-use Rattle.std.proofs.Common.{◌≡◌, ℕ, ◌+◌, ◌<◌, ◌≤◌, ◌∷◌, ◌++◌, Bool, true, false, List, [], Option, inl, inr, ◌⊎◌}
+use Rattle.std.proofs.Common.{◌≡◌, ℕ, ◌+◌, ◌<◌, ◌≤◌, ◌∷◌, ◌++◌, Bool, true, false, List, [], Option, inl, inr}
 use Rattle.std.proofs.Common.{refl, sym, ◌∙◌, ap, subst, arith}
 use Rattle.std.specs.Prelude.{IfSome}
 use Rattle.std.specs.List.{list_all, slice_index_or}
-use Rattle.std.proofs.lemmas.Bool.{true≢false}
 use Rattle.message_types.specs.declared.signed.Signed.{Signed}
 use Rattle.message_types.specs.declared.body.Body.{Body}
 use Rattle.scenario_file.specs.Reading.{Contents}
-use Rattle.scenario_file.specs.Valid.{IsScenario}
 use Rattle.history_rules.specs.Setup.{stands}
-use Rattle.own_histories.proofs.EntryByEntry.{none_is_own}
+use Rattle.history_laws.proofs.EntryByEntry.{none_is_own}
 use Rattle.world_rules.specs.Scenarios.{setup_of, actors_in}
-use Rattle.stamps.specs.Seats.{Source, Drawer}
+use Rattle.stamps.specs.Seats.{Drawer}
 use Rattle.world_history.specs.State.{BenchState, setup_in}
 use Rattle.history_rules.specs.Events.{Event}
 use Rattle.world_history.specs.KeptState.{KeptState, halted_in, first_state}
@@ -19,7 +17,7 @@ use Rattle.play_words.specs.declared.input.Input.{Input}
 use Rattle.station_turns.specs.declared.held.Held.{Held}
 use Rattle.station_turns.specs.declared.held.Turned.{Turned}
 use Rattle.station_turns.specs.Pace.{fit_inputs, turns_made, inputs_used, begins}
-use Rattle.station_turns.specs.Turns.{Stationed, IsSteady, IsAlive, HasSkipped, Enters, IsCut, Adds, Turns}
+use Rattle.station_turns.specs.Turns.{Stationed, IsAlive, HasSkipped, Enters, Turns}
 use Rattle.station_turns.proofs.SkipsOfTurn.{skips_world}
 use Rattle.station_turns.specs.Naming.{RunName, IsOf}
 use Rattle.station_turns.proofs.CountsGrow.{no_turns, no_inputs, no_words}

@@ -5,7 +5,7 @@ use Rattle.history_rules.specs.Events.{Entry}
 use Rattle.history_rules.specs.Setup.{Setup}
 use Rattle.history_rules.specs.Legal.{IsLegal}
 use Rattle.history_rules.specs.Counts.{merged}
-use Rattle.own_histories.specs.Own.{AreOwnHistories, HasEachStampOnce}
+use Rattle.history_laws.specs.Own.{AreOwnHistories, HasEachStampOnce}
 use Rattle.stamps.specs.Seats.{IsEachOnce}
 
 -- the stamps of a list, and of all lists, one list's after the other's

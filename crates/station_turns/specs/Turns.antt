@@ -7,14 +7,13 @@ use Rattle.message_types.specs.declared.signed.Signed.{Signed}
 use Rattle.message_types.specs.declared.body.Body.{Body}
 use Rattle.play_words.specs.declared.input.Input.{Input}
 use Rattle.play_words.specs.declared.input.Input.TheVariants as input
-use Rattle.scenario_file.specs.Reading.{Contents}
 use Rattle.history_rules.specs.Events.{Event, Took, Tick, Skip, Entry, is_restart}
 use Rattle.history_rules.specs.Setup.{Setup}
 use Rattle.history_rules.specs.Legal.{TakesWell}
 use Rattle.world_rules.specs.Frames.{cried}
 use Rattle.world_rules.specs.Scenarios.{actors_in}
-use Rattle.own_histories.specs.Own.{IsOwnHistory}
-use Rattle.stamps.specs.Seats.{Source, Drawer}
+use Rattle.history_laws.specs.Own.{IsOwnHistory}
+use Rattle.stamps.specs.Seats.{Drawer}
 use Rattle.world_history.specs.State.{BenchState, setup_in, entry_at, with_entry}
 use Rattle.world_history.specs.Lists.{last_of}
 use Rattle.world_history.specs.KeptState.{KeptState, halted_in, frames_kept}

@@ -7,9 +7,8 @@ use Rattle.std.proofs.lemmas.Bool.{leb-true, leb-false, le-leb, lt-leb, and_part
 use Rattle.std.proofs.lemmas.List.{reverse-append, length-append}
 use Rattle.std.proofs.lemmas.List.Elements.{filter-append}
 use Rattle.std.proofs.lemmas.List.Folds.{list_all-append}
-use Rattle.protocol_rules.specs.Words.{greatest_of, in_order, put_in_order}
+use Rattle.protocol_rules.specs.Words.{greatest_of, greatest_reached, in_order, put_in_order}
 use Rattle.protocol_rules.proofs.Greatest.{greatest_of-append}
-use Rattle.summary_matrix.specs.Held.{reached_by}
 
 -- how many of the numbers reach x
 abbrev many : ℕ → List ℕ → ℕ
@@ -276,7 +275,7 @@ all_low p top (y ∷ rest) all =
     let first : cond (p y) y 0 ≤ top = first_low top (p y) y (leb-true y top both.0) in
     omega arith
 
-pub best_low : (least top : ℕ) (xs : List ℕ) → list_all (λ y. nat_le y top) xs ≡ true → reached_by least xs ≤ top
+pub best_low : (least top : ℕ) (xs : List ℕ) → list_all (λ y. nat_le y top) xs ≡ true → greatest_reached least xs ≤ top
 best_low least top xs = all_low (λ x. nat_le least (many x xs)) top xs
 
 past_end : (xs : List ℕ) (place : ℕ) → length xs ≤ place → get_or xs place 0 ≡ 0
@@ -284,16 +283,16 @@ past_end [] place past = refl
 past_end (x ∷ rest) zero past = absurd (omega arith)
 past_end (x ∷ rest) (suc place) past = past_end rest place (omega arith)
 
-in_falling : (xs : List ℕ) (place : ℕ) → Falling xs → reached_by (place + 1) xs ≡ get_or xs place 0
+in_falling : (xs : List ℕ) (place : ℕ) → Falling xs → greatest_reached (place + 1) xs ≡ get_or xs place 0
 in_falling xs place down =
-    let high : reached_by (place + 1) xs ≤ get_or xs place 0 =
+    let high : greatest_reached (place + 1) xs ≤ get_or xs place 0 =
     best_within (λ x. nat_le (place + 1) (many x xs)) (get_or xs place 0) xs
     (λ x passes. reach_place x xs place down (let more : place + 1 ≤ many x xs =
     leb-true (place + 1) (many x xs) passes in omega arith)) in
-    let low : get_or xs place 0 ≤ reached_by (place + 1) xs = by (cases_lt place (length xs)) in
+    let low : get_or xs place 0 ≤ greatest_reached (place + 1) xs = by (cases_lt place (length xs)) in
     omega arith
   where
-    by : (place < length xs) ⊎ (length xs ≤ place) → get_or xs place 0 ≤ reached_by (place + 1) xs
+    by : (place < length xs) ⊎ (length xs ≤ place) → get_or xs place 0 ≤ greatest_reached (place + 1) xs
     by (inl within) =
         let more : place < many (get_or xs place 0) xs = place_reached xs place down within in
         best_covers (λ x. nat_le (place + 1) (many x xs)) xs place within
@@ -307,7 +306,7 @@ same_tests least xs ys same = λ i. best (λ x. nat_le least (same x i)) xs
 
 -- The number above which so many others stand is the greatest that one more reach.
 pub ranked-reached : (xs : List ℕ) (place : ℕ) →
-    reached_by (place + 1) xs ≡ get_or (reverse (in_order xs)) place 0
+    greatest_reached (place + 1) xs ≡ get_or (reverse (in_order xs)) place 0
 ranked-reached xs place =
     let same : (x : ℕ) → many x (reverse (in_order xs)) ≡ many x xs =
     λ x. many-turned x (in_order xs) ∙ many-order x xs in

@@ -15,14 +15,14 @@ use Rattle.message_types.specs.declared.body.Body.{Body}
 use Rattle.message_types.specs.declared.body.Body.TheVariants as body
 use Rattle.message_types.specs.Parts.{as_frame}
 use Rattle.quorum_sets.specs.Masters.{numbers_below}
-use Rattle.protocol_rules.specs.Words.{best_from, best_by, in_order}
+use Rattle.protocol_rules.specs.Words.{best_from, best_by, in_order, greatest_reached}
 use Rattle.protocol_rules.specs.Group.{Group, most_number}
 use Rattle.protocol_rules.specs.Places.{in_place}
 use Rattle.protocol_rules.specs.Matrix.{latest, latest_frames, summary_of, tells_more, exceeds, eligible, column}
 use Rattle.protocol_rules.specs.Matrix.{reach}
 use Rattle.protocol_rules.specs.Master.{latest_rows, eligible_now, shown_now}
 use Rattle.summary_matrix.specs.Held.{Summaries, IsMatrixOf, Learns, TellsEach, held, takes_over, row_of, rows_at}
-use Rattle.summary_matrix.specs.Held.{frames_at, is_summary, proposal_of, reached_by}
+use Rattle.summary_matrix.specs.Held.{frames_at, is_summary, proposal_of}
 use Rattle.summary_matrix.proofs.Falling.{ranked-reached, best_low}
 use Rattle.summary_matrix.proofs.Greatest.{reached, eligible-is}
 use Rattle.protocol_rules.proofs.LimitValues.{most_number-is}
@@ -260,7 +260,7 @@ eligible-known g m known j is =
 
 -- the figures of what is held, by q and by f + 1 of the rows, are those of the words known
 pub eligible-held : (g : Group) (m : Summaries) (known : List (Signed Body)) (j : ℕ) → IsMatrixOf g m known →
-    reached_by m.group.q (column (rows_at m.group.n m.latest) j) ≡ eligible g (latest_rows g known) j
+    greatest_reached m.group.q (column (rows_at m.group.n m.latest) j) ≡ eligible g (latest_rows g known) j
 eligible-held g m known j is = eligible-is m.group (rows_at m.group.n m.latest) j ∙ eligible-known g m known j is
 
 pub eligible-placed : (g : Group) (known : List (Signed Body)) (j : ℕ) → j < g.n →
@@ -268,20 +268,20 @@ pub eligible-placed : (g : Group) (known : List (Signed Body)) (j : ℕ) → j <
 eligible-placed g known j lt = sym (numbered_at (eligible g (latest_rows g known)) g.n j 0 lt)
 
 pub shown-held : (g : Group) (m : Summaries) (known : List (Signed Body)) (j : ℕ) → IsMatrixOf g m known → j < g.n →
-    reached_by (m.group.f + 1) (column (rows_at m.group.n m.latest) j) ≡ get_or (shown_now g known) j 0
+    greatest_reached (m.group.f + 1) (column (rows_at m.group.n m.latest) j) ≡ get_or (shown_now g known) j 0
 shown-held g m known j is lt =
-    ap (λ f. reached_by (f + 1) (column (rows_at m.group.n m.latest) j)) is.intruded
-    ∙ ap (λ rows. reached_by (g.f + 1) (column rows j)) (rows-known g m known is)
+    ap (λ f. greatest_reached (f + 1) (column (rows_at m.group.n m.latest) j)) is.intruded
+    ∙ ap (λ rows. greatest_reached (g.f + 1) (column rows j)) (rows-known g m known is)
     ∙ ranked-reached (column (latest_rows g known) j) g.f
     ∙ sym (numbered_at (λ i. get_or (reverse (in_order (column (latest_rows g known) i))) g.f 0) g.n j 0 lt)
 
 -- where nothing is held, nothing is reached
 pub reach-nothing : (n least j : ℕ) (latest : List (Option (Signed PoSummary))) →
-    ((i : ℕ) → get_or latest i None ≡ None) → reached_by least (column (rows_at n latest) j) ≡ 0
+    ((i : ℕ) → get_or latest i None ≡ None) → greatest_reached least (column (rows_at n latest) j) ≡ 0
 reach-nothing n least j latest none =
     let empty : rows_at n latest ≡ map (λ i. []) (numbers_below n) =
     map_below (λ i. row_of (get_or latest i None)) (λ i. []) n (λ i lt. ap row_of (none i)) in
-    let low : reached_by least (column (rows_at n latest) j) ≤ 0 =
+    let low : greatest_reached least (column (rows_at n latest) j) ≤ 0 =
     best_low least 0 (column (rows_at n latest) j)
     (ap (λ (rows : List (List ℕ)). list_all (λ y. nat_le y 0) (column rows j)) empty ∙ zeros (numbers_below n)) in
     omega arith

@@ -1,6 +1,6 @@
 -- What a matrix holds, and when it is the matrix of the words that its master knows.
 use Rattle.std.specs.Prelude.{◌≡◌, ℕ, ◌<◌, Bool, true, false, List, [], ◌∷◌, Option, Some, None, map, slice_index}
-use Rattle.std.specs.Prelude.{filter, length, nat_le, if◌then◌else◌}
+use Rattle.std.specs.Prelude.{if◌then◌else◌}
 use Rattle.std.specs.List.{filter_map, slice_index_or}
 use Rattle.message_types.specs.declared.signed.Signed.{Signed}
 use Rattle.message_types.specs.declared.preordering.PoSummary.{PoSummary}
@@ -11,7 +11,7 @@ use Rattle.protocol_rules.specs.Parts as part
 use Rattle.quorum_sets.specs.declared.limits.TheConstants.{MOST_MASTERS}
 use Rattle.protocol_rules.specs.Group.{Group}
 use Rattle.protocol_rules.specs.Matrix.{latest, latest_frames, exceeds, tells_more, column}
-use Rattle.protocol_rules.specs.Words.{greatest_of}
+use Rattle.protocol_rules.specs.Words.{greatest_reached}
 use Rattle.protocol_rules.specs.Master.{latest_rows}
 
 -- the group (whose clients don't matter here), and at each master's place its latest summary
@@ -70,11 +70,6 @@ rows_at n latest = map (λ j. row_of (slice_index_or latest j None)) (numbers_be
 abbrev pub frames_at : ℕ → List (Option (Signed PoSummary)) → List (Signed PoSummary)
 frames_at n latest = filter_map (λ j. slice_index_or latest j None) (numbers_below n)
 
--- the greatest of the numbers that so many of them reach, 0 where there is none
-abbrev pub reached_by : ℕ → List ℕ → ℕ
-reached_by least numbers = greatest_of
-    (filter (λ x. nat_le least (length (filter (λ y. nat_le x y) numbers))) numbers)
-
 -- the numbers tell, by master, how far so many of the first n rows of what is held reach
 abbrev pub HasFigures : ℕ → ℕ → List (Option (Signed PoSummary)) → List ℕ → Type 0
-HasFigures n least latest numbers = TellsEach numbers (λ j. reached_by least (column (rows_at n latest) j))
+HasFigures n least latest numbers = TellsEach numbers (λ j. greatest_reached least (column (rows_at n latest) j))

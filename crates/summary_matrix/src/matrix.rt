@@ -1,4 +1,4 @@
-ghost use Rattle.std.specs.Prelude.{◌≡◌, ◌++◌, ◌≤◌, ◌<◌, ℕ, [], length, take, IsTrue, OnOk, OnErr, IfOk, option_copied, slice_index, sum};
+ghost use Rattle.std.specs.Prelude.{◌≡◌, ◌++◌, ◌≤◌, ◌<◌, ℕ, [], take, IsTrue, OnOk, OnErr, IfOk, option_copied, slice_index, sum};
 ghost use Rattle.std.specs.Option.{option_to_list};
 ghost use Rattle.message_types.specs.declared.body.Body.TheVariants as body;
 ghost use Rattle.message_types.specs.Parts.{as_frame};

@@ -1,10 +1,10 @@
-ghost use Rattle.std.specs.Prelude.{◌≡◌, ◌+◌, ◌<◌, ◌≤◌, ◌^◌, ℕ, length, take, filter, max, nat_le, nat_lt, slice_index, sum};
+ghost use Rattle.std.specs.Prelude.{◌≡◌, ◌<◌, ◌≤◌, ℕ, length, take, filter, max, nat_le, nat_lt, slice_index};
 ghost use Rattle.std.specs.List.{list_any};
 ghost use Rattle.quorum_sets.specs.Masters.{numbers_below};
 ghost use Rattle.protocol_rules.specs.Group.{group_of};
 ghost use Rattle.protocol_rules.specs.Matrix.{column};
 ghost use Rattle.protocol_rules.specs.Matrix as rules;
-ghost use Rattle.protocol_rules.specs.Words.{greatest_of};
+ghost use Rattle.protocol_rules.specs.Words.{greatest_reached as greatest_reached_of};
 ghost use Rattle.summary_matrix.specs.Held.{TellsEach};
 
 use message_types::Rows;
@@ -98,7 +98,7 @@ pub fn number_at(row: &Vector, place: usize) -> u64
 
 /// The greatest of the numbers that `q` of them reach, 0 where there is none.
 pub fn greatest_reached(numbers: &[u64], q: u32) -> u64
-    ensures { result ≡ greatest_of (filter (λ x. nat_le q (length (filter (λ y. nat_le x y) numbers.now))) numbers.now) }
+    ensures { result ≡ greatest_reached_of q numbers.now }
 {
     let mut greatest = 0;
     for number in numbers {

@@ -182,8 +182,3 @@ pub shown-at : (place : ℕ) (votes : List Vote) (answer : Option Changes) (vote
     IsShownAt (Some place) votes answer → slice_get votes place ≡ Some vote → answer ≡ Some vote.changes
 shown-at place votes answer vote h at =
     subst (λ (o : Option Vote). IsSomeAnd o (λ (w : Vote). answer ≡ Some w.changes)) at h
-
-pub shown-nowhere : (place : ℕ) (votes : List Vote) (answer : Option Changes) → IsShownAt (Some place) votes answer →
-    slice_get votes place ≡ None → ⊥
-shown-nowhere place votes answer h at =
-    subst (λ (o : Option Vote). IsSomeAnd o (λ (w : Vote). answer ≡ Some w.changes)) at h

@@ -88,13 +88,6 @@ with_change-set (m ∷ ls) zero c l new low at is = let same : l ≡ m = at in
 with_change-set (m ∷ ls) (suc p) c l new low at is =
     ap (λ (x : List (List Changed)). m ∷ x) (with_change-set ls p c l new (omega arith) at is)
 
--- a list that stays as it was
-pub set-same : (lists : List (List Changed)) (p : ℕ) (l new : List Changed) → l ≡ get_or lists p l → new ≡ l →
-    slice_set lists p new ≡ lists
-set-same [] p l new at is = refl
-set-same (m ∷ ls) zero l new at is = ap (λ (x : List Changed). x ∷ ls) (is ∙ at)
-set-same (m ∷ ls) (suc p) l new at is = ap (λ (x : List (List Changed)). m ∷ x) (set-same ls p l new at is)
-
 pub with_change-length : (p : ℕ) (c : Changed) (lists : List (List Changed)) →
     length (with_change p c lists) ≡ length lists
 with_change-length p c [] = refl

@@ -1,12 +1,12 @@
 -- One executed update more: which value it changes, and whose list of changes grows.
 use Rattle.std.proofs.Common.{◌≡◌, ◌≢◌, ◌<◌, ◌≤◌, ◌+◌, ◌==◌, ℕ, zero, suc, Bool, true, false, ◌&&◌, not}
 use Rattle.std.proofs.Common.{if◌then◌else◌, List, [], ◌∷◌, ◌++◌, Option, Some, None, ℤ, length, length-append}
-use Rattle.std.proofs.Common.{get_or, replicate, slice_get, slice_set, nat_lt, nat_le, nat_eq, filter, refl, sym, ◌∙◌}
+use Rattle.std.proofs.Common.{get_or, slice_get, slice_set, nat_lt, nat_le, nat_eq, filter, refl, sym, ◌∙◌}
 use Rattle.std.proofs.Common.{ap, subst, inl, inr, ◌⊎◌, arith, append_assoc, append-nil, IsSomeAnd, IfSome, Result}
 use Rattle.std.proofs.Common.{Ok, Err, OnOk, ◌↔◌}
 use Rattle.std.specs.List.Sorted.{IsNonDecreasingBy}
 use Rattle.std.proofs.lemmas.Option.{same_Some}
-use Rattle.std.proofs.lemmas.Bool.{false≢true, cases_eq, cases_Bool, cond-false, ltb-false, leb-false, lt-leb, ne_eqb}
+use Rattle.std.proofs.lemmas.Bool.{false≢true, cases_eq, cases_Bool, cond-false, ltb-false, lt-leb, ne_eqb}
 use Rattle.std.proofs.lemmas.Bool.{eq-eqb, and_left, and_right}
 use Rattle.std.proofs.lemmas.List.Elements.{filter-append}
 use Rattle.std.proofs.lemmas.Bool.Decides.{Decides-int_eq}
@@ -15,7 +15,7 @@ use Rattle.message_types.specs.declared.updates.Op.TheVariants as op
 use Rattle.message_types.specs.declared.updates.Update.{Update}
 use Rattle.point_table.specs.declared.point.Point.{Point}
 use Rattle.point_table.specs.Point.{is_within}
-use Rattle.point_table.specs.Table.{Table, start_values}
+use Rattle.point_table.specs.Table.{Table}
 use Rattle.point_table.specs.declared.points.PointRefusal.{PointRefusal}
 use Rattle.point_table.specs.declared.points.PointRefusal.TheVariants as refusal_of
 use Rattle.alarm_rules.specs.Board.{is_raised_at}
@@ -28,9 +28,8 @@ use Rattle.master_points.specs.Orders.{AreOwned, site_of, start_of, state_after}
 use Rattle.trend_archive.specs.declared.change.Changed.{Changed}
 use Rattle.trend_archive.specs.declared.change.Changes.{Changes}
 use Rattle.trend_archive.specs.declared.change.Reading.{Reading}
-use Rattle.trend_archive.specs.declared.answer.TrendAnswer.{TrendAnswer}
 use Rattle.trend_archive.specs.Trends.{Archive, EarlierStays, IsTrend, all_changes, changes, changes_from, has_value}
-use Rattle.trend_archive.specs.Trends.{is_between, news, noted, refusal, told, with_change}
+use Rattle.trend_archive.specs.Trends.{is_between, news, noted, told, with_change}
 use Rattle.master_points.proofs.EffectLaws.{own_within}
 
 -- the state after one update more
@@ -261,23 +260,6 @@ trend-step plant screens us u old new r is made t =
     counted = let c : old.count ≡ length us = t.count in let whole : length (us ++ u ∷ []) ≡ length us + 1 =
         length-append us (u ∷ []) in omega arith
 
-empty_at : (n p : ℕ) → p < n → slice_get {X = List Changed} (replicate n []) p ≡ Some []
-empty_at zero p low = absurd (omega arith)
-empty_at (suc n) zero low = refl
-empty_at (suc n) (suc p) low = empty_at n p (omega arith)
-
--- a trend before any update
-pub trend-start : (plant : Plant) (screens : ℕ) (t : Archive) → AreOwned (length plant.devices) plant.points →
-    t.points ≡ plant.points → t.values ≡ start_values plant.points
-    → t.lists ≡ replicate (length plant.points) [] → t.count ≡ 0 → IsTrend plant screens [] t
-trend-start plant screens t own points values lists count = record {
-  owned = own;
-  points = points;
-  values = values;
-  lists = λ p low. ap (λ (ls : List (List Changed)). slice_get ls p) lists ∙ empty_at (length plant.points) p low;
-  count = count;
-}
-
 if_news : (ps : List Point) (p : ℕ) (v : ℤ) (own has : Bool) →
     (own ≡ true → IsSomeAnd (slice_get ps p) (λ q. is_within q v ≡ true))
     → IfSome (if_read p v (own && not has))
@@ -371,14 +353,6 @@ earlier-stays plant screens p first last us more reached =
     (changes_from-rises (site_of plant screens) p (1 + length us)
     (state_after (site_of plant screens) (start_of plant) us) more))
     ∙ append-nil (filter (is_between first last) (all_changes plant screens p us))))
-
-not_first : (b : Bool) (a : TrendAnswer) (o : Option TrendAnswer) → (if b then Some a else o) ≡ None → b ≡ false
-not_first true a o h = absurd (cc)
-not_first false a o h = refl
-
--- a question that has an answer is about a point that is there
-pub answered-there : (points count p first last : ℕ) → refusal points count p first last ≡ None → p < points
-answered-there points count p first last h = leb-false points p (not_first (nat_le points p) _ _ h)
 
 -- what is found in a point's list
 pub found-items : (plant : Plant) (screens : ℕ) (us : List Update) (t : Archive) (p first last : ℕ)

@@ -1,5 +1,6 @@
 -- All that a master says at an event, by its parts.
-use Rattle.std.proofs.Common.{◌≡◌, ℕ, Bool, true, false, List, [], ◌∷◌, ◌++◌, Option, refl, sym, subst}
+use Rattle.std.proofs.Common.{ℕ, Bool, true, false, List, [], ◌∷◌, Option, refl, sym, subst}
+use Rattle.plain_lists.proofs.Members.{each_none}
 use Rattle.message_types.specs.declared.signed.Signed.{Signed}
 use Rattle.message_types.specs.declared.updates.Update.{Update}
 use Rattle.message_types.specs.declared.vouchers.Order.{Order}
@@ -19,7 +20,6 @@ use Rattle.words_by_part.specs.Kinds.{preordering, summing, offering, ordering, 
 use Rattle.words_by_part.specs.Kinds.{giving, vouching}
 use Rattle.words_by_part.specs.Laws.{AreByPart, AnswersByPart, AreByLivePart, AnswersByLivePart, told_at, moments_at}
 use Rattle.words_by_part.specs.Laws.{waiting_at}
-use Rattle.agreement.proofs.Lists.{each_none}
 use Rattle.words_by_part.proofs.Sorting.{Of, OneKind, of_kind, among}
 use Rattle.words_by_part.proofs.Said.{requests_kind, acks_kind, summaries_kind, preprepares_kind, prepares_kind}
 use Rattle.words_by_part.proofs.Said.{commits_kind, pings_kind, pongs_kind, round_trips_kind, tat_reports_kind}

@@ -1,9 +1,10 @@
 -- What is due by each rule is of one kind.
-use Rattle.std.proofs.Common.{◌≡◌, ℕ, ◌+◌, ◌-◌, Bool, true, false, cond, ◌&&◌, not, List, [], ◌∷◌, ◌++◌, Option, Some}
-use Rattle.std.proofs.Common.{None, length, filter, map, nat_eq, nat_le, nat_lt, refl}
+use Rattle.std.proofs.Common.{ℕ, ◌+◌, Bool, cond, ◌&&◌, not, List, [], ◌∷◌, ◌++◌, Option, Some}
+use Rattle.std.proofs.Common.{None, length, nat_lt, refl}
 use Rattle.std.specs.List.{list_any, filter_map}
+use Rattle.plain_lists.specs.Lists.{Each}
+use Rattle.plain_lists.proofs.Members.{each_none, each_one, each_append, each_if, each_map, each_flat_map}
 use Rattle.message_types.specs.declared.signed.Signed.{Signed}
-use Rattle.message_types.specs.declared.signed.Signed.{Signed as SignedFrame}
 use Rattle.message_types.specs.declared.updates.Update.{Update}
 use Rattle.message_types.specs.declared.vouchers.Order.{Order}
 use Rattle.message_types.specs.declared.ordering.Mark.{Mark}
@@ -13,17 +14,16 @@ use Rattle.message_types.specs.declared.body.Body.TheVariants as body
 use Rattle.message_types.specs.Digests.{digest_of_update, digest_of_rows}
 use Rattle.quorum_sets.specs.Masters.{numbers_below}
 use Rattle.protocol_rules.specs.declared.facts.OrderFact.{OrderFact}
-use Rattle.protocol_rules.specs.Words.{numbers_from, first_of_list, greatest_of, in_order, each_once}
+use Rattle.protocol_rules.specs.Words.{numbers_from, first_of_list, greatest_of}
 use Rattle.protocol_rules.specs.Group.{Group, most_number, is_door}
 use Rattle.protocol_rules.specs.Preorder.{certified, updates_requested, update_of, requests_said, requests_said_for}
 use Rattle.protocol_rules.specs.Preorder.{next_request, requests_due, acks, ack_due, acks_due}
-use Rattle.protocol_rules.specs.Matrix.{latest_frames}
-use Rattle.protocol_rules.specs.Order.{commit_by, quorum_of, ordered, offered, prepared, plan_known, gapless, stable}
-use Rattle.protocol_rules.specs.Order.{in_window, prepares_said, commits_said, prepare_due, prepares_due, commit_due}
+use Rattle.protocol_rules.specs.Order.{commit_by, quorum_of, ordered, offered, prepared, plan_known, gapless}
+use Rattle.protocol_rules.specs.Order.{in_window, prepare_due, prepares_due, commit_due}
 use Rattle.protocol_rules.specs.Order.{commits_due, mark_due, marks_due}
 use Rattle.protocol_rules.specs.Execution.{Request}
-use Rattle.protocol_rules.specs.Views.{view, is_open, report_due, new_view_due}
-use Rattle.protocol_rules.specs.Measures.{own_bound, ping_in, pong_in, pongs_said, pongs_due_to, round_trips_due_from}
+use Rattle.protocol_rules.specs.Views.{view, report_due, new_view_due}
+use Rattle.protocol_rules.specs.Measures.{own_bound, pongs_due_to, round_trips_due_from}
 use Rattle.protocol_rules.specs.Measures.{pings_due, pongs_due, round_trips_due, tat_reports_due, tat_bounds_due}
 use Rattle.protocol_rules.specs.Measures.{suspects_due}
 use Rattle.protocol_rules.specs.Reconcile.{request_of, quorum_of_acks, asks_for_update, updates_given, asks_for_order}
@@ -31,8 +31,7 @@ use Rattle.protocol_rules.specs.Reconcile.{orders_given, committed_views, ask_up
 use Rattle.protocol_rules.specs.Reconcile.{gives_due, give_ordered_due, gives_ordered_due}
 use Rattle.protocol_rules.specs.Master.{executed, summaries_due, preprepares_due, vouchers_said, vouchers_from}
 use Rattle.protocol_rules.specs.Master.{vouchers_due}
-use Rattle.agreement.proofs.Lists.{Each, each_none, each_one, each_append, each_if, each_map, each_flat_map}
-use Rattle.agreement.proofs.Spoken.{each_elim}
+use Rattle.agreement.proofs.SpokenByKind.{each_elim}
 use Rattle.words_by_part.proofs.Sorting.{Of}
 
 -- one word where something holds, else none

@@ -4,6 +4,8 @@ use Rattle.std.proofs.Common.{max, nat_le, nat_lt, reverse, refl}
 use Rattle.std.proofs.lemmas.Bool.{false≢true}
 use Rattle.std.specs.List.{find, filter_map, flat_map}
 use Rattle.std.specs.Option.{option_to_list}
+use Rattle.plain_lists.specs.Lists.{Each}
+use Rattle.plain_lists.proofs.Members.{each_none, each_one, each_append, each_if, each_map, each_flat_map, find_some, in_filter_from}
 use Rattle.quorum_sets.specs.Masters.{numbers_below}
 use Rattle.message_types.specs.declared.signed.Signed.{Signed}
 use Rattle.message_types.specs.declared.updates.Update.{Update}
@@ -13,8 +15,8 @@ use Rattle.protocol_rules.specs.declared.facts.OrderFact.{OrderFact}
 use Rattle.protocol_rules.specs.Words.{first_of_list, numbers_from}
 use Rattle.protocol_rules.specs.Group.{Group, most_number, is_door}
 use Rattle.protocol_rules.specs.Facts.{facts_of}
-use Rattle.protocol_rules.specs.Preorder.{vector, update_of, acks, ack_due}
-use Rattle.protocol_rules.specs.Order.{gapless, in_window, plan_known, prepare_due}
+use Rattle.protocol_rules.specs.Preorder.{vector, update_of, acks}
+use Rattle.protocol_rules.specs.Order.{gapless, in_window, plan_known}
 use Rattle.protocol_rules.specs.Views.{view}
 use Rattle.protocol_rules.specs.Execution.{updates_of}
 use Rattle.protocol_rules.specs.Patience.{Moment, votes_due}
@@ -24,10 +26,7 @@ use Rattle.protocol_rules.specs.Worth.{is_worth, worthy_prepares_due}
 use Rattle.protocol_rules.specs.Lacking.{update_asks_due, order_asks_due}
 use Rattle.protocol_rules.specs.Master.{summaries_due, summary_again_due, is_summary, whole_preprepares_due, is_give}
 use Rattle.protocol_rules.specs.Master.{is_order_given}
-use Rattle.history_rules.specs.Audit.{IsIn}
-use Rattle.agreement.proofs.Lists.{Each, each_none, each_one, each_append, each_if, each_map, each_flat_map, find_some}
-use Rattle.agreement.proofs.Lists.{in_filter_from}
-use Rattle.agreement.proofs.Spoken.{each_elim}
+use Rattle.agreement.proofs.SpokenByKind.{each_elim}
 use Rattle.words_by_part.proofs.Sorting.{Of}
 use Rattle.words_by_part.proofs.Said.{ack_kind, prepare_kind, summaries_kind, preprepares_kind}
 

@@ -1,12 +1,11 @@
 -- Lists of words that are all of one kind.
-use Rattle.std.proofs.Common.{◌≡◌, ℕ, Bool, true, false, cond, List, [], ◌∷◌, ◌++◌, filter, nat_eq, refl, sym, ◌∙◌}
+use Rattle.std.proofs.Common.{◌≡◌, ℕ, Bool, true, false, cond, List, [], ◌∷◌, ◌++◌, filter, nat_eq, refl, ◌∙◌}
 use Rattle.std.proofs.Common.{ap}
 use Rattle.std.proofs.lemmas.List.Elements.{filter-append}
 use Rattle.std.specs.List.{list_any}
+use Rattle.plain_lists.specs.Lists.{here, there, Each}
 use Rattle.message_types.specs.declared.body.Body.{Body}
 use Rattle.message_types.specs.Kinds.{kind_number}
-use Rattle.history_rules.specs.Audit.{IsIn, here, there}
-use Rattle.agreement.proofs.Lists.{Each}
 use Rattle.words_by_part.specs.Kinds.{is_of}
 
 -- the word is of this kind

@@ -5,6 +5,9 @@ use Rattle.std.specs.Prelude.{slice_get}
 use Rattle.std.specs.List.{list_all, filter_map, find}
 use Rattle.std.proofs.lemmas.Bool.{and_from, and_parts, leb-true, leb-false, eq-eqb}
 use Rattle.std.proofs.lemmas.List.{length-map}
+use Rattle.plain_lists.specs.Lists.{IsIn, here, Each}
+use Rattle.plain_lists.proofs.Members.{each_none, each_one, each_map, each_flat_map, in_map, in_flat_map, in_flat_map_from, in_filter_from, in_filter_map_from, find_some, some_same, none_some}
+use Rattle.protocol_rules.proofs.FirstMet.{first_in}
 use Rattle.quorum_sets.specs.Masters.{numbers_below}
 use Rattle.message_types.specs.declared.signed.Signed.{Signed}
 use Rattle.message_types.specs.declared.preordering.PoSummary.{PoSummary}
@@ -25,14 +28,10 @@ use Rattle.protocol_rules.specs.Facts.{facts_of, tells, rows_in, rows_known}
 use Rattle.protocol_rules.specs.Plans.{plan_of, planned, chosen, certificates_of, no_rows, goes_before, base_of}
 use Rattle.protocol_rules.specs.Plans.{last_of, first_plan}
 use Rattle.protocol_rules.specs.Order.{ordered, plan_in, plan_known, proposal_in, offered}
-use Rattle.history_rules.specs.Audit.{IsIn, here}
-use Rattle.agreement.proofs.Lists.{Each, each_none, each_one, each_map, each_flat_map, in_map, in_flat_map}
-use Rattle.agreement.proofs.Lists.{in_flat_map_from, in_filter_from, in_filter_map_from, find_some, first_in}
-use Rattle.agreement.proofs.Lists.{some_same, none_some}
-use Rattle.agreement.proofs.Inside.{Closed, best_in}
-use Rattle.agreement.proofs.Good.{ordered_from}
-use Rattle.agreement.proofs.Spoken.{if_some}
-use Rattle.agreement.proofs.Planned.{plan_in_from}
+use Rattle.agreement.proofs.FramesInside.{Closed, best_in}
+use Rattle.agreement.proofs.LearnedInPlace.{ordered_from}
+use Rattle.agreement.proofs.SpokenByKind.{if_some}
+use Rattle.agreement.proofs.PlannedRows.{plan_in_from}
 use Rattle.words_in_place.proofs.Limits.{all_from, all_each, number_from, greatest_of-within, slice_in}
 use Rattle.quorum_sets.proofs.Numbered.{length-numbers_below}
 use Rattle.protocol_rules.proofs.Numbers.{length-numbers_from}

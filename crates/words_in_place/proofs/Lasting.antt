@@ -5,6 +5,8 @@ use Rattle.std.proofs.Common.{length-append, filter, nat_lt, refl, ◌∙◌, ap
 use Rattle.std.specs.List.{flat_map}
 use Rattle.std.proofs.lemmas.Bool.{and_parts, ltb-true}
 use Rattle.std.proofs.lemmas.List.Elements.{filter-append}
+use Rattle.plain_lists.specs.Lists.{IsIn, here, there, Each}
+use Rattle.plain_lists.proofs.Members.{each_none, none_in, in_cases}
 use Rattle.message_types.specs.declared.signed.Signed.{Signed}
 use Rattle.message_types.specs.declared.body.Body.{Body}
 use Rattle.message_types.specs.Parts.{parts, inside}
@@ -14,13 +16,11 @@ use Rattle.protocol_rules.specs.Master.{Heard, learned, taken_frames}
 use Rattle.history_rules.specs.Events.{Event, Took, Entry, frame_taken, is_tick, is_silent}
 use Rattle.history_rules.specs.Setup.{Setup, stands, is_correct_master}
 use Rattle.history_rules.specs.Legal.{IsLegal, TakesWell, heard}
-use Rattle.history_rules.specs.Audit.{IsIn, here, there}
 use Rattle.agreement.specs.Laws.{HasSizes}
-use Rattle.agreement.proofs.Lists.{Each, each_none, none_in, in_cases}
 use Rattle.agreement.proofs.Places.{by_growth, legal_before, stands_last}
-use Rattle.agreement.proofs.Known.{learned_by, known_then, known_then_from, heard_more, heard_last, Source}
-use Rattle.agreement.proofs.Known.{from_frame, from_word, from_inside, learned_last, correct_said}
-use Rattle.agreement.proofs.Origin.{heard_none}
+use Rattle.agreement.proofs.KnownAsItGrows.{learned_by, known_then, known_then_from, heard_more, heard_last, Source}
+use Rattle.agreement.proofs.KnownAsItGrows.{from_frame, from_word, from_inside, learned_last, correct_said}
+use Rattle.agreement.proofs.LearnedWasSaid.{heard_none}
 use Rattle.words_in_place.specs.Laws.{ticks_heard, MaySpeak, LearnedIsInPlace}
 use Rattle.words_in_place.proofs.Limits.{all_from, all_each, filter_more}
 use Rattle.words_in_place.proofs.Speaking.{own_frame}

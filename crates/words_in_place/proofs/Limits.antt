@@ -9,6 +9,8 @@ use Rattle.std.proofs.lemmas.Bool.{and_from, and_parts, leb-true, ltb-true, le-l
 use Rattle.std.proofs.lemmas.List.{reverse-append}
 use Rattle.std.proofs.lemmas.List.Elements.{filter-append}
 use Rattle.std.proofs.lemmas.Slice.Eq.{bytes_eq-Decides}
+use Rattle.plain_lists.specs.Lists.{IsIn, here, there, Each}
+use Rattle.plain_lists.proofs.Members.{none_in, in_cons_cases, each_none, each_one, each_append, each_if, all_at, none_some, some_same}
 use Rattle.protocol_rules.specs.Words.{greatest_of, run_from, numbers_from, in_order, put_in_order}
 use Rattle.protocol_rules.specs.Group.{Group, most_number, most_view}
 use Rattle.protocol_rules.specs.Places.{is_number, is_view, in_place, word_in_place}
@@ -17,11 +19,8 @@ use Rattle.protocol_rules.proofs.Greatest.{or_zero}
 use Rattle.message_types.specs.declared.signed.Signed.{Signed}
 use Rattle.message_types.specs.declared.body.Body.{Body}
 use Rattle.message_types.specs.declared.body.Body.TheVariants as body
-use Rattle.history_rules.specs.Audit.{IsIn, here, there}
 use Rattle.agreement.specs.Laws.{HasSizes}
-use Rattle.agreement.proofs.Grows.{each_below}
-use Rattle.agreement.proofs.Lists.{none_in, in_cons_cases, Each, each_none, each_one, each_append, each_if, all_at}
-use Rattle.agreement.proofs.Lists.{none_some, some_same}
+use Rattle.agreement.proofs.QuorumsStay.{each_below}
 
 -- a test that holds of each member, as a test and as a fact
 pub all_from : {X : Type 0} (f : X → Bool) (xs : List X) → Each (λ x. f x ≡ true) xs → list_all f xs ≡ true

@@ -5,6 +5,8 @@ use Rattle.std.proofs.Common.{ap, subst, arith, min, ◌<◌}
 use Rattle.std.specs.List.{list_any, filter_map}
 use Rattle.std.proofs.lemmas.Bool.{and_from, and_parts, leb-true, le-leb, lt-ltb}
 use Rattle.std.proofs.lemmas.List.{reverse-append}
+use Rattle.plain_lists.specs.Lists.{Each}
+use Rattle.plain_lists.proofs.Members.{each_none, each_one, each_if, each_map, each_flat_map, in_filter_from, in_filter_map_from, none_some}
 use Rattle.quorum_sets.specs.Masters.{numbers_below}
 use Rattle.message_types.specs.declared.signed.Signed.{Signed}
 use Rattle.message_types.specs.declared.measures.Rtt.{Rtt}
@@ -20,11 +22,9 @@ use Rattle.protocol_rules.specs.Measures.{suspects_due}
 use Rattle.protocol_rules.specs.Patience.{patience, votes_to, votes_due}
 use Rattle.protocol_rules.specs.Views.{view}
 use Rattle.protocol_rules.specs.Master.{Heard, told_of, known_at, waits}
-use Rattle.agreement.proofs.Lists.{Each, each_none, each_one, each_if, each_map, each_flat_map, in_filter_from}
-use Rattle.agreement.proofs.Lists.{in_filter_map_from, none_some}
-use Rattle.agreement.proofs.Quorums.{below_from}
-use Rattle.agreement.proofs.Spoken.{if_some}
-use Rattle.agreement.proofs.Inside.{best_in}
+use Rattle.agreement.proofs.QuorumsMeet.{below_from}
+use Rattle.agreement.proofs.SpokenByKind.{if_some}
+use Rattle.agreement.proofs.FramesInside.{best_in}
 use Rattle.words_in_place.proofs.Limits.{filter_more, each_in_order, each_reverse, index_within, from_bounds}
 use Rattle.words_in_place.proofs.Ordering.{WordPlaced}
 

@@ -5,6 +5,9 @@ use Rattle.std.proofs.Common.{length, length-take-le, min, nat_eq, nat_le, refl,
 use Rattle.std.specs.List.{list_all, list_any, find}
 use Rattle.std.specs.Str.{bytes_eq}
 use Rattle.std.proofs.lemmas.Bool.{and_from, and_parts, leb-true, ltb-true, eq-eqb, eqb-true}
+use Rattle.plain_lists.specs.Lists.{IsIn, Within, Each}
+use Rattle.plain_lists.proofs.Members.{each_none, each_one, each_if, each_map, each_flat_map, in_filter, in_filter_from, in_filter_map, in_filter_map_from, in_take, find_some, any_from, none_some}
+use Rattle.protocol_rules.proofs.FirstMet.{first_met_from}
 use Rattle.message_types.specs.declared.signed.Signed.{Signed}
 use Rattle.message_types.specs.declared.ordering.Mark.{Mark}
 use Rattle.message_types.specs.declared.body.Body.{Body}
@@ -27,14 +30,10 @@ use Rattle.protocol_rules.specs.Reconcile.{ask_order_due, asks_for_order, orders
 use Rattle.protocol_rules.specs.Reconcile.{give_ordered_due, gives_ordered_due, order_gift}
 use Rattle.protocol_rules.specs.Lacking.{wanted_to, numbers_lacking, order_asks_due}
 use Rattle.protocol_rules.specs.Master.{gap_of, next_number, preprepares_due, whole_preprepares_due}
-use Rattle.history_rules.specs.Audit.{IsIn}
-use Rattle.agreement.proofs.Lists.{Within, Each, each_none, each_one, each_if, each_map, each_flat_map, in_filter}
-use Rattle.agreement.proofs.Lists.{in_filter_from, in_filter_map, in_filter_map_from, in_take, first_met_from}
-use Rattle.agreement.proofs.Lists.{find_some, any_from, none_some}
-use Rattle.agreement.proofs.Spoken.{each_elim, if_some}
-use Rattle.agreement.proofs.Inside.{vote_from, prepare_by_from, commit_by_from}
-use Rattle.agreement.proofs.Good.{ordered_from}
-use Rattle.agreement.proofs.Grows.{voted_more}
+use Rattle.agreement.proofs.SpokenByKind.{each_elim, if_some}
+use Rattle.agreement.proofs.FramesInside.{vote_from, prepare_by_from, commit_by_from}
+use Rattle.agreement.proofs.LearnedInPlace.{ordered_from}
+use Rattle.agreement.proofs.QuorumsStay.{voted_more}
 use Rattle.words_in_place.proofs.Limits.{all_from, same_bytes, number_from, from_bounds, number_in, greatest_in}
 use Rattle.words_in_place.proofs.Limits.{one_of}
 use Rattle.words_in_place.proofs.Facts.{FactPlaced, ordered_placed, offered_placed}

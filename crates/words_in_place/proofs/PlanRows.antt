@@ -2,6 +2,7 @@
 use Rattle.std.proofs.Common.{◌≡◌, ℕ, ◌+◌, ◌-◌, ◌≤◌, Bool, true, List, [], Option, Some, None, map, filter, nat_eq}
 use Rattle.std.proofs.Common.{refl, ◌∙◌, ap}
 use Rattle.std.specs.List.{list_all}
+use Rattle.plain_lists.proofs.Members.{all_at, in_map_from, in_filter_from}
 use Rattle.message_types.specs.declared.ordering.Certificate.{Certificate}
 use Rattle.message_types.specs.declared.views.Report.{Report}
 use Rattle.message_types.specs.Spelling.{rows_fit}
@@ -11,8 +12,7 @@ use Rattle.protocol_rules.specs.Plans.{plan_of, planned, chosen, certificates_of
 use Rattle.protocol_rules.specs.Plans.{last_of}
 use Rattle.protocol_rules.proofs.SummaryRows.{rows_made_fit}
 use Rattle.history_rules.proofs.Entries.{all_from}
-use Rattle.agreement.proofs.Lists.{all_at, in_map_from, in_filter_from}
-use Rattle.agreement.proofs.Inside.{best_in}
+use Rattle.agreement.proofs.FramesInside.{best_in}
 
 -- the certificate's rows have a spelling
 abbrev pub is_spelled : Certificate → Bool

@@ -5,6 +5,8 @@ use Rattle.std.proofs.Common.{length-take-le, take, filter, nat_eq, nat_le, refl
 use Rattle.std.proofs.Common.{arith}
 use Rattle.std.specs.List.{list_all, filter_map}
 use Rattle.std.proofs.lemmas.Bool.{true≢false, and_from, and_parts, leb-true, le-leb, lt-ltb, eq-eqb}
+use Rattle.plain_lists.specs.Lists.{IsIn, here, Each}
+use Rattle.plain_lists.proofs.Members.{each_none, each_one, each_if, in_filter_from, in_filter_map_from, in_take, none_some}
 use Rattle.quorum_sets.specs.Masters.{numbers_below}
 use Rattle.message_types.specs.declared.signed.Signed.{Signed}
 use Rattle.message_types.specs.declared.ordering.Certificate.{Certificate}
@@ -23,12 +25,9 @@ use Rattle.protocol_rules.specs.Order.{stable, number_marked, is_voted, quorum_o
 use Rattle.protocol_rules.specs.Order.{least_prepared, certificate_of, certificates_below}
 use Rattle.protocol_rules.specs.Views.{view, report_due, new_view_due, first_reports, report_by}
 use Rattle.protocol_rules.proofs.Greatest.{or_zero}
-use Rattle.history_rules.specs.Audit.{IsIn, here}
-use Rattle.agreement.proofs.Lists.{Each, each_none, each_one, each_if, in_filter_from, in_filter_map_from, in_take}
-use Rattle.agreement.proofs.Lists.{none_some}
-use Rattle.agreement.proofs.Grows.{each_below}
-use Rattle.agreement.proofs.Spoken.{if_some}
-use Rattle.agreement.proofs.Inside.{best_in, certificate_from, report_from}
+use Rattle.agreement.proofs.QuorumsStay.{each_below}
+use Rattle.agreement.proofs.SpokenByKind.{if_some}
+use Rattle.agreement.proofs.FramesInside.{best_in, certificate_from, report_from}
 use Rattle.words_in_place.proofs.Limits.{all_from, number_bounds, from_bounds, greatest_in, shown_low}
 use Rattle.words_in_place.proofs.Facts.{FactPlaced, rows_placed}
 use Rattle.words_in_place.proofs.Ordering.{WordPlaced, quorum_exact, quorum_alike, prepares_alike, mark_by_at}

@@ -10,6 +10,9 @@ use Rattle.std.specs.Str.{bytes_eq}
 use Rattle.std.proofs.lemmas.Bool.{false≢true, and_from, and_parts, leb-true, ltb-true, le-leb, lt-ltb, eq-eqb}
 use Rattle.std.proofs.lemmas.Bool.{eqb-true}
 use Rattle.std.proofs.lemmas.List.{length-map}
+use Rattle.plain_lists.specs.Lists.{IsIn, here, there, Each}
+use Rattle.plain_lists.proofs.Members.{each_none, each_one, each_append, each_if, each_map, each_flat_map, in_map_from, in_filter_from, in_filter_map, in_filter_map_from, in_take, in_flat_map_from, any_from, any_in, none_some, some_same}
+use Rattle.protocol_rules.proofs.FirstMet.{first_in, first_there}
 use Rattle.sha2.specs.Sha256.{sha256}
 use Rattle.quorum_sets.specs.Masters.{numbers_below, voters}
 use Rattle.quorum_sets.specs.Quorum.{has_quorum}
@@ -40,17 +43,12 @@ use Rattle.protocol_rules.specs.declared.facts.OrderFact.{OrderFact}
 use Rattle.protocol_rules.specs.Patience.{Moment}
 use Rattle.protocol_rules.specs.Lacking.{requests_wanted_to, requests_lacking_of, update_asks_due}
 use Rattle.protocol_rules.specs.Master.{summaries_due, waiting_for}
-use Rattle.history_rules.specs.Audit.{IsIn, here, there}
-use Rattle.agreement.proofs.Lists.{Each, each_none, each_one, each_append, each_if, each_map, each_flat_map}
-use Rattle.agreement.proofs.Lists.{in_map_from, in_filter_from, in_filter_map, in_filter_map_from, in_take, first_in}
-use Rattle.agreement.proofs.Lists.{in_flat_map_from}
-use Rattle.agreement.proofs.Lists.{first_there, any_from, any_in, none_some, some_same}
-use Rattle.agreement.proofs.Quorums.{below_from}
-use Rattle.agreement.proofs.Spoken.{each_elim, if_some}
-use Rattle.agreement.proofs.Inside.{bytes_same}
-use Rattle.agreement.proofs.Once.{length-filter_map}
-use Rattle.agreement.proofs.Grows.{filter_more, quorum_more}
-use Rattle.agreement.proofs.Requests.{certified_from}
+use Rattle.agreement.proofs.QuorumsMeet.{below_from}
+use Rattle.agreement.proofs.SpokenByKind.{each_elim, if_some}
+use Rattle.agreement.proofs.FramesInside.{bytes_same}
+use Rattle.agreement.proofs.SaidOnce.{length-filter_map}
+use Rattle.agreement.proofs.QuorumsStay.{filter_more, quorum_more}
+use Rattle.agreement.proofs.RequestsAgree.{certified_from}
 use Rattle.words_in_place.proofs.Limits.{all_from, all_each, same_bytes, number_from, from_bounds, number_in}
 use Rattle.words_in_place.proofs.Limits.{each_run, greatest_of-within, index_within}
 use Rattle.words_in_place.proofs.Ordering.{WordPlaced}

@@ -8,6 +8,8 @@ use Rattle.std.proofs.lemmas.Bool.{false≢true, and_parts, and_from, ltb-true, 
 use Rattle.std.proofs.lemmas.Grind.{flat_map-append}
 use Rattle.std.proofs.lemmas.List.{length-take}
 use Rattle.std.specs.List.{list_all, flat_map}
+use Rattle.plain_lists.specs.Lists.{IsIn, Each}
+use Rattle.plain_lists.proofs.Members.{each_none, each_append, none_in, in_left, in_cases, in_take, in_flat_map_from}
 use Rattle.message_types.specs.declared.signed.Signed.{Signed}
 use Rattle.message_types.specs.declared.body.Body.{Body}
 use Rattle.message_types.specs.Parts.{parts}
@@ -19,15 +21,13 @@ use Rattle.history_rules.specs.Events.{Event, Took, Entry, frame_taken, is_tick,
 use Rattle.history_rules.specs.Leaves.{leaves_for, room_of}
 use Rattle.history_rules.specs.Setup.{Setup, stands, is_correct_master, leaves_used, own, room, signed_from}
 use Rattle.history_rules.specs.Legal.{IsLegal, TakesWell, heard, says, says_in}
-use Rattle.history_rules.specs.Audit.{IsIn, parts_taken}
+use Rattle.history_rules.specs.Audit.{parts_taken}
 use Rattle.agreement.specs.Laws.{HasSizes}
-use Rattle.agreement.proofs.Lists.{Each, each_none, each_append, none_in, in_left, in_cases, in_take}
-use Rattle.agreement.proofs.Lists.{in_flat_map_from}
 use Rattle.agreement.proofs.Places.{by_growth, legal_before, stands_last, whole_upto}
-use Rattle.agreement.proofs.Known.{learned_by, known_then, known_then_from, hears, heard_then, heard_other}
-use Rattle.agreement.proofs.Known.{heard_silent, heard_more, signed_from_in, signed_from_bodies, correct_said}
-use Rattle.agreement.proofs.Origin.{heard_none}
-use Rattle.agreement.proofs.Once.{correct_actor}
+use Rattle.agreement.proofs.KnownAsItGrows.{learned_by, known_then, known_then_from, hears, heard_then, heard_other}
+use Rattle.agreement.proofs.KnownAsItGrows.{heard_silent, heard_more, signed_from_in, signed_from_bodies, correct_said}
+use Rattle.agreement.proofs.LearnedWasSaid.{heard_none}
+use Rattle.agreement.proofs.SaidOnce.{correct_actor}
 use Rattle.words_in_place.specs.Laws.{ticks_heard, MaySpeak, IsSaid}
 use Rattle.words_in_place.specs.Spellings.{is_signed}
 use Rattle.words_in_place.specs.Signing.{SignsWell, frames_at, LearnedIsSpelled, LearnedIsSigned, SaidFramesStand}

@@ -3,6 +3,8 @@ use Rattle.std.proofs.Common.{◌≡◌, ℕ, ◌+◌, ◌^◌, ◌<◌, ◌≤�
 use Rattle.std.proofs.Common.{nat_eq, nat_lt, refl, sym, ◌∙◌, subst, inl, inr, ◌⊎◌, arith}
 use Rattle.std.specs.List.{list_all, list_any, flat_map}
 use Rattle.std.proofs.lemmas.Bool.{false≢true, and_from, and_parts, le-leb, lt-ltb, eqb-true}
+use Rattle.plain_lists.specs.Lists.{IsIn, here, Each}
+use Rattle.plain_lists.proofs.Members.{none_in, each_none, each_one, each_append, each_if, each_flat_map, in_cons_cases, in_cases, in_left, in_right, in_map, in_flat_map, in_flat_map_from, in_map_from, in_filter_from, in_take}
 use Rattle.quorum_sets.specs.Masters.{numbers_below}
 use Rattle.message_types.specs.declared.signed.Signed.{Signed}
 use Rattle.message_types.specs.declared.updates.Update.{Update}
@@ -23,15 +25,11 @@ use Rattle.protocol_rules.specs.Lacking.{gift_for, gift_due}
 use Rattle.protocol_rules.specs.Master.{Heard, learned, taken_frames, known_at, taken_at, said_before, answers}
 use Rattle.protocol_rules.specs.Master.{moments_of, answered_in, is_give, is_order_given}
 use Rattle.protocol_rules.specs.Master.{told_of, vouchers_from, vouchers_said, vouchers_due, executed}
-use Rattle.history_rules.specs.Audit.{IsIn, here}
-use Rattle.agreement.proofs.Lists.{Each, none_in, each_none, each_one, each_append, each_if, each_flat_map}
-use Rattle.agreement.proofs.Lists.{in_cons_cases, in_cases, in_left, in_right, in_map, in_flat_map, in_flat_map_from}
-use Rattle.agreement.proofs.Lists.{in_map_from, in_filter_from, in_take}
-use Rattle.agreement.proofs.Quorums.{below_from}
-use Rattle.agreement.proofs.Spoken.{Due, Again, is_repeated, request_is_again, acks_are_again, summary_is_again}
-use Rattle.agreement.proofs.Spoken.{each_by_rules, answers_are_due}
-use Rattle.agreement.proofs.Inside.{closed_parts, due_inside}
-use Rattle.agreement.proofs.Origin.{known_closed, taken_known}
+use Rattle.agreement.proofs.QuorumsMeet.{below_from}
+use Rattle.agreement.proofs.SpokenByKind.{Due, Again, is_repeated, request_is_again, acks_are_again, summary_is_again}
+use Rattle.agreement.proofs.SpokenByKind.{each_by_rules, answers_are_due}
+use Rattle.agreement.proofs.FramesInside.{closed_parts, due_inside}
+use Rattle.agreement.proofs.LearnedWasSaid.{known_closed, taken_known}
 use Rattle.words_in_place.specs.Laws.{KnownIsClosed, PartsAreClosed, KnowsPlaced, RowsAreInPlace, OrderedAreInPlace}
 use Rattle.words_in_place.specs.Laws.{OfferedAreInPlace, PlansAreInPlace, MaySpeak, AnswersAreInPlace, IsSaid}
 use Rattle.words_in_place.specs.Laws.{OwnPartsAreInPlace, KnownStaysInPlace}

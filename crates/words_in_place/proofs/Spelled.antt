@@ -6,6 +6,9 @@ use Rattle.std.specs.List.{list_all, flat_map, filter_map, cons_option, take-map
 use Rattle.std.specs.Option.{option_map}
 use Rattle.std.proofs.lemmas.Bool.{and_from, and_parts, le-leb, lt-ltb}
 use Rattle.std.proofs.lemmas.List.{length-map}
+use Rattle.plain_lists.specs.Lists.{IsIn, here, Within, Each}
+use Rattle.plain_lists.proofs.Members.{in_filter_from, each_none, each_one, each_append, each_map, each_flat_map, in_cons_cases, in_left, in_right, in_map, in_map_from, in_flat_map, in_flat_map_from, in_filter_map_from, none_some}
+use Rattle.protocol_rules.proofs.FirstMet.{first_in}
 use Rattle.quorum_sets.specs.Masters.{numbers_below}
 use Rattle.message_types.specs.declared.signed.Signed.{Signed}
 use Rattle.message_types.specs.declared.updates.Update.{Update}
@@ -39,17 +42,13 @@ use Rattle.protocol_rules.specs.Order.{mark_by, certificate_of, last_certificate
 use Rattle.protocol_rules.specs.Views.{view, report_by, first_reports}
 use Rattle.protocol_rules.specs.Reconcile.{ack_of, quorum_of_acks}
 use Rattle.protocol_rules.specs.Master.{Heard, known_at, taken_at, said_before, answers}
-use Rattle.history_rules.specs.Audit.{IsIn, here}
 use Rattle.agreement.specs.Laws.{HasSizes}
-use Rattle.agreement.proofs.Lists.{Within, Each, in_filter_from, each_none, each_one, each_append, each_map}
-use Rattle.agreement.proofs.Lists.{each_flat_map, in_cons_cases, in_left, in_right, in_map, in_map_from, in_flat_map}
-use Rattle.agreement.proofs.Lists.{in_flat_map_from, in_filter_map_from, first_in, none_some}
-use Rattle.agreement.proofs.Quorums.{Rising, rising_take, rising_by_master}
-use Rattle.agreement.proofs.Spoken.{Due, answers_are_due, if_some}
-use Rattle.agreement.proofs.Inside.{Closed, due_inside, best_in, prepare_by_from, commit_by_from, certificate_from}
-use Rattle.agreement.proofs.Inside.{report_from, last_below_from, option_map_from}
-use Rattle.agreement.proofs.Origin.{known_closed, taken_known}
-use Rattle.agreement.proofs.Requests.{certified_from, requested_known}
+use Rattle.agreement.proofs.QuorumsMeet.{Rising, rising_take, rising_by_master}
+use Rattle.agreement.proofs.SpokenByKind.{Due, answers_are_due, if_some}
+use Rattle.agreement.proofs.FramesInside.{Closed, due_inside, best_in, prepare_by_from, commit_by_from, certificate_from}
+use Rattle.agreement.proofs.FramesInside.{report_from, last_below_from, option_map_from}
+use Rattle.agreement.proofs.LearnedWasSaid.{known_closed, taken_known}
+use Rattle.agreement.proofs.RequestsAgree.{certified_from, requested_known}
 use Rattle.words_in_place.specs.Laws.{IsSaid}
 use Rattle.words_in_place.specs.Spellings.{RowsInPlaceFit, NewViewsFit, CertifiedAreInPlace, PartsAreSpelled}
 use Rattle.words_in_place.specs.Spellings.{KnowsSpelled, AnswersAreSpelled, OwnPartsAreSpelled}

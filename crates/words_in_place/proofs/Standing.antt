@@ -3,6 +3,8 @@ use Rattle.std.proofs.Common.{◌≡◌, ℕ, ◌+◌, ◌<◌, Bool, true, List
 use Rattle.std.proofs.Common.{eqb-true}
 use Rattle.std.specs.List.{list_all}
 use Rattle.std.proofs.lemmas.Bool.{and_from, and_parts, ltb-true, lt-ltb}
+use Rattle.plain_lists.specs.Lists.{IsIn, Each}
+use Rattle.plain_lists.proofs.Members.{in_cons_cases}
 use Rattle.message_types.specs.declared.signed.Signed.{Signed}
 use Rattle.message_types.specs.declared.body.Body.{Body}
 use Rattle.message_types.specs.declared.body.Body.TheVariants as body
@@ -10,11 +12,9 @@ use Rattle.message_types.specs.Parts.{parts}
 use Rattle.message_types.specs.Spelling.{has_spelling}
 use Rattle.protocol_rules.specs.Group.{Group}
 use Rattle.protocol_rules.specs.Places.{in_place, word_in_place}
-use Rattle.protocol_rules.specs.Master.{Heard, known_at, taken_at, said_before, answers}
+use Rattle.protocol_rules.specs.Master.{Heard, known_at, answers}
 use Rattle.history_rules.specs.Setup.{Setup, stands}
-use Rattle.history_rules.specs.Audit.{IsIn}
-use Rattle.agreement.proofs.Lists.{Each, in_cons_cases}
-use Rattle.agreement.proofs.Spoken.{answers_are_due}
+use Rattle.agreement.proofs.SpokenByKind.{answers_are_due}
 use Rattle.words_in_place.specs.Laws.{MaySpeak}
 use Rattle.words_in_place.specs.Spellings.{KnowsSpelled, is_signed, OwnFramesStand}
 use Rattle.words_in_place.proofs.Limits.{all_from, all_each}

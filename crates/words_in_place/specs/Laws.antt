@@ -3,6 +3,7 @@
 use Rattle.std.specs.Prelude.{◌≡◌, ℕ, ◌+◌, ◌^◌, ◌<◌, ◌≤◌, Bool, true, List, [], ◌∷◌, ◌++◌, Option, Some, length}
 use Rattle.std.specs.Prelude.{filter, map, take, nat_eq, if◌then◌else◌}
 use Rattle.std.specs.List.{list_all, flat_map}
+use Rattle.plain_lists.specs.Lists.{IsIn}
 use Rattle.message_types.specs.declared.signed.Signed.{Signed}
 use Rattle.message_types.specs.declared.updates.Update.{Update}
 use Rattle.message_types.specs.declared.vouchers.Order.{Order}
@@ -17,7 +18,6 @@ use Rattle.protocol_rules.specs.Master.{Heard, learned, taken_frames, known_at, 
 use Rattle.history_rules.specs.Events.{Entry}
 use Rattle.history_rules.specs.Setup.{Setup, is_correct_master}
 use Rattle.history_rules.specs.Legal.{IsLegal, heard}
-use Rattle.history_rules.specs.Audit.{IsIn}
 use Rattle.agreement.specs.Laws.{HasSizes}
 
 -- with each word all frames inside it are known

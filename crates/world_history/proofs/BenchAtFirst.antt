@@ -25,7 +25,7 @@ use Rattle.client_roles.proofs.Going.{proxies_begin_fresh, screens_begin_fresh}
 use Rattle.world_rules.specs.Scenarios.{setup_of, group_in, key_in, masters_in, proxies_in}
 use Rattle.world_rules.proofs.Fields.{setup_goes_by, group_is, leaves_of_all}
 use Rattle.world_history.proofs.ScenarioCharges.{charged_by_setup}
-use Rattle.own_histories.proofs.BenchLists.{none_is_bench_list}
+use Rattle.history_laws.proofs.BenchLists.{none_is_bench_list}
 use Rattle.bench_rules.proofs.HeardEvents.{heard_none}
 use Rattle.world_entries.specs.declared.entry.Entry.{Entry as KeptEntry}
 use Rattle.world_entries.specs.Entries.{entry_of}

@@ -12,7 +12,7 @@ use Rattle.history_rules.specs.Setup.{is_correct, stands, room}
 use Rattle.history_rules.specs.Legal.{says_in}
 use Rattle.world_rules.specs.Clients.{front_of, desk_of, proxy_says, screen_says}
 use Rattle.world_rules.specs.Scenarios.{setup_of, masters_in, proxies_in}
-use Rattle.own_histories.specs.Lists.{AddsEntry, IsBenchList}
+use Rattle.history_laws.specs.BenchLists.{AddsEntry, IsBenchList}
 use Rattle.bench_rules.specs.Lists.{frames_after}
 use Rattle.client_roles.specs.Roles.{IsProxyAfter, IsScreenAfter, front_at, desk_at}
 use Rattle.client_roles.specs.Laws.{MaySay}

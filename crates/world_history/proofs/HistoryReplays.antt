@@ -12,10 +12,10 @@ use Rattle.scenario_file.specs.Reading.{Contents, cast_of}
 use Rattle.history_rules.specs.Events.{Event, Entry}
 use Rattle.history_rules.specs.Setup.{own}
 use Rattle.history_rules.specs.Legal.{says_in, TakesWell, Stands, IsLegal}
-use Rattle.agreement.proofs.Known.{own-append, own_first, own_other, own_none}
+use Rattle.agreement.proofs.KnownAsItGrows.{own-append, own_first, own_other, own_none}
 use Rattle.intruder_words.proofs.Walks.{take-next}
-use Rattle.own_histories.specs.Own.{IsOwnEntry}
-use Rattle.own_histories.proofs.OwnEntries.{own_of_legal, own_stands}
+use Rattle.history_laws.specs.Own.{IsOwnEntry}
+use Rattle.history_laws.proofs.OwnEntries.{own_of_legal, own_stands}
 use Rattle.world_rules.specs.Scenarios.{setup_of, actors_in}
 use Rattle.world_rules.proofs.Fields.{group_is}
 use Rattle.view_change.proofs.Best.{below_mapped}

@@ -12,7 +12,7 @@ use Rattle.scenario_file.specs.Reading.{Contents}
 use Rattle.history_rules.specs.Events.{Event, Entry, Cry, frame_taken}
 use Rattle.world_rules.specs.Frames.{cried, overheard}
 use Rattle.world_rules.specs.Scenarios.{setup_of, masters_in, proxies_in, fits_in}
-use Rattle.own_histories.proofs.BenchLists.{intruded_say_nothing}
+use Rattle.history_laws.proofs.BenchLists.{intruded_say_nothing}
 use Rattle.world_history.specs.Roles.{Comes, IsIntruded}
 
 -- all that an entry tells

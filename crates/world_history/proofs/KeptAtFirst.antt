@@ -12,8 +12,8 @@ use Rattle.scenario_file.specs.Valid.{IsScenario}
 use Rattle.history_rules.specs.Setup.{Setup, is_correct}
 use Rattle.world_rules.specs.Scenarios.{setup_of, group_in, masters_in}
 use Rattle.world_rules.proofs.Fields.{setup_goes_by}
-use Rattle.own_histories.proofs.BenchLists.{none_is_bench_list}
-use Rattle.own_histories.proofs.EntryByEntry.{nothing_stands}
+use Rattle.history_laws.proofs.BenchLists.{none_is_bench_list}
+use Rattle.history_laws.proofs.EntryByEntry.{nothing_stands}
 use Rattle.world_history.specs.State.{BenchState}
 use Rattle.world_history.specs.Lists.{EachFits, before_last, texts_of, replayed}
 use Rattle.world_history.specs.Keeping.{fails_within, entries_kept}

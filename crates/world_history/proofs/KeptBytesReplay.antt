@@ -17,7 +17,7 @@ use Rattle.history_rules.specs.Events.{Event, Took, Tick, Command, Field, Poll, 
 use Rattle.history_rules.specs.Setup.{stands}
 use Rattle.history_rules.specs.Legal.{Stands, TakesWell, says_in}
 use Rattle.world_rules.specs.Scenarios.{setup_of}
-use Rattle.own_histories.specs.Lists.{AddsEntry}
+use Rattle.history_laws.specs.BenchLists.{AddsEntry}
 use Rattle.world_history.specs.Signed.{ring_in}
 use Rattle.bench_rules.specs.Lists.{frames_after}
 use Rattle.world_history.proofs.StandingFrames.{stands_by_ring}

@@ -17,11 +17,11 @@ use Rattle.history_rules.specs.Events.{Event, Took, Tick, Command, Field, Poll, 
 use Rattle.history_rules.specs.Setup.{Setup, is_correct, stands}
 use Rattle.history_rules.specs.Keeping.{keeper_calls, is_halted}
 use Rattle.history_rules.specs.Legal.{Stands, TakesWell}
-use Rattle.own_histories.proofs.EntryByEntry.{last_or_before}
+use Rattle.history_laws.proofs.EntryByEntry.{last_or_before}
 use Rattle.world_rules.specs.Scenarios.{setup_of, masters_in, proxies_in}
 use Rattle.world_rules.proofs.Fields.{setup_goes_by, group_is}
-use Rattle.own_histories.specs.Lists.{AddsEntry}
-use Rattle.own_histories.proofs.BenchLists.{one_more_is_bench_list}
+use Rattle.history_laws.specs.BenchLists.{AddsEntry}
+use Rattle.history_laws.proofs.BenchLists.{one_more_is_bench_list}
 use Rattle.entry_texts.specs.Texts.{entry_text, kept_text}
 use Rattle.entry_texts.specs.Fits.{FitsEntry, HasCount}
 use Rattle.world_history.specs.State.{BenchState, setup_in, entry_at, with_entry, frames_said}

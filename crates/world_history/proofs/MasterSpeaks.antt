@@ -4,12 +4,12 @@ use Rattle.std.proofs.Common.{◌≡◌, ℕ, true, List, nat_eq, sym, ◌∙◌
 use Rattle.std.proofs.lemmas.Bool.{eq-eqb}
 use Rattle.history_rules.specs.Events.{Entry}
 use Rattle.history_rules.specs.Setup.{Setup, is_correct_master, leaves_used}
-use Rattle.agreement.proofs.Known.{signed_from_in, signed_from_bodies}
+use Rattle.agreement.proofs.KnownAsItGrows.{signed_from_in, signed_from_bodies}
 use Rattle.agreement.proofs.Places.{stands_in}
 use Rattle.words_in_place.proofs.Limits.{all_from}
 use Rattle.master_node.specs.Laws.{SilentSayNothing}
 use Rattle.master_node.proofs.Histories.{says_as_histories_do}
-use Rattle.own_histories.specs.Lists.{IsBenchList}
+use Rattle.history_laws.specs.BenchLists.{IsBenchList}
 use Rattle.bench_rules.specs.Lists.{frames_after}
 use Rattle.bench_rules.proofs.HeardEvents.{silent_says_nothing}
 use Rattle.world_history.specs.Laws.{MasterSays, MasterIsHanded}

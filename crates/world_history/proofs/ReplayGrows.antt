@@ -21,7 +21,7 @@ use Rattle.world_rules.specs.Scenarios.{setup_of, key_in, shares_leaves}
 use Rattle.world_rules.proofs.Fields.{setup_goes_by, leaves_of_all}
 use Rattle.bench_rules.specs.Lists.{frames_after}
 use Rattle.world_history.specs.Signed.{frames_with, ring_in}
-use Rattle.own_histories.proofs.BenchLists.{one_more_is_bench_list}
+use Rattle.history_laws.proofs.BenchLists.{one_more_is_bench_list}
 use Rattle.world_history.proofs.LeavesSuffice.{leaves_used_next, groups_use_leaves, leaves_enough, signed_by_signatures}
 use Rattle.world_history.proofs.StandingFrames.{stands_by_ring}
 use Rattle.world_history.specs.declared.role.Role.{Role}

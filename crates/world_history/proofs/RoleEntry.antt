@@ -8,11 +8,11 @@ use Rattle.scenario_file.specs.Reading.{Contents}
 use Rattle.history_rules.specs.Events.{Entry}
 use Rattle.history_rules.specs.Setup.{is_correct, is_correct_master, stands, leaves_used, signed_from}
 use Rattle.world_rules.specs.Scenarios.{setup_of}
-use Rattle.agreement.proofs.Once.{correct_actor}
+use Rattle.agreement.proofs.SaidOnce.{correct_actor}
 use Rattle.world_rules.proofs.Fields.{setup_goes_by, sizes_of_group}
 use Rattle.world_rules.proofs.Signed.{signatures_sign}
 use Rattle.bench_rules.specs.Lists.{frames_after}
-use Rattle.own_histories.proofs.BenchLists.{intruded_say_nothing}
+use Rattle.history_laws.proofs.BenchLists.{intruded_say_nothing}
 use Rattle.bench_rules.proofs.FramesStand.{master_frames_stand, master_words_fit}
 use Rattle.world_history.specs.declared.role.Role.{Role}
 use Rattle.world_history.specs.declared.role.Role.TheVariants as role

@@ -5,7 +5,7 @@ use Rattle.quorum_sets.specs.Masters.{numbers_below}
 use Rattle.scenario_file.specs.Reading.{Contents}
 use Rattle.history_rules.specs.Events.{Entry}
 use Rattle.history_rules.specs.Setup.{own}
-use Rattle.own_histories.specs.Own.{AreOwnHistories}
+use Rattle.history_laws.specs.Own.{AreOwnHistories}
 use Rattle.world_rules.specs.Scenarios.{actors_in, setup_of}
 use Rattle.world_history.specs.State.{BenchState}
 

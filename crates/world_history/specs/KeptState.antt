@@ -12,7 +12,7 @@ use Rattle.history_rules.specs.Events.{Event, is_restart}
 use Rattle.history_rules.specs.Setup.{Setup, is_correct}
 use Rattle.history_rules.specs.Keeping.{is_halted}
 use Rattle.world_rules.specs.Scenarios.{setup_of, group_in}
-use Rattle.own_histories.specs.Lists.{IsBenchList}
+use Rattle.history_laws.specs.BenchLists.{IsBenchList}
 use Rattle.world_history.specs.State.{BenchState, setup_in, entry_at, frames_said}
 use Rattle.world_history.specs.Lists.{EachFits, replayed, frames_of_last}
 use Rattle.world_history.specs.Keeping.{entries_kept, GoesWith}

@@ -13,7 +13,7 @@ use Rattle.history_rules.specs.Events.{Entry, frame_taken, is_tick, is_silent}
 use Rattle.history_rules.specs.Leaves.{leaves_for}
 use Rattle.history_rules.specs.Setup.{Setup, is_correct_master, stands, leaves_used, signed_from}
 use Rattle.history_rules.specs.Legal.{heard_in}
-use Rattle.own_histories.specs.Lists.{AddsEntry, IsBenchList}
+use Rattle.history_laws.specs.BenchLists.{AddsEntry, IsBenchList}
 use Rattle.master_knowledge.specs.Whole.{is_whole}
 use Rattle.master_node.specs.Charge.{IsChargeOf, says_at}
 use Rattle.master_node.specs.Laws.{charge_of}

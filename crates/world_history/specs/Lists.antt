@@ -8,7 +8,7 @@ use Rattle.history_rules.specs.Events.{Entry}
 use Rattle.history_rules.specs.Setup.{Setup}
 use Rattle.history_rules.specs.Legal.{Stands}
 use Rattle.world_rules.specs.Scenarios.{setup_of}
-use Rattle.own_histories.specs.Lists.{AddsEntry, IsBenchList}
+use Rattle.history_laws.specs.BenchLists.{AddsEntry, IsBenchList}
 use Rattle.bench_rules.specs.Lists.{frames_after}
 use Rattle.entry_texts.specs.Texts.{kept_text}
 use Rattle.entry_texts.specs.Fits.{FitsEntry}

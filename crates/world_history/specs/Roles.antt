@@ -21,7 +21,7 @@ use Rattle.world_rules.specs.Clients.{front_of, desk_of}
 use Rattle.world_rules.specs.Frames.{overheard}
 use Rattle.world_rules.specs.Scenarios.{setup_of, group_in as sizes_in, masters_in, proxies_in, fits_correct}
 use Rattle.client_roles.specs.Roles.{carries_well}
-use Rattle.own_histories.specs.Lists.{AddsEntry, IsBenchList}
+use Rattle.history_laws.specs.BenchLists.{AddsEntry, IsBenchList}
 use Rattle.world_history.specs.declared.role.Role.{Role}
 use Rattle.world_history.specs.declared.role.Role.TheVariants as role
 

@@ -12,7 +12,7 @@ use Rattle.history_rules.specs.Setup.{Setup, is_correct, leaves_used}
 use Rattle.history_rules.specs.Legal.{says_in}
 use Rattle.world_entries.specs.Entries.{entry_of}
 use Rattle.world_rules.specs.Scenarios.{setup_of, group_in, key_in}
-use Rattle.own_histories.specs.Lists.{IsBenchList}
+use Rattle.history_laws.specs.BenchLists.{IsBenchList}
 use Rattle.bench_rules.specs.Lists.{frames_after}
 use Rattle.world_history.specs.declared.role.Role.{Role}
 use Rattle.world_history.specs.declared.seat.Seat.{Seat}

@@ -1,4 +1,4 @@
-ghost use Rattle.std.specs.Prelude.{◌≡◌, ◌+◌, ◌<◌, ◌≤◌, ◌^◌, ◌++◌, ◌∷◌, [], true, Some, length, List, IfOk, OnOk, IsErrOf};
+ghost use Rattle.std.specs.Prelude.{◌≡◌, ◌+◌, ◌<◌, ◌≤◌, ◌++◌, ◌∷◌, [], true, Some, List, IfOk, OnOk, IsErrOf};
 ghost use Rattle.std.specs.List.{list_all};
 ghost use Rattle.outside.specs.Faults.{HasRisen};
 ghost use Rattle.outside.specs.Keepers.{KeepCounts, lists_of};
@@ -7,7 +7,7 @@ ghost use Rattle.scenario_file.specs.Valid.{IsScenario};
 ghost use Rattle.history_rules.specs.Events.{Entry as HistoryEntry};
 ghost use Rattle.history_rules.specs.Setup.{stands};
 ghost use Rattle.world_rules.specs.Scenarios.{setup_of, group_in};
-ghost use Rattle.own_histories.specs.Lists.{AddsEntry};
+ghost use Rattle.history_laws.specs.BenchLists.{AddsEntry};
 ghost use Rattle.bench_rules.specs.Lists.{frames_after};
 ghost use Rattle.world_history.specs.State.{setup_in};
 ghost use Rattle.entry_texts.specs.Texts.{kept_text};

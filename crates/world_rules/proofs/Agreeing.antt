@@ -3,11 +3,11 @@ use Rattle.std.proofs.Common.{◌≡◌, ◌⊎◌, ℕ, Bool, true, List, filte
 use Rattle.std.specs.List.{list_all, starts_with}
 use Rattle.std.proofs.lemmas.Bool.{or_left, or_right}
 use Rattle.std.proofs.lemmas.Slice.Eq.{starts_is}
+use Rattle.plain_lists.specs.Lists.{Begins}
+use Rattle.plain_lists.proofs.Members.{in_filter_from}
 use Rattle.message_types.specs.declared.updates.Update.{Update}
 use Rattle.quorum_sets.specs.Masters.{numbers_below}
-use Rattle.agreement.specs.Laws.{Begins}
-use Rattle.agreement.proofs.Lists.{in_filter_from}
-use Rattle.audit_counts.proofs.Same.{update_test}
+use Rattle.history_laws.proofs.Same.{update_test}
 use Rattle.words_in_place.proofs.Limits.{all_from}
 use Rattle.history_rules.specs.Events.{Entry}
 use Rattle.history_rules.specs.Setup.{Setup, is_correct_master}

@@ -4,3 +4,6 @@ pub mod Signed
 pub mod Agreeing
 pub mod Headline
 pub mod Clients
+pub mod Shown
+pub mod Numbered
+pub mod Following

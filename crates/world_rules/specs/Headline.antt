@@ -2,22 +2,25 @@
 -- forged and no digest is shared. (Prime's and PBFT's agreement, and Spire's plant, as this project states them.)
 use Rattle.std.specs.Prelude.{◌≡◌, ◌≤◌, ◌<◌, ◌⊎◌, ℕ, ◌+◌, Bool, true, ◌||◌, List, ◌∷◌, ◌++◌, filter, map}
 use Rattle.std.specs.List.{list_all, starts_with, enumerate_from}
+use Rattle.plain_lists.specs.Lists.{Begins, IsIn}
 use Rattle.message_types.specs.declared.updates.Update.{Update}
 use Rattle.message_types.specs.declared.body.Body.TheVariants as body
+use Rattle.message_types.specs.declared.vouchers.Notice.{Notice}
+use Rattle.message_types.specs.declared.vouchers.Order.TheVariants as order
 use Rattle.quorum_sets.specs.Masters.{numbers_below}
 use Rattle.master_points.specs.Orders.{orders}
 use Rattle.field_proxy.specs.declared.writes.Write.{Write}
 use Rattle.scenario_file.specs.Reading.{Contents}
 use Rattle.scenario_file.specs.Valid.{IsScenario}
-use Rattle.agreement.specs.Laws.{Begins, FirstTaking}
-use Rattle.plant_agreement.specs.Laws.{numbered_order}
+use Rattle.agreement.specs.Laws.{FirstTaking}
+use Rattle.world_rules.specs.Plant.{numbered_order}
 use Rattle.history_rules.specs.Events.{Entry}
 use Rattle.history_rules.specs.Setup.{Setup, is_correct_master, own}
 use Rattle.history_rules.specs.Legal.{IsLegal, executions}
-use Rattle.history_rules.specs.Audit.{IsIn, HasSaid}
+use Rattle.history_rules.specs.Audit.{HasSaid}
 use Rattle.history_rules.specs.Counts.{forged, alike, intruded_masters}
 use Rattle.history_rules.specs.Sameness.{is_same_update}
-use Rattle.world_rules.specs.Clients.{front_of}
+use Rattle.world_rules.specs.Clients.{front_of, desk_of, board_of}
 use Rattle.world_rules.specs.Scenarios.{setup_of, group_in, proxies_in}
 
 -- At most f masters are intruded, no word is forged, no digest is shared: by the counts that an audit prints.
@@ -49,6 +52,19 @@ WritesBegin c history proxy =
     × Begins (map numbered_order (writes_in c history proxy))
     (enumerate_from 1 (orders c.plant c.settings.screens (executions (setup_of c) history i) proxy))
 
+-- what the screen of a client shows
+abbrev pub notices_in : Contents → List Entry → ℕ → List Notice
+notices_in c history screen =
+    board_of (desk_of (group_in c).n (group_in c).f screen (own history ((group_in c).n + screen)))
+
+-- The notices on the screen, in the order in which they are printed, are the first of the orders that some correct master's
+-- executions make for it.
+abbrev pub BoardBegins : Contents → List Entry → ℕ → Type 0
+BoardBegins c history screen =
+    (i : ℕ) × (is_correct_master (setup_of c) i ≡ true)
+    × Begins (map (λ n. order.Notice n) (notices_in c history screen))
+    (orders c.plant c.settings.screens (executions (setup_of c) history i) screen)
+
 -- What a reader may rely on.
 pub record Agreed (c : Contents) (history : List Entry) : Type 0 where
   -- of any two correct masters' executions one begins the other
@@ -64,6 +80,8 @@ pub record Agreed (c : Contents) (history : List Entry) : Type 0 where
       → (came : FirstTaking (setup_of c) history i u) × HasSaid came.before ((group_in c).n + u.client) (body.Update u)
   -- each proxy's writes, with their numbers, begin some correct master's orders for it
   pub written : (proxy : ℕ) → proxy < proxies_in c → WritesBegin c history proxy
+  -- each screen's notices begin some correct master's orders for it
+  pub shown : (screen : ℕ) → proxies_in c ≤ screen → screen < (group_in c).clients → BoardBegins c history screen
   -- so what is printed of agreement is yes
   pub yes : agrees (setup_of c) history ≡ true
 

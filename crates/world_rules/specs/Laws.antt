@@ -13,7 +13,7 @@ use Rattle.scenario_file.specs.Valid.{IsScenario}
 use Rattle.history_rules.specs.Events.{Event, Entry}
 use Rattle.history_rules.specs.Setup.{Setup}
 use Rattle.agreement.specs.Laws.{HasSizes}
-use Rattle.plant_agreement.specs.Laws.{GoesByPlant}
+use Rattle.world_rules.specs.Plant.{GoesByPlant}
 use Rattle.words_in_place.specs.Signing.{SignsWell}
 use Rattle.world_rules.specs.Scenarios.{group_in, key_in, shares_leaves, signature_in, client_in, fits_in, setup_of}
 

@@ -3,3 +3,4 @@ pub mod Frames
 pub mod Scenarios
 pub mod Headline
 pub mod Laws
+pub mod Plant

@@ -2,7 +2,7 @@
 ghost use Rattle.std.specs.Prelude.{◌≡◌, ◌+◌, ◌++◌, length, map, IfOk, OnOk, option_copied, option_map, option_to_list};
 ghost use Rattle.std.specs.List.{filter_map};
 ghost use Rattle.world_history.specs.State.{executed_if};
-ghost use Rattle.run_questions.specs.TrendAnswers.{greatest_reached};
+ghost use Rattle.protocol_rules.specs.Words.{greatest_reached as greatest_reached_of};
 
 use history_audit::Executes;
 use message_types::Update;
@@ -18,7 +18,7 @@ pub(crate) fn executed_by_more(
     scenario: &Scenario,
     benches: &[Bench],
 ) -> Result<u64, Want>
-    ensures { IfOk result (λ count. count ≡ greatest_reached (scenario.now.sizes.f + 1) (map length (filter_map executed_if benches.now))) }
+    ensures { IfOk result (λ count. count ≡ greatest_reached_of (scenario.now.sizes.f + 1) (map length (filter_map executed_if benches.now))) }
 {
     let counts = executed_counts(alloc, benches)?;
     Ok(greatest_reached(counts.as_slice(), scenario.sizes.f + 1))

@@ -1,4 +1,4 @@
-use Rattle.agreement.proofs.Blame.{commits_once}
+use Rattle.agreement.proofs.SaidOneWay.{commits_once}
 use Rattle.agreement.proofs.laws.commits_once.Goals as goal
 
 pub returns : goal.returns

@@ -1,4 +1,4 @@
-use Rattle.agreement.proofs.Executions.{committed_stays}
+use Rattle.agreement.proofs.ExecutionsAgree.{committed_stays}
 use Rattle.agreement.proofs.laws.committed_stays.Goals as goal
 
 pub returns : goal.returns

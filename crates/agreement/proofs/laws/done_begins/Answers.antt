@@ -1,4 +1,4 @@
-use Rattle.agreement.proofs.Done.{done_begins}
+use Rattle.agreement.proofs.DoneIsVouched.{done_begins}
 use Rattle.agreement.proofs.laws.done_begins.Goals as goal
 
 pub returns : goal.returns

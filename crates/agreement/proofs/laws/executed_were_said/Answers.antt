@@ -1,4 +1,4 @@
-use Rattle.agreement.proofs.Taking.{executed_were_said}
+use Rattle.agreement.proofs.UpdatesAreTaken.{executed_were_said}
 use Rattle.agreement.proofs.laws.executed_were_said.Goals as goal
 
 pub returns : goal.returns

@@ -1,4 +1,4 @@
-use Rattle.agreement.proofs.Vouched.{executions_grow}
+use Rattle.agreement.proofs.VouchedIsOrdered.{executions_grow}
 use Rattle.agreement.proofs.laws.executions_grow.Goals as goal
 
 pub returns : goal.returns

@@ -1,4 +1,4 @@
-use Rattle.agreement.proofs.Executions.{none_executed_twice}
+use Rattle.agreement.proofs.ExecutionsAgree.{none_executed_twice}
 use Rattle.agreement.proofs.laws.none_executed_twice.Goals as goal
 
 pub returns : goal.returns

@@ -1,4 +1,4 @@
-use Rattle.agreement.proofs.Executions.{ordered_agree}
+use Rattle.agreement.proofs.ExecutionsAgree.{ordered_agree}
 use Rattle.agreement.proofs.laws.ordered_agree.Goals as goal
 
 pub returns : goal.returns

@@ -1,4 +1,4 @@
-use Rattle.agreement.proofs.Blame.{prepares_once}
+use Rattle.agreement.proofs.SaidOneWay.{prepares_once}
 use Rattle.agreement.proofs.laws.prepares_once.Goals as goal
 
 pub returns : goal.returns

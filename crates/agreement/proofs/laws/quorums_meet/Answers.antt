@@ -1,4 +1,4 @@
-use Rattle.agreement.proofs.Quorums.{meet_at}
+use Rattle.agreement.proofs.QuorumsMeet.{meet_at}
 use Rattle.agreement.proofs.laws.quorums_meet.Goals as goal
 
 pub returns : goal.returns

@@ -1,4 +1,4 @@
-use Rattle.agreement.proofs.Induction.{view_induction}
+use Rattle.agreement.proofs.ViewsInTurn.{view_induction}
 use Rattle.agreement.proofs.laws.view_induction.Goals as goal
 
 pub returns : goal.returns

@@ -1,4 +1,4 @@
-use Rattle.agreement.proofs.Spread.{votes_are_known}
+use Rattle.agreement.proofs.QuorumsAreBacked.{votes_are_known}
 use Rattle.agreement.proofs.laws.votes_are_known.Goals as goal
 
 pub returns : goal.returns

@@ -1,4 +1,4 @@
-use Rattle.agreement.proofs.Vouched.{vouched_begin}
+use Rattle.agreement.proofs.VouchedIsOrdered.{vouched_begin}
 use Rattle.agreement.proofs.laws.vouched_begin.Goals as goal
 
 pub returns : goal.returns

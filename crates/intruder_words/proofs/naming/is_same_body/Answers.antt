@@ -1,7 +1,7 @@
 -- The call and the rules' test are both true exactly of equal bodies, so they answer alike.
 use Rattle.std.proofs.Common.{◌≡◌, Bool, true, false, refl, sym}
 use Rattle.history_rules.specs.Sameness.{is_same_body}
-use Rattle.audit_counts.proofs.Same.{body_test}
+use Rattle.history_laws.proofs.Same.{body_test}
 use Rattle.intruder_words.proofs.naming.is_same_body.Goals as goal
 
 same_truth : (a b : Bool) → (a ≡ true → b ≡ true) → (b ≡ true → a ≡ true) → a ≡ b

@@ -1,7 +1,7 @@
 -- What the order was told is alike, for the question, to the facts of the frames gone over; each spelled frame
 -- adds its own. So at the end it is alike to all facts known.
 use Rattle.std.proofs.Common.{arith}
-use Rattle.agreement.proofs.Lists.{all_at}
+use Rattle.plain_lists.proofs.Members.{all_at}
 use Rattle.message_types.specs.Spelling.{has_spelling}
 use Rattle.protocol_rules.specs.Group.{group_of}
 use Rattle.intruder_words.proofs.Fits.{body-of-spelled}

@@ -1,7 +1,7 @@
 -- The facts told are those from before and the rows of the certificates gone over, just the facts of the
 -- report; no vote is among them.
 use Rattle.std.proofs.Common.{map, arith}
-use Rattle.agreement.proofs.Lists.{all_at}
+use Rattle.plain_lists.proofs.Members.{all_at}
 use Rattle.message_types.specs.declared.ordering.Certificate.{Certificate}
 use Rattle.protocol_rules.specs.declared.facts.OrderFact.{OrderFact}
 use Rattle.protocol_rules.specs.declared.facts.OrderFact.TheVariants as fact

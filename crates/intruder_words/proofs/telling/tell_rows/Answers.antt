@@ -1,7 +1,7 @@
 -- The facts told are those from before and the lists of rows gone over; each turn takes the next, which fits a
 -- spelling as all do.
 use Rattle.std.proofs.Common.{arith}
-use Rattle.agreement.proofs.Lists.{all_at}
+use Rattle.plain_lists.proofs.Members.{all_at}
 use Rattle.message_types.specs.Spelling.{rows_fit}
 use Rattle.protocol_rules.specs.declared.facts.OrderFact.TheVariants as fact
 use Rattle.history_rules.proofs.Entries.{at_place}

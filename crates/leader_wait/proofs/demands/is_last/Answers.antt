@@ -1,4 +1,4 @@
-use Rattle.std.proofs.Common.{◌≡◌, ◌+◌, ◌-◌, ℕ, length, ◌<◌, refl, sym, ◌∙◌, arith}
+use Rattle.std.proofs.Common.{◌-◌, ◌<◌, refl, sym, ◌∙◌, arith}
 use Rattle.std.specs.VecDeque.{deque_len}
 use Rattle.leader_wait.proofs.Stretches.{ends-last}
 use Rattle.leader_wait.proofs.demands.is_last.Goals as goal

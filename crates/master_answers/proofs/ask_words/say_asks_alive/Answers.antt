@@ -1,6 +1,6 @@
 -- The asks for requests are said first. They are none for numbers, so those due after them are those due before. Both
 -- together are what counts as said from then on.
-use Rattle.std.proofs.Common.{◌≡◌, ℕ, ◌++◌, List, [], sym, ◌∙◌, ap, subst, append_assoc}
+use Rattle.std.proofs.Common.{◌≡◌, ℕ, ◌++◌, List, [], ◌∙◌, ap, subst, append_assoc}
 use Rattle.message_types.specs.declared.signed.Signed.{Signed}
 use Rattle.message_types.specs.declared.body.Body.{Body}
 use Rattle.protocol_rules.specs.Group.{Group}

@@ -2,10 +2,10 @@
 -- That none are found can't be.
 use Rattle.std.proofs.Common.{◌≡◌, ℕ, ◌+◌, ◌≤◌, List, [], ◌∷◌, ◌++◌, sym, ◌∙◌, ap, subst, arith}
 use Rattle.std.proofs.lemmas.Result.{on_ok_weaker}
+use Rattle.plain_lists.proofs.Members.{some_same, none_some}
 use Rattle.protocol_rules.specs.Group.{most_number}
 use Rattle.protocol_rules.specs.Order.{gapless, ordered}
 use Rattle.execution.specs.Ran.{IsRunOf}
-use Rattle.agreement.proofs.Lists.{some_same, none_some}
 use Rattle.master_knowledge.proofs.NextRows.{gapless_small, next_rows}
 use Rattle.master_knowledge.proofs.numbers.take_number.Goals as goal
 

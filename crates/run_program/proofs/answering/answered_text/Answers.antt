@@ -1,6 +1,5 @@
 -- A text that tells a history is answered over it by the benches that the replay made. One that tells none is
 -- refused for the fault of its reading.
-use Rattle.std.proofs.Common.{◌∙◌}
 use Rattle.scenario_file.specs.Reading.{contents}
 use Rattle.run_program.proofs.Answered.{gives_answer, gives_no_answer}
 use Rattle.world_history.proofs.AuditAsks.{all_unsigned}

@@ -2,7 +2,6 @@
 -- is refused for the fault of its reading.
 use Rattle.std.proofs.Common.{◌∙◌}
 use Rattle.scenario_file.specs.Reading.{contents}
-use Rattle.printed_history.specs.Reading.{told_history}
 use Rattle.run_program.proofs.Giving.{gives_replay, gives_no_history}
 use Rattle.world_history.proofs.AuditAsks.{all_unsigned}
 use Rattle.run_program.proofs.replayed.replayed_text.Goals as goal

@@ -3,7 +3,8 @@
 use Rattle.std.proofs.Common.{◌≡◌, ℕ, length, ◌∙◌, ap, arith}
 use Rattle.std.proofs.lemmas.List.{length-set}
 use Rattle.protocol_rules.specs.Matrix.{column}
-use Rattle.summary_matrix.specs.Held.{reached_by, rows_at}
+use Rattle.protocol_rules.specs.Words.{greatest_reached}
+use Rattle.summary_matrix.specs.Held.{rows_at}
 use Rattle.summary_matrix.proofs.Loops.{told_more}
 use Rattle.summary_matrix.proofs.matrix.reach_of.Goals as goal
 
@@ -12,7 +13,7 @@ loop-place-preserved c =
     let many : length c.loop-place.reach.numbers ≡ 14 = c.loop-place.invariant.0 in (
       length-set c.loop-place.reach.numbers c.loop-place.place c.greatest_reached.result ∙ many,
       told_more c.loop-place.reach.numbers c.loop-place.place c.greatest_reached.result
-          (λ (j : ℕ). reached_by c.args.least (column (rows_at c.args.masters c.args.latest.now) j)) (omega arith)
+          (λ (j : ℕ). greatest_reached c.args.least (column (rows_at c.args.masters c.args.latest.now) j)) (omega arith)
           c.loop-place.invariant.1
-          (c.greatest_reached.ensures ∙ ap (reached_by c.args.least) (c.leading.ensures ∙ c.column-numbers.ensures)),
+          (c.greatest_reached.ensures ∙ ap (greatest_reached c.args.least) (c.leading.ensures ∙ c.column-numbers.ensures)),
     )

@@ -1,5 +1,5 @@
 -- One moment more: its demand joins those of its view, and its ticks count.
-use Rattle.std.proofs.Common.{◌≡◌, ◌+◌, ◌≤◌, ◌<◌, ℕ, nat_eq, refl, sym, ◌∙◌, ap, subst, arith}
+use Rattle.std.proofs.Common.{◌≡◌, ◌+◌, ◌<◌, nat_eq, refl, sym, ◌∙◌, ap, subst, arith}
 use Rattle.quorum_sets.proofs.MastersLemmas.{bool_byte-cond}
 use Rattle.leader_wait.specs.Waiting.{Waiting, IsWaitOf, IsInTime, noted}
 use Rattle.leader_wait.proofs.Stretches.{seen, in_time, few_ticks}

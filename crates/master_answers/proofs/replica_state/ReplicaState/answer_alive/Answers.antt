@@ -7,12 +7,11 @@ use Rattle.message_types.specs.declared.signed.Signed.{Signed}
 use Rattle.message_types.specs.declared.updates.Update.{Update}
 use Rattle.message_types.specs.declared.vouchers.Order.{Order}
 use Rattle.message_types.specs.declared.body.Body.{Body}
-use Rattle.quorum_sets.specs.Masters.{numbers_below}
 use Rattle.quorum_sets.specs.declared.limits.TheConstants.{MOST_CLIENTS}
 use Rattle.protocol_rules.specs.Group.{Group, is_live}
 use Rattle.protocol_rules.specs.Facts.{facts_of}
 use Rattle.protocol_rules.specs.Matrix.{reach}
-use Rattle.protocol_rules.specs.Order.{ordered_run, commits_due, marks_due}
+use Rattle.protocol_rules.specs.Order.{ordered_run, commits_due}
 use Rattle.protocol_rules.specs.Measures.{ticks_of}
 use Rattle.protocol_rules.specs.Patience.{votes_due}
 use Rattle.protocol_rules.specs.Turns.{is_slow_beat}
@@ -33,16 +32,15 @@ use Rattle.reconcile.specs.Shares.{AreSharesOf}
 use Rattle.words_by_part.specs.Laws.{told_at, moments_at, waiting_at, AreByLivePart}
 use Rattle.words_by_part.proofs.Answering.{answers_by_live_part}
 use Rattle.master_knowledge.specs.declared.knowledge.Knowledge.{Knowledge}
-use Rattle.master_knowledge.specs.Knows.{Knows, IsKnowledge, IsCaughtUp}
+use Rattle.master_knowledge.specs.Knows.{Knows, IsCaughtUp}
 use Rattle.leader_proposals.specs.Saying.{IsSummaryOf}
 use Rattle.words_by_part.specs.Kinds.{is_of, giving}
 use Rattle.master_answers.specs.Asked.{ask_of, answered_by}
-use Rattle.master_answers.specs.Replica.{IsReplicaOf, IsReplicaState, HoldsOrders, clients_of, past_at}
+use Rattle.master_answers.specs.Replica.{IsReplicaOf, HoldsOrders, clients_of, past_at}
 use Rattle.master_answers.proofs.Answered.{answered_are}
 use Rattle.master_answers.proofs.Asking.{updates_asked_for, orders_asked_for}
 use Rattle.master_answers.proofs.Caught.{still_known, offered_by_then, few_rows, view_few}
 use Rattle.master_answers.proofs.Counted.{counts_are}
-use Rattle.master_answers.proofs.Joining.{pair}
 use Rattle.master_answers.proofs.Reporting.{view_alike}
 use Rattle.master_answers.proofs.Requests.{words_said as requests_count}
 use Rattle.master_answers.proofs.Speaking.{Words, vouchers_are}

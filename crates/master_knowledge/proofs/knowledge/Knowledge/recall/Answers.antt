@@ -2,10 +2,10 @@
 -- that is in place is in place itself.
 use Rattle.std.proofs.Common.{◌≡◌, ◌+◌, suc, true, List, [], ◌∷◌, ◌++◌, take, sym, ◌∙◌, ap, subst, arith}
 use Rattle.std.proofs.Common.{append_assoc}
+use Rattle.plain_lists.specs.Lists.{IsIn}
 use Rattle.message_types.specs.declared.signed.Signed.{Signed}
 use Rattle.message_types.specs.declared.body.Body.{Body}
 use Rattle.protocol_rules.specs.Group.{Group}
-use Rattle.history_rules.specs.Audit.{IsIn}
 use Rattle.master_knowledge.specs.Whole.{is_whole}
 use Rattle.master_knowledge.specs.Knows.{Knows}
 use Rattle.master_knowledge.proofs.Whole.{part_whole, take_next}

@@ -1,4 +1,4 @@
-use Rattle.std.proofs.Common.{sym, ◌∙◌, ap}
+use Rattle.std.proofs.Common.{◌∙◌, ap}
 use Rattle.reconcile.specs.Asking.{is_among}
 use Rattle.reconcile.specs.AskState.{AskState}
 use Rattle.reconcile.proofs.Sets.{among_is}

@@ -1,0 +1,12 @@
+pub mod EntryByEntry
+pub mod OwnEntries
+pub mod Stamps
+pub mod MergedHistories
+pub mod BenchLists
+pub mod Same
+pub mod Forged
+pub mod Alike
+pub mod Merged
+pub mod Sound
+pub mod Unmerged
+pub mod LeavesSignOnce

@@ -1,5 +1,0 @@
-use Rattle.own_histories.proofs.MergedHistories.{merged_is_legal, merged_has_own_lists}
-use Rattle.own_histories.proofs.laws.merged_is_legal.Goals as goal
-
-pub returns : goal.returns
-returns c = record { legal = merged_is_legal; own = merged_has_own_lists }
