@@ -3580,8 +3580,9 @@ def history_lines(data):
     return (parts[:-1] if whole else parts), whole
 
 
-def read_history(scenario, data):
-    """(benches, entries) of a legal history; raises LineRefusal BadLine or NotLegal."""
+def read_history(scenario, data, watch=None):
+    """(benches, entries) of a legal history; raises LineRefusal BadLine or NotLegal. `watch` is told each entry with its
+    bench, and how far the actor had come before it."""
     lines, whole = history_lines(data)
 
     def good(x):
@@ -3614,7 +3615,7 @@ def read_history(scenario, data):
     entries = []
     for x, item in enumerate(items):
         try:
-            entries.append(legal_entry(scenario, benches, entries, x, item))
+            entries.append(legal_entry(scenario, benches, entries, x, item, watch))
         except _NoActor:
             raise LineRefusal('NotLegal', x)
     return benches, entries
@@ -3682,7 +3683,7 @@ def entry_line(line):
     return stamp, actor, event, kinds
 
 
-def legal_entry(sc, benches, entries, x, item):
+def legal_entry(sc, benches, entries, x, item, watch=None):
     stamp, name, event, kinds = item
     who = sc.actor_of(*name)
     if stamp != x or who is None:
@@ -3705,9 +3706,12 @@ def legal_entry(sc, benches, entries, x, item):
         raise _NoActor()
     if not bench.fits(event):
         raise _NoActor()
+    came = (len(bench.executions()), len(bench.board()), bench.view())
     e = bench.act(x, event)
     if [f.body.kind for f in e.said] != kinds:
         raise _NoActor()
+    if watch is not None:
+        watch(bench, e, *came)
     return e
 
 
@@ -4006,6 +4010,89 @@ class TrendBoard:
 # The program
 # ---------------------------------------------------------------------------
 
+# ---------------------------------------------------------------------------
+# Delays
+# ---------------------------------------------------------------------------
+
+class Watched:
+    """What happened in a history, entry by entry, and the text of its delays. Times are (stamp, the actor's ticks)."""
+
+    def __init__(self, scenario):
+        self.scenario = scenario
+        self.masters = [i for i in range(scenario.sizes.n) if i not in scenario.intruded]
+        self.ticks = [0] * scenario.actors
+        self.said = []         # (client, t, stamp, ticks of all actors then)
+        self.ended = {}        # (actor, client, t): times at which it was executed or answered
+        self.executions = []   # the stamps of all executions
+        self.views = [(0, 0)]  # each view with the stamp at which it began
+        self.votes = set()     # (view, master)
+
+    def entry(self, bench, e, executed, shown, view):
+        me, n, stamp = bench.actor, self.scenario.sizes.n, e.stamp
+        if e.event[0] == 'tick':
+            self.ticks[me] += 1
+        if bench.view() > max(view, self.views[-1][0]):
+            self.views.append((bench.view(), stamp))
+        for f in e.said:
+            if f.body.kind == UPDATE:
+                self.said.append((f.body.a[0], f.body.a[1], stamp, list(self.ticks)))
+            elif f.body.kind == SUSPECT:
+                self.votes.add((f.body.a[0], me))
+        for u in bench.executions()[executed:]:
+            self.executions.append(stamp)
+            self.ended.setdefault((me, u.a[0], u.a[1]), []).append((stamp, self.ticks[me]))
+        for _, _, t, _ in bench.board()[shown:]:
+            self.ended.setdefault((me, me - n, t), []).append((stamp, self.ticks[me]))
+
+    def outcomes(self):
+        """(client, t, stamp, actor, tick, None or (stamp, entries, ticks)) of each update at each actor."""
+        n = self.scenario.sizes.n
+        for client, t, stamp, ticks in self.said:
+            own = [] if self.scenario.is_proxy(n + client) else [n + client]
+            for a in self.masters + own:
+                after = [x for x in self.ended.get((a, client, t), []) if x[0] >= stamp]
+                delay = (after[0][0], after[0][0] - stamp, after[0][1] - ticks[a]) if after else None
+                yield client, t, stamp, a, ticks[a], delay
+
+    def text(self, count):
+        sc, n = self.scenario, self.scenario.sizes.n
+        out = [f'views {len(self.views)}']
+        for x, (view, begun) in enumerate(self.views):
+            to = self.views[x + 1][1] if x + 1 < len(self.views) else None
+            end = count if to is None else to
+            marks = [begun] + [s for s in self.executions if begun <= s < end] + [end]
+            idle = max(b - a for a, b in zip(marks, marks[1:]))
+            votes = len([m for m in self.masters if (view, m) in self.votes])
+            out.append(f'view {view} leader m{view % n} from {begun}' + ('' if to is None else f' to {to}')
+                       + f' votes {votes} idle {idle}')
+        outcomes = list(self.outcomes())
+        pairs = sorted({(w[0], w[3]) for w in outcomes})
+        out.append(f'spreads {len(pairs)}')
+        for client, a in pairs:
+            mine = [w for w in outcomes if (w[0], w[3]) == (client, a)]
+            ended = [w[5] for w in mine if w[5] is not None]
+            line = f'{sc.name(n + client)} at {sc.name(a)} said {len(mine)} ended {len(ended)}'
+            for word, at in (('entries', 1), ('ticks', 2)):
+                line += f' {word} ' + ' '.join(str(x) for x in figures([d[at] for d in ended]))
+            out.append(line)
+        lacks = []
+        for client, t, stamp, _ in self.said:
+            executed = len([m for m in self.masters if any(x[0] >= stamp for x in self.ended.get((m, client, t), []))])
+            if executed < len(self.masters):
+                lacks.append(f'{sc.name(n + client)} {t} said {stamp} executed {executed}')
+        out += [f'unexecuted {len(lacks)}'] + lacks + [f'outcomes {len(outcomes)}']
+        for client, t, stamp, a, tick, delay in outcomes:
+            end = 'never' if delay is None else 'ended {} entries {} ticks {}'.format(*delay)
+            out.append(f'{sc.name(n + client)} {t} said {stamp} at {sc.name(a)} tick {tick} {end}')
+        return ''.join(x + '\n' for x in out)
+
+
+def figures(numbers):
+    """The greatest numbers that more than half, a tenth and a hundredth of them reach, and the greatest of all."""
+    falling = sorted(numbers, reverse=True)
+    return [falling[len(falling) // part] if falling else 0 for part in (2, 10, 100)] + [falling[0] if falling else 0]
+
+
 class End(Exception):
     def __init__(self, status, line):
         super().__init__(status, line)
@@ -4046,7 +4133,7 @@ def usage():
 
 
 COMMANDS = {'play': (3, 5), 'run': (3, 12), 'replay': (2, 11), 'make': (1, 11), 'keys': (1, 5), 'verify': (3, 3),
-            'parts': (4, 18), 'rebuild': (2, 18), 'blame': (2, 19), 'trend': (5, 20)}
+            'parts': (4, 18), 'rebuild': (2, 18), 'blame': (2, 19), 'trend': (5, 20), 'delays': (2, 20)}
 
 
 def clap_u32(s):
@@ -4064,10 +4151,10 @@ def load_scenario(files, name):
         raise End(4, f'spire: scenario {e}')
 
 
-def load_history(files, sc, name):
+def load_history(files, sc, name, watch=None):
     data = files.load(name)
     try:
-        return read_history(sc, data)
+        return read_history(sc, data, watch)
     except LineRefusal as e:
         raise End(5, f'spire: history {e}')
 
@@ -4175,7 +4262,10 @@ def command(args, files):
         if got is None:
             raise End(9, 'spire: rebuild NoText')
         return f'text {got[0].hex()}\n' + ''.join(f'wrong m{i}\n' for i in got[1])
-    benches, entries = load_history(files, sc, rest[1])
+    watched = Watched(sc)
+    benches, entries = load_history(files, sc, rest[1], watched.entry)
+    if name == 'delays':
+        return watched.text(len(entries))
     if name == 'replay':
         return write_run(sc, benches, entries)
     masters = [b for b in benches[:sc.sizes.n] if not b.is_intruded]

@@ -6,7 +6,7 @@ use Rattle.clap.specs.Walk.{Row, Text, Walk, finished, idle, nothing_held, walk_
 use Rattle.clap.specs.ValueTests.{is_unsigned_in}
 use Rattle.clap.proofs.OnLiterals.{clap_on_literals}
 use Rattle.command_words.specs.Wanted.{IsPlain, IsWhole, Wanted, command_in, is_command, number_in, wanted_in, words_of}
-use Rattle.command_words.specs.Wanted.{play, run, replay, make, keys, verify, parts, rebuild, blame, trend}
+use Rattle.command_words.specs.Wanted.{play, run, replay, make, keys, verify, parts, rebuild, blame, trend, delays}
 use Rattle.command_words.proofs.Walks.{IsWord, Runs, ends, held, is_taken_if, leaf, level_taken, name_is_word, state}
 use Rattle.command_words.proofs.Walks.{steps, text_row, word_steps}
 use Rattle.command_words.proofs.Numbers.{below_whole, whole_is_in, whole_is_word, whole_reads, written_is_in}
@@ -172,6 +172,19 @@ trend_asks a b c d e nc nd ne wa wb wc wd we ec ed ee hc hd he =
       wanted = ap (asked_at 9 (codes "trend")) runs.walked_to ∙ rw (hc, hd, he) refl;
     }
 
+-- ---- delays
+
+delays_asks : (a b : Text) → IsWord a → IsWord b → Asks (codes "delays" ∷ a ∷ b ∷ []) (delays a b)
+unfolding clap_on_literals
+delays_asks a b wa wb =
+    let runs : Runs (leaf 10) (walk_from nothing_held) (a ∷ b ∷ [])
+    (end_at (text_row (codes "scenario") a ∷ []) (codes "history") b 3) =
+    word_steps (leaf 10) _ _ _ a _ _ wa refl (word_steps (leaf 10) _ _ _ b _ _ wb refl (ends (leaf 10) _)) in
+    record {
+      taken = ap is_taken_if (level_taken (leaf 10) _ _ runs refl);
+      wanted = ap (asked_at 10 (codes "delays")) runs.walked_to;
+    }
+
 -- ---- all
 
 plain : (w : Wanted) → IsPlain w → Asks (words_of w) w
@@ -202,6 +215,8 @@ plain (trend scenario history point first last) h = trend_asks scenario history 
     (whole_is_word point h.2) (whole_is_word first h.3) (whole_is_word last h.4) (whole_is_in point h.2)
     (whole_is_in first h.3) (whole_is_in last h.4) (whole_reads point h.2) (whole_reads first h.3)
     (whole_reads last h.4)
+plain (delays scenario history) h =
+    delays_asks scenario history (name_is_word scenario h.0) (name_is_word history h.1)
 
 pub plain_taken : (w : Wanted) → IsPlain w → is_command (words_of w) ≡ true
 plain_taken w h = (plain w h).taken

@@ -1,4 +1,4 @@
--- The command line as `clap` is to have it: ten subcommands, each with required words, numbers of a range among them.
+-- The command line as `clap` is to have it: eleven subcommands, each with required words, numbers of a range among them.
 -- It is this project's own. How `clap` reads words for it is the kit's definition (`fault_of`, `subcommand_of`).
 use Rattle.std.specs.Prelude.{◌≡◌, ℕ, true, false, List, [], ◌∷◌, Some, codes}
 use Rattle.clap.specs.Words.{App, Rule, Shape, Text, app_of, new_rule}
@@ -63,6 +63,9 @@ abbrev pub trend_shape : Shape
 trend_shape = command (codes "trend") (text_rule (codes "scenario") ∷ text_rule (codes "history")
     ∷ whole_rule (codes "point") ∷ whole_rule (codes "first") ∷ whole_rule (codes "last") ∷ [])
 
+abbrev pub delays_shape : Shape
+delays_shape = command (codes "delays") (text_rule (codes "scenario") ∷ text_rule (codes "history") ∷ [])
+
 -- the words begin with the subcommand, and one is required
 abbrev pub top_shape : Shape
 top_shape = record (new_shape (codes "spire")) {
@@ -75,7 +78,7 @@ abbrev pub spire_app : App
 spire_app = record {
   top = top_shape;
   subs = play_shape ∷ run_shape ∷ replay_shape ∷ make_shape ∷ keys_shape ∷ verify_shape ∷ parts_shape ∷ rebuild_shape
-      ∷ blame_shape ∷ trend_shape ∷ [];
+      ∷ blame_shape ∷ trend_shape ∷ delays_shape ∷ [];
 }
 
 -- the command has this shape, no subcommand and no global argument

@@ -22,6 +22,7 @@ pub data Wanted : Type 0 where
   rebuild : Text → Text → Wanted
   blame : Text → Text → Wanted
   trend : Text → Text → ℕ → ℕ → ℕ → Wanted
+  delays : Text → Text → Wanted
 
 abbrev pub wanted : Asked → Wanted
 wanted (asked.Play scenario script words) = play scenario.now script.now words.now
@@ -34,6 +35,7 @@ wanted (asked.Parts scenario history originator number) = parts scenario.now his
 wanted (asked.Rebuild scenario pieces) = rebuild scenario.now pieces.now
 wanted (asked.Blame scenario history) = blame scenario.now history.now
 wanted (asked.Trend scenario history point first last) = trend scenario.now history.now point first last
+wanted (asked.Delays scenario history) = delays scenario.now history.now
 
 -- The words are a command: `clap` refuses them for no cause but want of memory.
 abbrev pub is_command : List Text → Bool
@@ -103,6 +105,10 @@ trend_in rows = with_text (codes "scenario") rows (λ scenario.
     with_number (codes "first") rows (λ first.
     with_number (codes "last") rows (λ last. Some (trend scenario history point first last))))))
 
+abbrev pub delays_in : List Row → Option Wanted
+delays_in rows = with_text (codes "scenario") rows (λ scenario.
+    with_text (codes "history") rows (λ history. Some (delays scenario history)))
+
 abbrev pub command_in : Text → List Row → Option Wanted
 command_in name rows = if bytes_eq name (codes "play") then play_in rows
     else (if bytes_eq name (codes "run") then run_in rows
@@ -113,7 +119,8 @@ command_in name rows = if bytes_eq name (codes "play") then play_in rows
     else (if bytes_eq name (codes "parts") then parts_in rows
     else (if bytes_eq name (codes "rebuild") then rebuild_in rows
     else (if bytes_eq name (codes "blame") then blame_in rows
-    else (if bytes_eq name (codes "trend") then trend_in rows else None)))))))))
+    else (if bytes_eq name (codes "trend") then trend_in rows
+    else (if bytes_eq name (codes "delays") then delays_in rows else None))))))))))
 
 -- the command that `clap` found, by its name and its rows
 abbrev pub asked_in : Option (Text × List Row) → Option Wanted
@@ -140,6 +147,7 @@ words_of (rebuild scenario pieces) = codes "rebuild" ∷ scenario ∷ pieces ∷
 words_of (blame scenario history) = codes "blame" ∷ scenario ∷ history ∷ []
 words_of (trend scenario history point first last) =
     codes "trend" ∷ scenario ∷ history ∷ decimal point ∷ decimal first ∷ decimal last ∷ []
+words_of (delays scenario history) = codes "delays" ∷ scenario ∷ history ∷ []
 
 -- a name isn't empty and doesn't begin with a hyphen, whose number is 45
 abbrev pub IsName : Text → Type 0
@@ -164,3 +172,4 @@ IsPlain (rebuild scenario pieces) = IsName scenario × IsName pieces
 IsPlain (blame scenario history) = IsName scenario × IsName history
 IsPlain (trend scenario history point first last) =
     IsName scenario × IsName history × IsWhole point × IsWhole first × IsWhole last
+IsPlain (delays scenario history) = IsName scenario × IsName history

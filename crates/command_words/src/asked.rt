@@ -3,7 +3,7 @@ ghost use Rattle.std.specs.Prelude.{◌≡◌, option_map};
 ghost use Rattle.clap.specs.Words.{first_of, found_of, rows_of, subcommand_rows_of};
 ghost use Rattle.command_words.specs.Wanted.{asked_in, number_of, wanted};
 ghost use Rattle.command_words.specs.Wanted.{play_in, run_in, replay_in, make_in, keys_in};
-ghost use Rattle.command_words.specs.Wanted.{verify_in, parts_in, rebuild_in, blame_in, trend_in};
+ghost use Rattle.command_words.specs.Wanted.{verify_in, parts_in, rebuild_in, blame_in, trend_in, delays_in};
 
 use clap::ArgMatches;
 
@@ -67,6 +67,11 @@ pub enum Asked<'a> {
         point: u32,
         first: u32,
         last: u32,
+    },
+    /// Print how long updates took.
+    Delays {
+        scenario: &'a str,
+        history: &'a str,
     },
 }
 
@@ -180,6 +185,15 @@ fn trend<'a>(found: &ArgMatches<'a>) -> Option<Asked<'a>>
     })
 }
 
+fn delays<'a>(found: &ArgMatches<'a>) -> Option<Asked<'a>>
+    ensures { option_map wanted result ≡ delays_in (rows_of (found_of found.now)) }
+{
+    Some(Asked::Delays {
+        scenario: text(found, "scenario")?,
+        history: text(found, "history")?,
+    })
+}
+
 /// The command that `clap` found, with its values.
 pub fn asked_of<'a>(matches: &ArgMatches<'a>) -> Option<Asked<'a>>
     ensures { option_map wanted result ≡ asked_in (subcommand_rows_of matches.now) }
@@ -196,6 +210,7 @@ pub fn asked_of<'a>(matches: &ArgMatches<'a>) -> Option<Asked<'a>>
         "rebuild" => rebuild(found),
         "blame" => blame(found),
         "trend" => trend(found),
+        "delays" => delays(found),
         _ => None,
     }
 }

@@ -169,7 +169,7 @@ acknowledged w history beginning m j k live legal begins correct left low one mo
         ]
 
 -- the frame is a request of this number
-requested_from : (j k signer : ℕ) (word : Body) (sig : List ℕ) (x : Update) →
+pub requested_from : (j k signer : ℕ) (word : Body) (sig : List ℕ) (x : Update) →
     update_requested j k record { signer = signer; body = word; sig = sig } ≡ Some x
     → (r : PoRequest) × (word ≡ body.PoRequest r) × (signer ≡ j) × (r.k ≡ k) × (r.update.body ≡ x)
 requested_from j k signer (body.PoRequest r) sig x e =
@@ -213,7 +213,7 @@ is_requested j r signer word sig by is =
     (sym is) (ap (λ (c : Bool). cond c (Some r.update.body) None)
     (and_from (nat_eq signer j) (nat_eq r.k r.k) (eq-eqb signer j by) (eq-eqb r.k r.k refl)))
 
-find_there : {X : Type 0} (f : X → Bool) {x : X} {xs : List X} → IsIn x xs → f x ≡ true → (y : X) × (find f xs ≡ Some y)
+pub find_there : {X : Type 0} (f : X → Bool) {x : X} {xs : List X} → IsIn x xs → f x ≡ true → (y : X) × (find f xs ≡ Some y)
 find_there {X} f {x} (here rest) e = (x, ap (λ (b : Bool). cond b (Some x) (find f rest)) e)
 find_there {X} f {x} (there z rest h) e = by (f z) (find_there f h e)
   where

@@ -172,7 +172,7 @@ module _ (w : Setup) (history : List Entry) (i : ℕ) (legal : IsLegal w history
       ] in
       omega arith
 
-summary_from : (i signer : ℕ) (word : Body) (sig : List ℕ) (f : Signed PoSummary) →
+pub summary_from : (i signer : ℕ) (word : Body) (sig : List ℕ) (f : Signed PoSummary) →
     summary_of i record { signer = signer; body = word; sig = sig } ≡ Some f → (signer ≡ i) × (word ≡ body.PoSummary f.body)
 summary_from i signer (body.PoSummary b) sig f e =
     let is = if_some (nat_eq signer i) e in
@@ -220,7 +220,7 @@ latest_tells w history m i j s legal unforged correct right low knows =
     (said_of found.0 (body.PoSummary best.0.body) found.1 is.0 is.1)
     (best_tells_most (filter_map (summary_of i) known) best.0 frame best.1 among) j low)
 
-count_mapped : {X : Type 0} (f : X → ℕ) (t : ℕ → Bool) (xs : List X) →
+pub count_mapped : {X : Type 0} (f : X → ℕ) (t : ℕ → Bool) (xs : List X) →
     length (filter t (map f xs)) ≡ length (filter (λ x. t (f x)) xs)
 count_mapped f t [] = refl
 count_mapped {X} f t (x ∷ xs) = by (t (f x)) (count_mapped f t xs)
@@ -324,7 +324,7 @@ summary_sent g m i s = elim (cases_eq m i) [
 ]
 
 -- the column of a master in the latest rows
-column_of_latest : (g : Group) (known : List (Signed Body)) (j : ℕ) → column (latest_rows g known) j
+pub column_of_latest : (g : Group) (known : List (Signed Body)) (j : ℕ) → column (latest_rows g known) j
     ≡ map (λ i. slice_index (numbers_of (latest known i)) j) (numbers_below g.n)
 column_of_latest g known j = twice (numbers_below g.n)
   where

@@ -41,7 +41,7 @@ use Rattle.progress.proofs.Turning.{Follows, next_follows}
 use Rattle.progress.proofs.Turned.{SameRequests, requests_then}
 
 -- the last update that was introduced for a client was
-introduced_in : (said : List Body) (c : ℕ) → 1 ≤ last_introduced said c → (q : PoRequest) × IsIn (body.PoRequest q) said
+pub introduced_in : (said : List Body) (c : ℕ) → 1 ≤ last_introduced said c → (q : PoRequest) × IsIn (body.PoRequest q) said
     × (client_of q ≡ c) × (number_of q ≡ last_introduced said c)
 introduced_in said c h =
     let requests : List PoRequest = filter (λ (b : PoRequest). nat_eq b.update.body.client c) (requests_said said) in

@@ -1,12 +1,9 @@
 -- Pre-ordering in rounds, put together: what a connected master requested is eligible at each of them four rounds later.
-use Rattle.std.proofs.Common.{◌≡◌, ℕ, ◌+◌, ◌*◌, ◌≤◌, true, List, ◌++◌, arith}
-use Rattle.message_types.specs.declared.preordering.PoRequest.{PoRequest}
+use Rattle.std.proofs.Common.{◌≡◌, ◌+◌, ◌*◌, ◌≤◌, List, ◌++◌, arith}
 use Rattle.message_types.specs.declared.body.Body.TheVariants as body
-use Rattle.protocol_rules.specs.Group.{Group, is_live}
+use Rattle.protocol_rules.specs.Group.{Group}
 use Rattle.history_rules.specs.Events.{Entry}
-use Rattle.history_rules.specs.Setup.{Setup}
 use Rattle.history_rules.specs.Legal.{IsLegal}
-use Rattle.history_rules.specs.Audit.{HasSaid}
 use Rattle.agreement.specs.Laws.{HasSizes}
 use Rattle.agreement.proofs.Places.{legal_before, unforged_before}
 use Rattle.progress.specs.Laws.{EligibleInFourRounds}

@@ -15,3 +15,14 @@ pub mod Voting
 pub mod Offering
 pub mod Preparing
 pub mod Committing
+pub mod Proposing
+pub mod Proposed
+pub mod Settled
+pub mod Worthy
+pub mod Ordered
+pub mod Offers
+pub mod Spreading
+pub mod Caused
+pub mod InOrder
+pub mod Counted
+pub mod FirstLeader

@@ -41,7 +41,7 @@ left_before w xs ys m h = room_before w.shared_leaves w.leaves (leaves_used w (o
     (leaves_used w (own ys m)) (ap (leaves_used w) (own-append xs ys m) ∙ used_then w (own xs m) (own ys m)) h
 
 -- a run is at least as long as there is something
-run_reaches : {X : Type 0} (f : ℕ → Option X) (start most reach : ℕ) → reach ≤ most →
+pub run_reaches : {X : Type 0} (f : ℕ → Option X) (start most reach : ℕ) → reach ≤ most →
     ((k : ℕ) → start ≤ k → k < start + reach → (x : X) × (f k ≡ Some x)) → reach ≤ length (run_from f start most)
 unfolding run_from
 run_reaches f start most zero fits some = omega arith

@@ -54,7 +54,7 @@ run_has {X} f start (suc most) k low high = by (f start) refl high (λ above bel
       | inr same ↦ let is : start ≡ k = omega arith in (x, subst (λ (i : ℕ). f i ≡ Some x) is e)
     ]
 
-vector_has : (g : Group) (known : List (Signed Body)) (j i : ℕ) → 1 ≤ i → i ≤ vector g known j →
+pub vector_has : (g : Group) (known : List (Signed Body)) (j i : ℕ) → 1 ≤ i → i ≤ vector g known j →
     (u : Update) × (certified g known j i ≡ Some u)
 unfolding vector
 vector_has g known j i above below = run_has (λ k. certified g known j k) 1 most_number i above (omega arith)

@@ -36,13 +36,13 @@ prepare_sent g m i b = elim (cases_eq m i) [
   | inr apart ↦ inr (not_from_false (nat_eq m i) (ne_eqb m i apart))
 ]
 
-commit_sent : (g : Group) (m i : ℕ) (b : Commit) → (m ≡ i) ⊎ (goes_to g i (body.Commit b) m ≡ true)
+pub commit_sent : (g : Group) (m i : ℕ) (b : Commit) → (m ≡ i) ⊎ (goes_to g i (body.Commit b) m ≡ true)
 commit_sent g m i b = elim (cases_eq m i) [
   | inl same ↦ inl same
   | inr apart ↦ inr (not_from_false (nat_eq m i) (ne_eqb m i apart))
 ]
 
-self_bytes : (xs : List ℕ) → bytes_eq xs xs ≡ true
+pub self_bytes : (xs : List ℕ) → bytes_eq xs xs ≡ true
 self_bytes xs = (bytes_eq-Decides xs xs).1 refl
 
 -- what a prepare or a commit that is known tells
@@ -57,7 +57,7 @@ told_prepare g known p b among is = in_flat_map (tells g) among (by p.signer p.b
     by signer word sig is = subst (λ (x : Body). IsIn (fact.Prepare record { signer = signer; body = b; sig = sig })
         (tells g record { signer = signer; body = x; sig = sig })) (sym is) (here [])
 
-told_commit : (g : Group) (known : List (Signed Body)) (p : Signed Body) (b : Commit) → IsIn p known →
+pub told_commit : (g : Group) (known : List (Signed Body)) (p : Signed Body) (b : Commit) → IsIn p known →
     p.body ≡ body.Commit b → IsIn (fact.Commit record { signer = p.signer; body = b; sig = p.sig }) (facts_of g known)
 unfolding facts_of
 told_commit g known p b among is = in_flat_map (tells g) among (by p.signer p.body p.sig is)

@@ -1,4 +1,5 @@
 ghost use Rattle.progress.specs.Laws.{KnownGrows, WordsArrive, AllIsSaid, RequestsOnce, TurnsInARound, CertifiedInARound, ReachedInTwoRounds, EligibleInTwoRounds, EligibleInFourRounds, LeaderOffers, OfferedIsPrepared, PreparesArrive, PreparedIsCommitted, CommitsArrive, IntroducedInARound};
+ghost use Rattle.progress.specs.FirstView.{OfferedIsProposed, ProposedInTurn, OrderedIsProposed, ProposedIsWorth, ProposedIsPrepared, ProposedIsOrdered, RequestedIsProposed, ExecutionsSpread, EligibleWasRequested, UnderFirstLeader};
 
 /// What a master knows only grows, at its end.
 pub fn known_grows()
@@ -73,4 +74,54 @@ pub fn offered_is_prepared()
 /// What a correct master knows to be prepared in its view it has committed.
 pub fn prepared_is_committed()
     ensures { PreparedIsCommitted }
+{}
+
+/// In view 0 what is offered as a number is what its leader proposed.
+pub fn offered_is_proposed()
+    ensures { OfferedIsProposed }
+{}
+
+/// The leader of view 0 proposes its numbers in turn, each once.
+pub fn proposed_in_turn()
+    ensures { ProposedInTurn }
+{}
+
+/// What a connected master knows to be prepared or ordered in view 0 is what its leader proposed.
+pub fn ordered_is_proposed()
+    ensures { OrderedIsProposed }
+{}
+
+/// What the leader of view 0 proposed each connected master finds worth a prepare a round later.
+pub fn proposed_is_worth()
+    ensures { ProposedIsWorth }
+{}
+
+/// What the leader of view 0 proposed each connected master has prepared a round later.
+pub fn proposed_is_prepared()
+    ensures { ProposedIsPrepared }
+{}
+
+/// What the leader of view 0 proposed each connected master has ordered three rounds later, with all lower numbers.
+pub fn proposed_is_ordered()
+    ensures { ProposedIsOrdered }
+{}
+
+/// What a connected master requested the leader of view 0 has proposed five rounds later.
+pub fn requested_is_proposed()
+    ensures { RequestedIsProposed }
+{}
+
+/// What one connected master executed in view 0 each has executed three rounds later, where it lacks no request.
+pub fn executions_spread()
+    ensures { ExecutionsSpread }
+{}
+
+/// What rows proposed in view 0 make eligible of a connected master it requested before.
+pub fn eligible_was_requested()
+    ensures { EligibleWasRequested }
+{}
+
+/// Progress under the leader of view 0: what a client handed to a connected door each connected master has executed nine rounds later.
+pub fn under_first_leader()
+    ensures { UnderFirstLeader }
 {}

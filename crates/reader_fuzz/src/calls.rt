@@ -8,8 +8,8 @@ use std::alloc::Global;
 use std::sync::Wait;
 use std::thread::Threads;
 
-const COMMANDS: [&str; 10] = [
-    "play", "run", "replay", "make", "keys", "verify", "parts", "rebuild", "blame", "trend",
+const COMMANDS: [&str; 11] = [
+    "play", "run", "replay", "make", "keys", "verify", "parts", "rebuild", "blame", "trend", "delays",
 ];
 
 /// What a call came to.

@@ -1,6 +1,6 @@
 -- What comes next is one step, but for the text of a run in threads, which may be one of several.
 use Rattle.std.proofs.Common.{inl, inr, ◌≡◌, ℕ, Bool, true, false, List, [], ◌∷◌, Option, None, Some, sym, ◌∙◌, true≢false}
-use Rattle.command_words.specs.Wanted.{Wanted, play, run, replay, make, keys, verify, parts, rebuild, blame, trend}
+use Rattle.command_words.specs.Wanted.{Wanted, play, run, replay, make, keys, verify, parts, rebuild, blame, trend, delays}
 use Rattle.command_words.specs.Wanted.{is_command, wanted_in}
 use Rattle.command_ends.specs.Steps.{Step}
 use Rattle.command_ends.specs.Complete.{IsAlike}
@@ -35,6 +35,7 @@ certain-command r (run scenario script words hands turns) contents one other sin
 certain-command r (parts scenario history originator number) contents one other single a b = a ∙ sym b
 certain-command r (rebuild scenario pieces) contents one other single a b = a ∙ sym b
 certain-command r (blame scenario history) contents one other single a b = a ∙ sym b
+certain-command r (delays scenario history) contents one other single a b = a ∙ sym b
 certain-command r (trend scenario history point first last) contents one other single a b = a ∙ sym b
 
 certain-asked : (r : Readers) (is : Bool) (asked : Option Wanted) (contents : List (List ℕ)) (one other : Step) →
@@ -72,6 +73,7 @@ alike-command r (verify public message sig) contents one other a b =
 alike-command r (parts scenario history originator number) contents one other a b = alike-same one other (a ∙ sym b)
 alike-command r (rebuild scenario pieces) contents one other a b = alike-same one other (a ∙ sym b)
 alike-command r (blame scenario history) contents one other a b = alike-same one other (a ∙ sym b)
+alike-command r (delays scenario history) contents one other a b = alike-same one other (a ∙ sym b)
 alike-command r (trend scenario history point first last) contents one other a b = alike-same one other (a ∙ sym b)
 
 alike-asked : (r : Readers) (is : Bool) (asked : Option Wanted) (contents : List (List ℕ)) (one other : Step) →

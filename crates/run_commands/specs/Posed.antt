@@ -1,6 +1,6 @@
 -- The commands that ask a question over a history. (This project's own.)
 use Rattle.std.specs.Prelude.{ℕ, List, Option, None, Some}
-use Rattle.command_words.specs.Wanted.{Wanted, parts, blame, trend}
+use Rattle.command_words.specs.Wanted.{Wanted, parts, blame, trend, delays}
 use Rattle.run_commands.specs.declared.questions.Question.{Question}
 use Rattle.run_commands.specs.declared.questions.Question.TheVariants as question
 
@@ -9,4 +9,5 @@ abbrev pub posed : Wanted → Option (List ℕ × List ℕ × Question)
 posed (parts scenario history originator number) = Some (scenario, history, question.Parts originator number)
 posed (blame scenario history) = Some (scenario, history, question.Blame)
 posed (trend scenario history point first last) = Some (scenario, history, question.Trend point first last)
+posed (delays scenario history) = Some (scenario, history, question.Delays)
 posed _ = None

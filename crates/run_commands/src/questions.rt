@@ -13,6 +13,8 @@ pub enum Question {
     Blame,
     /// A point's changes among the executions from one number to another, both included and counted from 1.
     Trend { point: u32, first: u32, last: u32 },
+    /// How long updates took.
+    Delays,
 }
 
 /// The names of the scenario and the history that a question is asked over, where a question is asked.
@@ -34,6 +36,7 @@ pub fn posed<'a>(asked: Asked<'a>) -> Option<(&'a str, &'a str, Question)>
             first,
             last,
         } => Some((scenario, history, Question::Trend { point, first, last })),
+        Asked::Delays { scenario, history } => Some((scenario, history, Question::Delays)),
         _ => None,
     }
 }

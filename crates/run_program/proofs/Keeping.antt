@@ -10,7 +10,7 @@ use Rattle.run_commands.specs.Keeps.{KeepsCommands}
 use Rattle.run_program.specs.Keeps.{Keeps}
 use Rattle.run_program.specs.Whole.{program_readers}
 use Rattle.run_program.proofs.Requested.{keeps_parts, keeps_rebuild}
-use Rattle.run_program.proofs.Worth.{keeps_blame, keeps_trend}
+use Rattle.run_program.proofs.Worth.{keeps_blame, keeps_delays, keeps_trend}
 
 -- the laws of what is asked over a history
 pub record Laws : Type 0 where
@@ -32,6 +32,7 @@ keeps laws call err status kept = record {
   headline = kept.headline;
   blame = keeps_blame laws.proved laws.quorums laws.correct call err status kept.answers;
   trend = keeps_trend laws.one laws.all laws.matches call err status kept.answers;
+  delays = keeps_delays call err status kept.answers;
   parts = keeps_parts laws.printed laws.rebuild call err status kept.answers;
   rebuild = keeps_rebuild laws.enough call err status kept.requests;
 }

@@ -1,10 +1,11 @@
--- What blame and trends are worth, of each call that puts one.
+-- What blame, delays and trends are worth, of each call that puts one.
 use Rattle.std.proofs.Common.{◌≡◌, ℕ, List, Result, Ok, Err, refl, ◌∙◌, ap}
 use Rattle.outside.specs.Piece.{with_piece}
 use Rattle.scenario_file.specs.Reading.{Contents}
 use Rattle.history_rules.specs.Events.{Entry}
 use Rattle.run_questions.specs.BlameLaws.{BlamedAreProved, QuorumsAreBlamed, CorrectAreNotBlamed}
 use Rattle.run_questions.specs.BlameText.{blame_text}
+use Rattle.run_questions.specs.DelaysText.{delays_in}
 use Rattle.run_questions.specs.TrendAnswers.{trend_in}
 use Rattle.run_questions.specs.TrendLaws.{PrintsTheChangesOfOne, PrintsTheChangesOfAll, AlwaysMatches}
 use Rattle.run_questions.specs.declared.trend.fault.TrendRefusal.{TrendRefusal}
@@ -17,6 +18,7 @@ use Rattle.run_commands.specs.declared.questions.Question.TheVariants as questio
 use Rattle.run_commands.specs.Answered.{Answered, Unanswered, KeepsAnswers}
 use Rattle.run_program.specs.Asked.{trend_lack, trend_or_lack}
 use Rattle.run_program.specs.Blame.{Blames, KeepsBlame}
+use Rattle.run_program.specs.Delays.{TellsDelays, KeepsDelays}
 use Rattle.run_program.specs.Trends.{ShowsTrend, ShowsNoTrend, KeepsTrend}
 use Rattle.run_program.specs.Whole.{program_readers}
 
@@ -41,6 +43,19 @@ pub keeps_blame : BlamedAreProved → QuorumsAreBlamed → CorrectAreNotBlamed �
     → KeepsAnswers program_readers call err status → KeepsBlame call status
 keeps_blame proved many intruded call err status keeps zero asked =
     blames proved many intruded call (keeps.answers zero question.Blame asked)
+
+tells_delays : (call : Call) → Answered whole_runs call question.Delays → TellsDelays call
+tells_delays call a = record {
+  scenario = a.scenario;
+  history = a.history;
+  spells = a.spells;
+  put = a.put ∙ ap (with_piece call.put_before) (same_text (delays_in a.scenario a.history) a.text a.answered);
+}
+
+-- what each call of `delays` tells that ends well
+pub keeps_delays : (call : Call) (err : ErrorSink) (status : ℕ) → KeepsAnswers whole_runs call err status →
+    KeepsDelays call status
+keeps_delays call err status keeps zero asked = tells_delays call (keeps.answers zero question.Delays asked)
 
 trend_of : (told : Result (List ℕ) TrendRefusal) (text : List ℕ) → trend_or_lack told ≡ Ok text → told ≡ Ok text
 trend_of (Ok made) text is = let same : made ≡ text = cc in ap Ok same

@@ -9,6 +9,7 @@ use Rattle.run_questions.specs.BlameText.{blame_text}
 use Rattle.part_lines.specs.declared.fault.RebuildRefusal.{RebuildRefusal}
 use Rattle.part_lines.specs.declared.fault.RebuildRefusal.TheVariants as rebuild
 use Rattle.part_lines.specs.Rebuilding.{rebuilt_in}
+use Rattle.run_questions.specs.DelaysText.{delays_in}
 use Rattle.run_questions.specs.PartsText.{parts_in}
 use Rattle.run_questions.specs.declared.parts.text.PartsRefusal.{PartsRefusal}
 use Rattle.run_questions.specs.declared.parts.text.PartsRefusal.TheVariants as parts
@@ -44,6 +45,7 @@ abbrev pub answered : Contents → List Entry → Question → Result (List ℕ)
 answered c history (question.Parts originator number) = certified_or_lack (parts_in c history originator number)
 answered c history question.Blame = Ok (blame_text c history)
 answered c history (question.Trend point first last) = trend_or_lack (trend_in c history point first last)
+answered c history question.Delays = Ok (delays_in c history)
 
 -- Why parts rebuild no request. None is defined to want memory, so that case may be told as either.
 abbrev pub no_request : RebuildRefusal → NoRequest

@@ -6,6 +6,7 @@ use Rattle.run_commands.specs.Course.{NextStep}
 use Rattle.run_commands.specs.Headline.{KeepsHeadline}
 use Rattle.run_commands.specs.Keeps.{KeepsComplete}
 use Rattle.run_program.specs.Blame.{KeepsBlame}
+use Rattle.run_program.specs.Delays.{KeepsDelays}
 use Rattle.run_program.specs.Requests.{KeepsParts, KeepsRebuild}
 use Rattle.run_program.specs.Trends.{KeepsTrend}
 use Rattle.run_program.specs.Whole.{program_readers}
@@ -19,5 +20,6 @@ pub record Keeps (call : Call) (err : ErrorSink) (status : ℕ) : Type 0 where
   pub headline : KeepsHeadline program_readers call status
   pub blame : KeepsBlame call status
   pub trend : KeepsTrend call err status
+  pub delays : KeepsDelays call status
   pub parts : KeepsParts call status
   pub rebuild : KeepsRebuild call status

@@ -4,4 +4,5 @@ pub mod Whole
 pub mod Blame
 pub mod Trends
 pub mod Requests
+pub mod Delays
 pub mod Keeps

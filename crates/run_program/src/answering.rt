@@ -1,4 +1,5 @@
 //! Answers to what is asked over the history of a printed text.
+ghost use Rattle.std.specs.Prelude.{◌<◌, ◌^◌, length};
 ghost use Rattle.world_history.specs.Benches.{AreBenches};
 ghost use Rattle.history_rules.specs.Legal.{IsLegal};
 ghost use Rattle.run_commands.specs.Readers.{AnswerGives, RebuildGives};
@@ -15,6 +16,7 @@ use plain_lists::Want;
 use printed_history::{Replay, read_replay};
 use run_commands::Question;
 use run_questions::blame::blame_text;
+use run_questions::delays::delays_text;
 use run_questions::parts::parts_text;
 use run_questions::trend::trend_text;
 use scenario_file::Scenario;
@@ -44,6 +46,7 @@ fn answer(
 ) -> Result<Vec<u8>, Refusal>
     requires valid { IsScenario (contents scenario.now) }
     requires legal { IsLegal (setup_of (contents scenario.now)) replay.now.history }
+    requires short { length replay.now.history < 2 ^ 32 }
     requires benches { AreBenches (contents scenario.now) replay.now.history replay.now.benches.items }
     ensures { Answers (contents scenario.now) replay.now.history question result }
 {
@@ -56,6 +59,10 @@ fn answer(
             }
         }
         Question::Blame => match blame_text(alloc, scenario, &replay.history) {
+            Ok(text) => Ok(text),
+            Err(Want) => Err(Refusal::Memory),
+        },
+        Question::Delays => match delays_text(alloc, scenario, &replay.history) {
             Ok(text) => Ok(text),
             Err(Want) => Err(Refusal::Memory),
         },

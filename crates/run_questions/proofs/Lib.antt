@@ -11,3 +11,4 @@ mod BenchesCertify
 mod PartsInOrder
 mod PrintedAreParts
 mod PrintedRebuild
+mod Watched

@@ -90,7 +90,7 @@ not_reached_where points count p first last there some range few =
     ∙ ap (λ (b : Bool). cond b (Some (answer.NotReached count)) None) (lt-ltb count last few)
 
 -- one more of what is shown
-shown_more : {X Y : Type 0} (show : X → Option Y) (xs : List X) (i : ℕ) (x : X) → i < length xs → x ≡ get_or xs i x
+pub shown_more : {X Y : Type 0} (show : X → Option Y) (xs : List X) (i : ℕ) (x : X) → i < length xs → x ≡ get_or xs i x
     → filter_map show (take (i + 1) xs) ≡ filter_map show (take i xs) ++ option_to_list (show x)
 shown_more {X} {Y} show xs i x below is =
     ap (filter_map show) (take_more xs i x below)

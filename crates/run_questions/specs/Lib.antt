@@ -5,3 +5,4 @@ pub mod TrendAnswers
 pub mod TrendLaws
 pub mod PartsText
 pub mod PartsLaws
+pub mod DelaysText

@@ -141,8 +141,12 @@ const POINT: &str =
 const READING: &str =
     "field p0 input 0 950\npoll p0\nflow 4\ntick masters\nflow 1\ntick m0\nflow 5\n";
 
+/// How long the reading took, by the reference program.
+const DELAYS: &[u8] =
+    b"views 1\nview 0 leader m0 from 0 votes 0 idle 70\nspreads 4\np0 at m0 said 1 ended 1 entries 71 71 71 71 ticks 2 2 2 2\np0 at m1 said 1 ended 1 entries 69 69 69 69 ticks 1 1 1 1\np0 at m2 said 1 ended 1 entries 70 70 70 70 ticks 1 1 1 1\np0 at m3 said 1 ended 1 entries 73 73 73 73 ticks 1 1 1 1\nunexecuted 0\noutcomes 4\np0 1 said 1 at m0 tick 0 ended 72 entries 71 ticks 2\np0 1 said 1 at m1 tick 0 ended 70 entries 69 ticks 1\np0 1 said 1 at m2 tick 0 ended 71 entries 70 ticks 1\np0 1 said 1 at m3 tick 0 ended 74 entries 73 ticks 1\n";
+
 #[test]
-fn a_reading_is_shown_as_a_change(rt: HostRuntime) -> Result<(), Fail> {
+fn a_reading_is_shown_as_a_change_with_its_delays(rt: HostRuntime) -> Result<(), Fail> {
     let mut scenario = String::from_str(rt.alloc(), SCENARIO)?;
     scenario.push_str(POINT)?;
     let text = play(&rt, rt.alloc(), scenario.as_str(), READING, "")?;
@@ -158,6 +162,7 @@ fn a_reading_is_shown_as_a_change(rt: HostRuntime) -> Result<(), Fail> {
         &files,
         changes,
     )?;
+    puts(&rt, rt.alloc(), "delays scenario history", &files, DELAYS)?;
     for (command, line) in [
         (
             "trend scenario history 0 1 2",

@@ -48,12 +48,17 @@ fn commands_over_scripts_and_histories(rt: HostRuntime) -> Result<(), Fail> {
         first: 0,
         last: 4294967295,
     };
+    let delays = Asked::Delays {
+        scenario: "s",
+        history: "h",
+    };
     for (line, asked) in [
         ("play s p w", play),
         ("run s --turns 009 p --hands=+2 w", run),
         ("replay s h", replay),
         ("blame s -- -h", blame),
         ("trend s h 1 0 4294967295", trend),
+        ("delays s h", delays),
     ] {
         asks(&rt, rt.alloc(), line, asked)?;
     }

@@ -51,6 +51,10 @@ returns-in-blame c = named (goal.at.returns-in-blame c).In_ok-name (codes "blame
 pub returns-in-trend : goal.returns-in-trend
 returns-in-trend c = named (goal.at.returns-in-trend c).In_ok-name (codes "trend") _ c.in-trend.is c.trend.ensures
 
+pub returns-in-delays : goal.returns-in-delays
+returns-in-delays c =
+    named (goal.at.returns-in-delays c).In_ok-name (codes "delays") _ c.in-delays.is c.delays.ensures
+
 pub returns-in_default : goal.returns-in_default
 returns-in_default c =
     let other : command_in c.in_ok-name.name.now (rows_of (found_of c.in_ok-name.found.now)) ≡ None =
@@ -65,5 +69,6 @@ returns-in_default c =
       other_name _ _ c.in_default.not-rebuild,
       other_name _ _ c.in_default.not-blame,
       other_name _ _ c.in_default.not-trend,
+      other_name _ _ c.in_default.not-delays,
     ) refl in
     named (goal.at.returns-in_default c).In_ok-name c.in_ok-name.name.now _ refl (sym other)

@@ -1,6 +1,6 @@
 -- The subcommands, joined in order, are the literal of the definitions.
 use Rattle.command_words.specs.CommandLine.{play_shape, run_shape, replay_shape, make_shape, keys_shape}
-use Rattle.command_words.specs.CommandLine.{verify_shape, parts_shape, rebuild_shape, blame_shape, trend_shape}
+use Rattle.command_words.specs.CommandLine.{verify_shape, parts_shape, rebuild_shape, blame_shape, trend_shape, delays_shape}
 use Rattle.command_words.proofs.command_line.command_line.Goals as goal
 
 pub returns : goal.returns
@@ -14,4 +14,5 @@ returns c =
     let seventh = c.joined-commands-7.ensures _ parts_shape sixth c.parts.ensures in
     let eighth = c.joined-commands-8.ensures _ rebuild_shape seventh c.rebuild.ensures in
     let ninth = c.joined-commands-9.ensures _ blame_shape eighth c.blame.ensures in
-    c.joined.ensures _ trend_shape ninth c.trend.ensures
+    let tenth = c.joined-commands-10.ensures _ trend_shape ninth c.trend.ensures in
+    c.joined.ensures _ delays_shape tenth c.delays.ensures
