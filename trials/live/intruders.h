@@ -512,7 +512,8 @@ struct Intruders {
         if ((own == VICTIM || (group_strategy == HIDES_WITH_VOTES && is_before)) && top < MOST_VIEW &&
             !net.is_intruded[top % group.n])
             vote(a, top);
-        if (own == VOTES || (group_strategy == PUSH && is_before && net.round > 10)) {
+        bool is_often = net.round % setting("often", 1) == 0;
+        if ((own == VOTES && is_often) || (group_strategy == PUSH && is_before && net.round > 10)) {
             for (u64 w = top; w < std::min(top + 2, MOST_VIEW); w++)
                 vote(a, w);
             tell_measures(a, top, 0, 0);
@@ -528,10 +529,10 @@ struct Intruders {
         case JUNK: return offer_own(group_strategy == BURN, a);
         case CHASE: return chase(a, top);
         case PINGS:
-            for (i64 i = 0; i < setting("flood", 3); i++)
+            for (i64 i = 0; i < setting("flood", 3) && is_often; i++)
                 net.say_to_all(a, Frame{a, word(PING, 10000 + pings++)});
             break;
-        case ASKS: return ask(a);
+        case ASKS: return is_often ? ask(a) : void();
         case REPEATS: return repeat(a);
         }
     }

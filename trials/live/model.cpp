@@ -1,5 +1,8 @@
 // A model of the masters under both sets of rules, and runs of it against intruders: README.md tells the settings.
 #include "intruders.h"
+#include "play_files.h"
+
+static std::string play_files; // where the run is written as a play, without the ending
 
 static int place_of(const vector<std::string> &names, const std::string &name) {
     return std::find(names.begin(), names.end(), name) - names.begin();
@@ -11,6 +14,10 @@ static bool read_setting(const std::string &argument) {
     if (at == std::string::npos)
         return false;
     std::string name = argument.substr(0, at), value = argument.substr(at + 1);
+    if (name == "play") {
+        play_files = value;
+        return true;
+    }
     const vector<std::string> *names = name == "strategy"  ? &STRATEGIES
                                        : name == "absence" ? &ABSENCES
                                        : name == "delays"  ? &DELAYS
@@ -97,6 +104,31 @@ static void choose_policy(Intruders &intruders, Network &net, std::mt19937_64 &c
     p.victims.insert(core.begin(), core.begin() + std::min(count, core.size()));
 }
 
+// The rounds; answers the words said before the last hundred. A play ends once all is executed, or it is too long.
+static u64 go(Network &net) {
+    i64 rounds = setting("rounds", 500), last = rounds - setting("drain", 250), every = setting("every", 15);
+    i64 first = setting("first", 30);
+    u64 before_idle = 0;
+    for (i64 round = 0; round < rounds; round++) {
+        if (round >= first && round < last && (round - first) % every == 0)
+            net.command(net.draw(4));
+        net.step();
+        if (round == rounds - 101)
+            before_idle = net.words;
+        if (!net.play)
+            continue;
+        if (net.play->is_too_long()) {
+            net.play->cut();
+            break;
+        }
+        bool is_done = std::all_of(net.commands.begin(), net.commands.end(),
+                                   [&](const Network::Command &c) { return c.done >= 0 && c.done < net.round - 20; });
+        if (round >= last && is_done)
+            break;
+    }
+    return before_idle;
+}
+
 static void run(u64 seed, Totals &totals) {
     std::mt19937_64 choices(seed * 7919 + 13);
     Network net(seed, choose_intruded(choices));
@@ -105,15 +137,15 @@ static void run(u64 seed, Totals &totals) {
     choose_policy(intruders, net, choices);
     net.intruder_would_say = [&](u32 from, const Frame &frame) { intruders.would_say(from, frame); };
     net.intruders_act = [&] { intruders.act(); };
-    i64 rounds = setting("rounds", 500), last = rounds - setting("drain", 250), every = setting("every", 15);
-    u64 before_idle = 0;
-    for (i64 round = 0; round < rounds; round++) {
-        if (round >= 30 && round < last && (round - 30) % every == 0)
-            net.command(net.draw(4));
-        net.step();
-        if (round == rounds - 101)
-            before_idle = net.words;
-    }
+    std::unique_ptr<Play> play;
+    if (!play_files.empty())
+        play.reset(new Play(setting("frames", 1) == 2));
+    net.play = play.get();
+    net.is_flow = play && setting("flow", 0);
+    net.lose_those_away();
+    u64 before_idle = go(net);
+    if (play)
+        write_play(play_files, *play, net);
     u64 open = 0;
     for (const Network::Command &c : net.commands) {
         open += c.done < 0;

@@ -1,7 +1,9 @@
 // The masters of one run, what is on its way between them, and who is away. Rounds are counted from 1; in each, what
-// arrives and a tick of each master come in a random order.
+// arrives and a tick of each master come in a random order. In a run of flows all that was said in a round arrives in
+// the next one, as it was said, and then all masters tick.
 #pragma once
 #include "master.h"
+#include "play.h"
 #include <random>
 
 // The settings of a run, NAME=VALUE on the command line; README.md tells them.
@@ -21,7 +23,8 @@ struct Network {
     struct Message {
         u32 to;
         Frame frame;
-        u32 from; // NO_ONE: a tick
+        u32 from;   // NO_ONE: a tick
+        u64 number; // in a play, of its signer's words of its kind
     };
     static const u32 NO_ONE = ~0u;
     struct Command {
@@ -50,6 +53,8 @@ struct Network {
     vector<int> rates, parts; // ticks of each master in 100 rounds, and what is left of them
     std::function<void(u32, const Frame &)> intruder_would_say;
     std::function<void()> intruders_act;
+    Play *play = nullptr; // where the run is written down as a play
+    bool is_flow = false;
 
     Network(u64 seed, const std::set<u32> &intruded) : random(seed) {
         for (auto &body : all_bodies)
@@ -80,6 +85,8 @@ struct Network {
     }
 
     bool is_one_of_us(u32 actor) const { return actor < group.n && is_intruded[actor]; }
+
+    bool is_correct(u32 actor) const { return actor < group.n && !is_intruded[actor]; }
 
     vector<u32> correct() const {
         vector<u32> all;
@@ -142,7 +149,7 @@ struct Network {
         }
     }
 
-    void post(u32 from, u32 to, const Frame &frame) {
+    void post(u32 from, u32 to, const Frame &frame, u64 number) {
         bool is_from_outside = from < group.n && is_outside[from];
         if (is_chase && is_from_outside) {
             auto all = core();
@@ -153,7 +160,11 @@ struct Network {
         }
         if (absence == HALF && is_from_outside && !is_intruded[to] && to % 2 == 0)
             return;
-        Message message{to, frame, from};
+        Message message{to, frame, from, number};
+        if (is_flow) {
+            arriving[round + 1].push_back(message);
+            return;
+        }
         if (!is_connected[to] || (from < group.n && !is_connected[from])) {
             if (absence == IN_TURN || boots_at)
                 backlog[is_connected[to] ? from : to].push_back(message);
@@ -162,44 +173,105 @@ struct Network {
         arriving[round + (is_chase ? 1 : delay(from, to))].push_back(message);
     }
 
-    void say_to(u32 from, const Frame &frame, const vector<u32> &to) {
+    // The words of intruders.
+    void say_to(u32 from, const Frame &word, vector<u32> to) {
+        to.erase(std::remove(to.begin(), to.end(), from), to.end());
+        u64 number = 0;
+        Frame frame = word;
+        if (play && !to.empty()) {
+            std::sort(to.begin(), to.end());
+            frame = play->as_made(word);
+            number = play->cry(from, frame, to);
+            take_own(from);
+        }
         for (u32 t : to)
-            if (t != from)
-                post(from, t, frame);
+            post(from, t, frame, number);
     }
 
-    void say_to_all(u32 from, const Frame &frame) {
+    // In a flow what an intruder said to itself comes to it.
+    void take_own(u32 from) {
+        for (auto &own : play->said_to_self)
+            if (is_flow && is_in_place(own.first))
+                arriving[round + 1].push_back(Message{from, own.first, from, own.second});
+        play->said_to_self.clear();
+    }
+
+    void say_to_all(u32 from, const Frame &frame) { say_to(from, frame, all_but_one(from)); }
+
+    static vector<u32> all_but_one(u32 master) {
+        vector<u32> to;
         for (u32 t = 0; t < group.n; t++)
-            if (t != from)
-                post(from, t, frame);
+            if (t != master)
+                to.push_back(t);
+        return to;
     }
 
     // One event of a master; what an intruded one would say goes to its intruder.
-    void act(u32 master, bool is_tick, const Frame *took) {
-        for (const Body *body : masters[master]->event(is_tick, took)) {
-            Frame frame{master, body};
-            masters[master]->pending.push_back(frame);
-            if (is_intruded[master]) {
+    void act(u32 master, bool is_tick, const Frame *took, u64 number = 0) {
+        Master &m = *masters[master];
+        size_t executed = m.executed.size();
+        if (is_intruded[master]) {
+            for (const Body *body : m.event(is_tick, took)) {
+                Frame frame{master, body};
+                m.pending.push_back(frame);
+                if (play)
+                    play->note(frame);
                 intruder_would_say(master, frame);
-            } else {
-                words++;
-                say_to_all(master, frame);
             }
+            return;
         }
+        if (play && is_tick)
+            play->tick(master);
+        else if (play)
+            play->take(master, *took, number);
+        vector<const Body *> bodies = m.event(is_tick, took);
+        for (const Body *body : bodies)
+            m.pending.push_back(Frame{master, body});
+        words += bodies.size();
+        if (play)
+            add_vouchers(m, executed, bodies);
+        vector<u64> numbers = play ? play->say(master, bodies) : vector<u64>(bodies.size());
+        for (size_t i = 0; i < bodies.size(); i++)
+            send(master, bodies[i], numbers[i]);
+    }
+
+    void send(u32 master, const Body *body, u64 number) {
+        if (body->kind != VOUCHER)
+            for (u32 t : all_but_one(master))
+                post(master, t, Frame{master, body}, number);
+        else if (is_flow)
+            arriving[round + 1].push_back(Message{group.n + (u32)body->x, Frame{master, body}, master, number});
+    }
+
+    // A voucher for each update executed since, by client, before the marks.
+    static void add_vouchers(const Master &m, size_t executed, vector<const Body *> &bodies) {
+        vector<u64> counts(group.clients);
+        vector<std::pair<u64, u64>> vouchers;
+        for (size_t i = 0; i < m.executed.size(); i++) {
+            u64 number = ++counts[m.executed[i]->x];
+            if (i >= executed)
+                vouchers.push_back({m.executed[i]->x, number});
+        }
+        std::sort(vouchers.begin(), vouchers.end());
+        auto at =
+            std::find_if(bodies.begin(), bodies.end(), [](const Body *b) { return b->kind == MARK; }) - bodies.begin();
+        for (auto &voucher : vouchers)
+            bodies.insert(bodies.begin() + at++, word(VOUCHER, voucher.first, voucher.second));
     }
 
     void command(u32 client) {
-        u64 number = ++updates_said[client];
-        Frame frame{group.n + client, word(UPDATE, client, number)};
+        u64 update = ++updates_said[client];
+        Frame frame{group.n + client, word(UPDATE, client, update)};
+        u64 number = play ? play->command(frame) : 0;
         for (u32 i = 0; i < group.n; i++) {
             if (!is_door(i, client))
                 continue;
-            if (absence != IN_TURN_LOST)
-                post(group.n + client, i, frame);
+            if (absence != IN_TURN_LOST || is_flow)
+                post(group.n + client, i, frame, number);
             else if (is_connected[i])
-                act(i, false, &frame);
+                act(i, false, &frame, number);
         }
-        commands.push_back(Command{client, number, round, -1});
+        commands.push_back(Command{client, update, round, -1});
     }
 
     // ---- who is away
@@ -217,6 +289,26 @@ struct Network {
         }
     }
 
+    void connect(u32 master, bool is_there) {
+        is_connected[master] = is_there;
+        if (!play)
+            return;
+        if (is_flow)
+            play->line((is_there ? "heal " : "lose ") + name_of(master));
+        if (!is_there)
+            play->absences.push_back(Play::Absence{master, round, -1});
+        for (Play::Absence &absence : play->absences)
+            if (is_there && absence.master == master && absence.until < 0)
+                absence.until = round;
+    }
+
+    // Those that are away in the whole run, where flows would bring them all.
+    void lose_those_away() {
+        for (u32 i = 0; i < group.n && is_flow; i++)
+            if (!is_connected[i])
+                play->line("lose " + name_of(i));
+    }
+
     void take_away() {
         if (absence != IN_TURN && absence != IN_TURN_LOST)
             return;
@@ -226,7 +318,7 @@ struct Network {
                 ++away;
                 continue;
             }
-            is_connected[master] = true;
+            connect(master, true);
             away = away_until.erase(away);
             hand_over(master, most);
         }
@@ -237,7 +329,7 @@ struct Network {
         if (setting("leader_away", 0) && !is_intruded[top_view() % group.n] && draw(4))
             next = top_view() % group.n;
         if (is_connected[next]) {
-            is_connected[next] = false;
+            connect(next, false);
             away_until[next] = round + 5 + draw(setting("longest", 120));
         }
         next_away = round + draw(setting("gap", 40));
@@ -245,9 +337,9 @@ struct Network {
 
     void boot() {
         if (boots_at && round == 1)
-            is_connected[booted] = false;
+            connect(booted, false);
         if (boots_at && round == boots_at) {
-            is_connected[booted] = true;
+            connect(booted, true);
             hand_over(booted, 2);
         }
     }
@@ -267,16 +359,30 @@ struct Network {
 
     void step() {
         round++;
+        if (play)
+            play->begin_round(standings());
         leader = top_view() % group.n;
         boot();
         take_away();
+        if (is_flow)
+            flow();
         intruders_act();
         vector<Message> now;
         now.swap(arriving[round]);
         arriving.erase(round);
+        if (is_flow || (play && now.empty() && rates.empty()))
+            tick_together();
+        else
+            mix(now);
+        for (Command &c : commands)
+            if (c.done < 0 && is_executed(c))
+                c.done = round;
+    }
+
+    void mix(vector<Message> &now) {
         for (u32 i = 0; i < group.n; i++)
             for (int tick = ticks_of(i); tick > 0; tick--)
-                now.push_back(Message{i, Frame(), NO_ONE});
+                now.push_back(Message{i, Frame(), NO_ONE, 0});
         std::shuffle(now.begin(), now.end(), random);
         for (const Message &m : now) {
             if (m.from == NO_ONE) {
@@ -285,12 +391,59 @@ struct Network {
                 if (absence == IN_TURN || boots_at)
                     backlog[m.to].push_back(m);
             } else {
-                act(m.to, false, &m.frame);
+                act(m.to, false, &m.frame, m.number);
             }
         }
-        for (Command &c : commands)
-            if (c.done < 0 && is_executed(c))
-                c.done = round;
+    }
+
+    // All that was said in the round before arrives, as it was said. Intruders answer after it.
+    void flow() {
+        vector<Message> now;
+        now.swap(arriving[round]);
+        arriving.erase(round);
+        if (now.empty())
+            return;
+        vector<const Message *> ours;
+        play->line("flow");
+        play->is_together = true;
+        for (const Message &m : now) {
+            bool is_lost = (m.to < group.n && !is_connected[m.to]) || (m.from < group.n && !is_connected[m.from]);
+            if (is_lost)
+                continue;
+            if (is_correct(m.to)) {
+                act(m.to, false, &m.frame, m.number);
+                continue;
+            }
+            play->take(m.to, m.frame, m.number);
+            if (m.to < group.n)
+                ours.push_back(&m);
+        }
+        play->is_together = false;
+        for (const Message *m : ours)
+            act(m->to, false, &m->frame);
+    }
+
+    // In a play, one line for all.
+    void tick_together() {
+        play->line("tick masters");
+        play->is_together = true;
+        for (u32 i = 0; i < group.n; i++) {
+            if (is_intruded[i])
+                play->tick(i);
+            else
+                act(i, true, nullptr);
+        }
+        play->is_together = false;
+        for (u32 i = 0; i < group.n; i++)
+            if (is_intruded[i])
+                act(i, true, nullptr);
+    }
+
+    vector<Play::Standing> standings() const {
+        vector<Play::Standing> all;
+        for (auto &master : masters)
+            all.push_back(Play::Standing{master->view, master->executed.size()});
+        return all;
     }
 
     // Executed by all correct masters that are there.

@@ -6,7 +6,7 @@ use Rattle.clap.specs.Walk.{Row, Text, Walk, finished, idle, nothing_held, walk_
 use Rattle.clap.specs.ValueTests.{is_unsigned_in}
 use Rattle.clap.proofs.OnLiterals.{clap_on_literals}
 use Rattle.command_words.specs.Wanted.{IsPlain, IsWhole, Wanted, command_in, is_command, number_in, wanted_in, words_of}
-use Rattle.command_words.specs.Wanted.{play, run, replay, make, keys, verify, parts, rebuild, blame, trend, delays}
+use Rattle.command_words.specs.Wanted.{play, run, replay, make, keys, verify, parts, rebuild, blame, trend, delays, page}
 use Rattle.command_words.proofs.Walks.{IsWord, Runs, ends, held, is_taken_if, leaf, level_taken, name_is_word, state}
 use Rattle.command_words.proofs.Walks.{steps, text_row, word_steps}
 use Rattle.command_words.proofs.Numbers.{below_whole, whole_is_in, whole_is_word, whole_reads, written_is_in}
@@ -185,6 +185,19 @@ delays_asks a b wa wb =
       wanted = ap (asked_at 10 (codes "delays")) runs.walked_to;
     }
 
+-- ---- page
+
+page_asks : (a b : Text) → IsWord a → IsWord b → Asks (codes "page" ∷ a ∷ b ∷ []) (page a b)
+unfolding clap_on_literals
+page_asks a b wa wb =
+    let runs : Runs (leaf 11) (walk_from nothing_held) (a ∷ b ∷ [])
+    (end_at (text_row (codes "scenario") a ∷ []) (codes "history") b 3) =
+    word_steps (leaf 11) _ _ _ a _ _ wa refl (word_steps (leaf 11) _ _ _ b _ _ wb refl (ends (leaf 11) _)) in
+    record {
+      taken = ap is_taken_if (level_taken (leaf 11) _ _ runs refl);
+      wanted = ap (asked_at 11 (codes "page")) runs.walked_to;
+    }
+
 -- ---- all
 
 plain : (w : Wanted) → IsPlain w → Asks (words_of w) w
@@ -217,6 +230,8 @@ plain (trend scenario history point first last) h = trend_asks scenario history 
     (whole_reads last h.4)
 plain (delays scenario history) h =
     delays_asks scenario history (name_is_word scenario h.0) (name_is_word history h.1)
+plain (page scenario history) h =
+    page_asks scenario history (name_is_word scenario h.0) (name_is_word history h.1)
 
 pub plain_taken : (w : Wanted) → IsPlain w → is_command (words_of w) ≡ true
 plain_taken w h = (plain w h).taken

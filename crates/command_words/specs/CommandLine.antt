@@ -66,6 +66,9 @@ trend_shape = command (codes "trend") (text_rule (codes "scenario") ∷ text_rul
 abbrev pub delays_shape : Shape
 delays_shape = command (codes "delays") (text_rule (codes "scenario") ∷ text_rule (codes "history") ∷ [])
 
+abbrev pub page_shape : Shape
+page_shape = command (codes "page") (text_rule (codes "scenario") ∷ text_rule (codes "history") ∷ [])
+
 -- the words begin with the subcommand, and one is required
 abbrev pub top_shape : Shape
 top_shape = record (new_shape (codes "spire")) {
@@ -78,7 +81,7 @@ abbrev pub spire_app : App
 spire_app = record {
   top = top_shape;
   subs = play_shape ∷ run_shape ∷ replay_shape ∷ make_shape ∷ keys_shape ∷ verify_shape ∷ parts_shape ∷ rebuild_shape
-      ∷ blame_shape ∷ trend_shape ∷ delays_shape ∷ [];
+      ∷ blame_shape ∷ trend_shape ∷ delays_shape ∷ page_shape ∷ [];
 }
 
 -- the command has this shape, no subcommand and no global argument

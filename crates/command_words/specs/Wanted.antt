@@ -23,6 +23,7 @@ pub data Wanted : Type 0 where
   blame : Text → Text → Wanted
   trend : Text → Text → ℕ → ℕ → ℕ → Wanted
   delays : Text → Text → Wanted
+  page : Text → Text → Wanted
 
 abbrev pub wanted : Asked → Wanted
 wanted (asked.Play scenario script words) = play scenario.now script.now words.now
@@ -36,6 +37,7 @@ wanted (asked.Rebuild scenario pieces) = rebuild scenario.now pieces.now
 wanted (asked.Blame scenario history) = blame scenario.now history.now
 wanted (asked.Trend scenario history point first last) = trend scenario.now history.now point first last
 wanted (asked.Delays scenario history) = delays scenario.now history.now
+wanted (asked.Page scenario history) = page scenario.now history.now
 
 -- The words are a command: `clap` refuses them for no cause but want of memory.
 abbrev pub is_command : List Text → Bool
@@ -109,6 +111,10 @@ abbrev pub delays_in : List Row → Option Wanted
 delays_in rows = with_text (codes "scenario") rows (λ scenario.
     with_text (codes "history") rows (λ history. Some (delays scenario history)))
 
+abbrev pub page_in : List Row → Option Wanted
+page_in rows = with_text (codes "scenario") rows (λ scenario.
+    with_text (codes "history") rows (λ history. Some (page scenario history)))
+
 abbrev pub command_in : Text → List Row → Option Wanted
 command_in name rows = if bytes_eq name (codes "play") then play_in rows
     else (if bytes_eq name (codes "run") then run_in rows
@@ -120,7 +126,8 @@ command_in name rows = if bytes_eq name (codes "play") then play_in rows
     else (if bytes_eq name (codes "rebuild") then rebuild_in rows
     else (if bytes_eq name (codes "blame") then blame_in rows
     else (if bytes_eq name (codes "trend") then trend_in rows
-    else (if bytes_eq name (codes "delays") then delays_in rows else None))))))))))
+    else (if bytes_eq name (codes "delays") then delays_in rows
+    else (if bytes_eq name (codes "page") then page_in rows else None)))))))))))
 
 -- the command that `clap` found, by its name and its rows
 abbrev pub asked_in : Option (Text × List Row) → Option Wanted
@@ -148,6 +155,7 @@ words_of (blame scenario history) = codes "blame" ∷ scenario ∷ history ∷ [
 words_of (trend scenario history point first last) =
     codes "trend" ∷ scenario ∷ history ∷ decimal point ∷ decimal first ∷ decimal last ∷ []
 words_of (delays scenario history) = codes "delays" ∷ scenario ∷ history ∷ []
+words_of (page scenario history) = codes "page" ∷ scenario ∷ history ∷ []
 
 -- a name isn't empty and doesn't begin with a hyphen, whose number is 45
 abbrev pub IsName : Text → Type 0
@@ -173,3 +181,4 @@ IsPlain (blame scenario history) = IsName scenario × IsName history
 IsPlain (trend scenario history point first last) =
     IsName scenario × IsName history × IsWhole point × IsWhole first × IsWhole last
 IsPlain (delays scenario history) = IsName scenario × IsName history
+IsPlain (page scenario history) = IsName scenario × IsName history

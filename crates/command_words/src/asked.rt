@@ -3,7 +3,7 @@ ghost use Rattle.std.specs.Prelude.{◌≡◌, option_map};
 ghost use Rattle.clap.specs.Words.{first_of, found_of, rows_of, subcommand_rows_of};
 ghost use Rattle.command_words.specs.Wanted.{asked_in, number_of, wanted};
 ghost use Rattle.command_words.specs.Wanted.{play_in, run_in, replay_in, make_in, keys_in};
-ghost use Rattle.command_words.specs.Wanted.{verify_in, parts_in, rebuild_in, blame_in, trend_in, delays_in};
+ghost use Rattle.command_words.specs.Wanted.{verify_in, parts_in, rebuild_in, blame_in, trend_in, delays_in, page_in};
 
 use clap::ArgMatches;
 
@@ -70,6 +70,11 @@ pub enum Asked<'a> {
     },
     /// Print how long updates took.
     Delays {
+        scenario: &'a str,
+        history: &'a str,
+    },
+    /// Print the page that shows a history.
+    Page {
         scenario: &'a str,
         history: &'a str,
     },
@@ -194,6 +199,15 @@ fn delays<'a>(found: &ArgMatches<'a>) -> Option<Asked<'a>>
     })
 }
 
+fn page<'a>(found: &ArgMatches<'a>) -> Option<Asked<'a>>
+    ensures { option_map wanted result ≡ page_in (rows_of (found_of found.now)) }
+{
+    Some(Asked::Page {
+        scenario: text(found, "scenario")?,
+        history: text(found, "history")?,
+    })
+}
+
 /// The command that `clap` found, with its values.
 pub fn asked_of<'a>(matches: &ArgMatches<'a>) -> Option<Asked<'a>>
     ensures { option_map wanted result ≡ asked_in (subcommand_rows_of matches.now) }
@@ -211,6 +225,7 @@ pub fn asked_of<'a>(matches: &ArgMatches<'a>) -> Option<Asked<'a>>
         "blame" => blame(found),
         "trend" => trend(found),
         "delays" => delays(found),
+        "page" => page(found),
         _ => None,
     }
 }

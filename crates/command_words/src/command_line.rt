@@ -3,7 +3,7 @@ ghost use Rattle.std.specs.Prelude.{◌≡◌, ◌∷◌, [], IfOk, codes, false
 ghost use Rattle.clap.specs.Words.{App, Shape, app_of, rule_of, with_subcommand};
 ghost use Rattle.command_words.specs.CommandLine.{IsCommand, command, number_rule, option_rule, spire_app, text_rule, top_shape};
 ghost use Rattle.command_words.specs.CommandLine.{play_shape, run_shape, replay_shape, make_shape, keys_shape};
-ghost use Rattle.command_words.specs.CommandLine.{verify_shape, parts_shape, rebuild_shape, blame_shape, trend_shape, delays_shape};
+ghost use Rattle.command_words.specs.CommandLine.{verify_shape, parts_shape, rebuild_shape, blame_shape, trend_shape, delays_shape, page_shape};
 
 use clap::builder::ValueParser;
 use clap::{Arg, Command};
@@ -137,6 +137,12 @@ fn delays<'a>(alloc: Global) -> Result<Command<'a>, AllocError>
     over_a_history(alloc, "delays")
 }
 
+fn page<'a>(alloc: Global) -> Result<Command<'a>, AllocError>
+    ensures { IfOk result (IsCommand page_shape) }
+{
+    over_a_history(alloc, "page")
+}
+
 // Lets go of a value. Where a function does so by itself, its proof goes through all that a command holds.
 fn let_go<T: Drop>(_value: T) {}
 
@@ -194,5 +200,6 @@ pub fn command_line<'a>(alloc: Global) -> Result<Command<'a>, AllocError>
     let commands = joined(commands, rebuild(alloc));
     let commands = joined(commands, blame(alloc));
     let commands = joined(commands, trend(alloc));
-    joined(commands, delays(alloc))
+    let commands = joined(commands, delays(alloc));
+    joined(commands, page(alloc))
 }

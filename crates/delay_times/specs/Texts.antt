@@ -57,8 +57,11 @@ name_text cast u said =
 unfoldable pub unexecuted_line : Cast → Unexecuted → List ℕ
 unexecuted_line cast x = name_text cast x.name x.said ++ codes " executed " ++ decimal x.executed ++ codes "\n"
 
+unfoldable pub unexecuted_count : ℕ → List ℕ
+unexecuted_count count = codes "unexecuted " ++ decimal count ++ codes "\n"
+
 unfoldable pub unexecuted_text : Cast → List Unexecuted → List ℕ
-unexecuted_text cast unexecuted = codes "unexecuted " ++ decimal (length unexecuted) ++ codes "\n" ++ flat_map (unexecuted_line cast) unexecuted
+unexecuted_text cast unexecuted = unexecuted_count (length unexecuted) ++ flat_map (unexecuted_line cast) unexecuted
 
 abbrev pub delay_text : Option Delay → List ℕ
 delay_text None = codes " never\n"

@@ -2,7 +2,7 @@
 ghost use Rattle.std.specs.Prelude.{◌≡◌, ◌≤◌, ◌++◌, IfOk, OnOk, string_bytes};
 ghost use Rattle.std.specs.List.{flat_map};
 ghost use Rattle.scenario_file.specs.Actors.{actors_of};
-ghost use Rattle.delay_times.specs.Texts.{delay_text, delays_text, figures_text, unexecuted_line, unexecuted_text, name_text, reign_text, reigns_text, spread_head, spread_text, spreads_text, to_text, view_text, outcome_head, outcome_text, outcomes_text};
+ghost use Rattle.delay_times.specs.Texts.{delay_text, delays_text, figures_text, unexecuted_count, unexecuted_line, unexecuted_text, name_text, reign_text, reigns_text, spread_head, spread_text, spreads_text, to_text, view_text, outcome_head, outcome_text, outcomes_text};
 
 use crate::happening::Name;
 use crate::outcomes::{Delay, Outcome};
@@ -162,9 +162,16 @@ fn put_name(text: &mut String, cast: Cast, name: Name, said: u64) -> Result<(), 
 fn put_unexecuted(text: &mut String, cast: Cast, unexecuted: &[Unexecuted]) -> Result<(), Want>
     ensures { OnOk result (string_bytes text.new ≡ string_bytes text.old ++ unexecuted_text cast unexecuted.now) }
 {
-    let count = unexecuted.len();
-    write!(text, "unexecuted {count}\n")?;
+    put_unexecuted_count(text, unexecuted.len())?;
     put_unexecuted_lines(text, cast, unexecuted)
+}
+
+#[tactic(auto, unfolding(crate::specs::Texts::unexecuted_count))]
+fn put_unexecuted_count(text: &mut String, count: usize) -> Result<(), Want>
+    ensures { OnOk result (string_bytes text.new ≡ string_bytes text.old ++ unexecuted_count count) }
+{
+    write!(text, "unexecuted {count}\n")?;
+    Ok(())
 }
 
 fn put_unexecuted_lines(

@@ -266,7 +266,8 @@ ack_digest w history m j r digest live legal unforged correct right said acked =
     (known_learned w m first.said.place first.said.by first.loud)
     due.1.0 (first_in (updates_requested known j r.k) due.1.1))
 
-enough : (n q : ℕ) (test : ℕ → Bool) → q ≤ length (voters test n) → has_quorum n q test ≡ true
+-- where so many pass there is a quorum
+pub enough : (n q : ℕ) (test : ℕ → Bool) → q ≤ length (voters test n) → has_quorum n q test ≡ true
 unfolding has_quorum
 enough n q test h = le-leb q (length (voters test n)) h
 

@@ -1,53 +1,49 @@
 -- What a connected door introduced for a client comes in turn wherever it is executed. Its number is one more than the greatest
 -- of two: the last update that the door introduced, whose request is lower and so stands before it; and as many as were
--- executed there. These were made eligible by rows that were proposed before the request was said, and so can't make it
--- eligible: it stands behind all that they do.
-use Rattle.std.proofs.Common.{◌≡◌, ℕ, ◌+◌, ◌-◌, ◌<◌, ◌≤◌, zero, suc, Bool, true, false, List, [], ◌∷◌, ◌++◌, Option, Some, None}
-use Rattle.std.proofs.Common.{max, refl, sym, ◌∙◌, ap, subst, inl, inr, ◌⊎◌, arith, append_assoc, append-nil}
+-- executed there. These stand before it too, since what was executed at the door stops at what isn't certified there, and
+-- a request that it says for the first time isn't.
+use Rattle.std.proofs.Common.{◌≡◌, ℕ, ◌+◌, ◌-◌, ◌<◌, ◌≤◌, zero, suc, true, false, List, [], ◌∷◌, ◌++◌, Option, Some, None}
+use Rattle.std.proofs.Common.{max, refl, sym, ◌∙◌, ap, subst, inl, inr, ◌⊎◌, arith, append_assoc}
 use Rattle.std.proofs.lemmas.Bool.{cases_lt}
 use Rattle.std.proofs.lemmas.List.Elements.{filter_map-append}
 use Rattle.std.specs.List.{filter_map, cons_option}
 use Rattle.plain_lists.specs.Lists.{IsIn, Begins}
-use Rattle.plain_lists.proofs.Members.{none_in, in_cases, in_left, in_right, in_first}
+use Rattle.plain_lists.proofs.Members.{none_in, in_cases, in_left, in_right, in_first, in_filter_map_from}
 use Rattle.quorum_sets.specs.Masters.{numbers_below}
 use Rattle.message_types.specs.declared.signed.Signed.{Signed}
 use Rattle.message_types.specs.declared.updates.Update.{Update}
 use Rattle.message_types.specs.declared.preordering.PoRequest.{PoRequest}
 use Rattle.message_types.specs.declared.body.Body.{Body}
 use Rattle.message_types.specs.declared.body.Body.TheVariants as body
-use Rattle.protocol_rules.specs.Group.{Group, is_live, most_number}
+use Rattle.protocol_rules.specs.Group.{Group, is_live}
 use Rattle.protocol_rules.specs.Facts.{facts_of}
-use Rattle.protocol_rules.specs.Order.{ordered, ordered_run}
-use Rattle.protocol_rules.specs.Execution.{Request, eligible_requests, first_missing, updates_of, kept_after, executed_of}
+use Rattle.protocol_rules.specs.Preorder.{update_requested}
+use Rattle.protocol_rules.specs.Order.{ordered_run}
+use Rattle.protocol_rules.specs.Execution.{Request, eligible_requests, first_missing, certified_run, updates_of, kept_after, executed_of}
 use Rattle.protocol_rules.specs.Turns.{last_request, last_introduced, requests_in_turn_due, next_in_turn}
 use Rattle.protocol_rules.specs.Master.{taken_at, said_before, certified_requests, executed}
 use Rattle.history_rules.specs.Events.{Entry, frame_taken, is_silent}
-use Rattle.history_rules.specs.Setup.{Setup, is_correct_master, room, own}
+use Rattle.history_rules.specs.Setup.{Setup, is_correct, is_correct_master, room, own}
 use Rattle.history_rules.specs.Legal.{Stands, IsLegal, heard}
-use Rattle.history_rules.specs.Audit.{HasSaid}
+use Rattle.history_rules.specs.Audit.{HasSaid, NothingForged}
 use Rattle.agreement.specs.Laws.{IsSound, known_by}
-use Rattle.agreement.proofs.Places.{tails_same, stands_on, stands_last, said_whole, said_on, legal_before, whole_upto}
-use Rattle.agreement.proofs.KnownAsItGrows.{known_then, known_learned, known_of_within, correct_said, said_earlier}
-use Rattle.agreement.proofs.LearnedWasSaid.{FirstSaid, first_said_before}
+use Rattle.agreement.proofs.Places.{stands_on, said_whole, legal_before, unforged_before}
+use Rattle.agreement.proofs.KnownAsItGrows.{known_then, known_then_from, known_learned, known_of_within, correct_said, said_earlier}
+use Rattle.agreement.proofs.LearnedWasSaid.{FirstSaid, first_said_before, learned_said}
 use Rattle.agreement.proofs.RequestsAgree.{certified_from, certified_same}
 use Rattle.agreement.proofs.ExecutedInTurn.{eligible-append}
-use Rattle.progress.specs.Rounds.{AreConnected}
-use Rattle.progress.specs.FirstView.{InFirstView}
 use Rattle.progress.proofs.Saying.{all_is_said, said_by_part}
 use Rattle.progress.proofs.Requesting.{FirstRequest, first_request, in_turn_above, in_turn_at, request_same, said_below}
-use Rattle.progress.proofs.Certifying.{one_update, below_group}
+use Rattle.progress.proofs.Certifying.{correct_too, one_update, below_group, requested_from}
 use Rattle.progress.proofs.Turning.{Follows, next_follows, client_of, number_of}
 use Rattle.progress.proofs.Turned.{turn_said}
 use Rattle.progress.proofs.Reaching.{request_number}
-use Rattle.progress.proofs.Introducing.{introduced_in, updates_grow}
-use Rattle.progress.proofs.Settled.{sound_before, ordered_earlier}
-use Rattle.progress.proofs.Worthy.{run_member}
-use Rattle.progress.proofs.Ordered.{led_before}
-use Rattle.progress.proofs.Offers.{reach_has}
-use Rattle.progress.proofs.Spreading.{executed_whole}
-use Rattle.progress.proofs.Caused.{eligible_was_requested}
-use Rattle.progress.proofs.InOrder.{append_place, nil_place, placed, stands_behind_all, request, eligible_reached, eligible_lower}
-use Rattle.progress.proofs.InOrder.{run_whole, missing_left, certified_at, kept_count_more, kept_then}
+use Rattle.progress.proofs.Introducing.{introduced_in}
+use Rattle.progress.proofs.Proposed.{said_begun}
+use Rattle.progress.proofs.Settled.{sound_before}
+use Rattle.progress.proofs.Ordered.{begins_through}
+use Rattle.progress.proofs.InOrder.{append_place, placed, request, eligible_lower}
+use Rattle.progress.proofs.InOrder.{run_whole, run_begins, run_stops, missing_left, certified_at, kept_count_more, kept_then}
 
 -- what was said by the turn of a request that has its turn
 record TurnAt (g : Group) (me : ℕ) (taken : List (Signed Body)) (done : List Update) (said : List Body) (clients : List ℕ)
@@ -82,22 +78,6 @@ turn_at g me taken done said (c ∷ clients) r h = elim (in_cases (next_in_turn 
       }
 ]
 
--- an earlier place in a list with one more begins it
-begins_last : (before first : List Entry) (e d : Entry) → Stands (before ++ e ∷ []) first d → Begins first before
-begins_last before first e d s = elim (append_place before (e ∷ []) first s.after d s.whole) [
-  | inl found ↦ record { rest = d ∷ found.0; same = found.1 }
-  | inr behind ↦ record { rest = []; same = ends behind.0 behind.1 behind.2 }
-]
-  where
-    ends : (more : List Entry) → first ≡ before ++ more → e ∷ [] ≡ more ++ d ∷ s.after → before ≡ first ++ []
-    ends [] is e = sym (append-nil before) ∙ sym is ∙ sym (append-nil first)
-    ends (x ∷ more) is e = absurd (nil_place more d s.after (tails_same e))
-
-pub said_begun : {before whole : List Entry} {actor : ℕ} {b : Body} → Begins before whole → HasSaid before actor b →
-    HasSaid whole actor b
-said_begun {before} {whole} {actor} {b} begins h = subst (λ (xs : List Entry). HasSaid xs actor b) (sym begins.same)
-    (said_on begins.rest h)
-
 pub map_begins : (d : Request → Option Update) {xs ys : List Request} → Begins xs ys → Begins (filter_map d xs) (filter_map d ys)
 map_begins d {xs} b = record {
   rest = filter_map d b.rest;
@@ -116,9 +96,14 @@ pub executed_is : (g : Group) (known : List (Signed Body)) → executed g known 
 unfolding executed
 executed_is g known = refl
 
-module _ (w : Setup) (connected : ℕ → Bool) (base whole : List Entry) (live : is_live w.group ≡ true) (sound : IsSound w whole)
-    (are : AreConnected w connected) (led : InFirstView w connected whole) (begun : Begins base whole) (door : ℕ)
-    (is_door : connected door ≡ true) (left : 1 ≤ room w (own base door)) (m : ℕ) (is_m : connected m ≡ true)
+executed_run : (g : Group) (known : List (Signed Body)) → executed g known ≡ kept_after [] (certified_run
+    (certified_requests g known) (eligible_requests g [] (ordered_run g (facts_of g known))))
+unfolding executed executed_of
+executed_run g known = refl
+
+module _ (w : Setup) (base whole : List Entry) (live : is_live w.group ≡ true) (sound : IsSound w whole)
+    (begun : Begins base whole) (door : ℕ) (right : is_correct_master w door ≡ true) (left : 1 ≤ room w (own base door))
+    (m : ℕ) (correct : is_correct_master w m ≡ true)
     (runs_then : (before : List Entry) (e : Entry) → Stands base before e → e.actor ≡ door → is_silent e.event ≡ false →
     Begins (ordered_run w.group (facts_of w.group (known_then w before door e)))
     (ordered_run w.group (facts_of w.group (known_by w whole m))))
@@ -133,104 +118,98 @@ module _ (w : Setup) (connected : ℕ → Bool) (base whole : List Entry) (live 
   abbrev requests : List Request
   requests = eligible_requests w.group [] (ordered_run w.group (facts_of w.group (known_by w whole m)))
 
-  right : is_correct_master w door ≡ true
-  right = are.correct door is_door
-
   sound_base : IsSound w base
   sound_base = sound_before w base begun.rest (subst (λ (xs : List Entry). IsSound w xs) begun.same sound)
-
-  led_base : InFirstView w connected base
-  led_base = led_before w connected base begun.rest (subst (λ (xs : List Entry). InFirstView w connected xs) begun.same led)
 
   -- the update certified for a request that the door said is that request's
   only_one : (r : PoRequest) → HasSaid base door (body.PoRequest r) → (y : Update) → d (request door r.k) ≡ Some y →
       y ≡ r.update.body
   only_one r said y e =
       let from = certified_from w.group (known_by w whole m) door r.k y e in
-      one_update w whole m door r live sound.legal sound.unforged (are.correct m is_m) right (said_begun begun said) from.0
+      one_update w whole m door r live sound.legal sound.unforged correct right (said_begun begun said) from.0
       (λ p h. known_of_within (heard w whole m) p (from.1 p h)) y from.2
 
   module _ (r : PoRequest) (said : HasSaid base door (body.PoRequest r)) where
     first : FirstRequest w base door r
     first = first_request w door r live right base sound_base.legal said
 
-    abbrev then_known : (f : FirstRequest w base door r) → List (Signed Body)
-    then_known f = known_then w f.before door f.entry
-
-    -- it can't be eligible by rows that the door had ordered when it said it
-    not_before : (f : FirstRequest w base door r) → IsIn (request door r.k) (eligible_requests w.group []
-        (ordered_run w.group (facts_of w.group (known_then w f.before door f.entry)))) → ⊥
-    unfolding ordered_run
-    not_before f h =
-        let known : List (Signed Body) = known_then w f.before door f.entry in
-        let reached = eligible_reached w.group [] (ordered_run w.group (facts_of w.group known)) door r.k h in
-        let rows = reach_has w.group (ordered_run w.group (facts_of w.group known)) door r.k reached.0 reached.1 in
-        let number = run_member (ordered w.group (facts_of w.group known)) 1 most_number rows.0 rows.1 in
-        let upto : List Entry = f.before ++ f.entry ∷ [] in
-        let sound_upto : IsSound w (f.before ++ f.entry ∷ []) = sound_before w upto f.place.after
-        (subst (λ (xs : List Entry). IsSound w xs) (whole_upto f.place) sound_base) in
-        let led_upto : InFirstView w connected (f.before ++ f.entry ∷ []) = led_before w connected upto f.place.after
-        (subst (λ (xs : List Entry). InFirstView w connected xs) (whole_upto f.place) led_base) in
-        let earlier = ordered_earlier w connected upto live sound_upto are led_upto door is_door known
-        (known_learned w door (stands_last f.before f.entry) f.by f.loud) number.0 rows.0 number.3 in
-        let sound_then : IsSound w earlier.before = sound_before w earlier.before (earlier.entry ∷ earlier.place.after)
-        (subst (λ (xs : List Entry). IsSound w xs) earlier.place.whole sound_upto) in
-        let led_then : InFirstView w connected earlier.before = led_before w connected earlier.before
-        (earlier.entry ∷ earlier.place.after) (subst (λ (xs : List Entry). InFirstView w connected xs) earlier.place.whole
-        led_upto) in
-        let was = eligible_was_requested w connected earlier.before live sound_then are led_then number.0 rows.0
-        earlier.proposes door r.k is_door reached.0 rows.2 in
-        let before_it : HasSaid f.before door (body.PoRequest was.0) = said_begun (begins_last f.before earlier.before f.entry
-        earlier.entry earlier.place) was.1 in
+    -- where the door says it first it has said no request of its number
+    not_before : (f : FirstRequest w base door r) (q : PoRequest) → q.k ≡ r.k → HasSaid f.before door (body.PoRequest q) → ⊥
+    not_before f q equal was =
         let legal_then : IsLegal w f.before = legal_before w f.before (f.entry ∷ f.place.after)
         (subst (λ (xs : List Entry). IsLegal w xs) f.place.whole sound_base.legal) in
-        let among : IsIn (body.PoRequest was.0) (said_before (heard w f.before door)) = said_earlier w door
-        (body.PoRequest was.0) before_it.place before_it.by (correct_said w door (body.PoRequest was.0) legal_then before_it.place
-        before_it.by right before_it.among).0 before_it.among in
-        let low : was.0.k ≤ last_request (said_before (heard w f.before door)) = said_below was.0
+        let among : IsIn (body.PoRequest q) (said_before (heard w f.before door)) = said_earlier w door
+        (body.PoRequest q) was.place was.by (correct_said w door (body.PoRequest q) legal_then was.place was.by right was.among).0
+        was.among in
+        let low : q.k ≤ last_request (said_before (heard w f.before door)) = said_below q
         (said_before (heard w f.before door)) among in
         let above = in_turn_above w.group door (taken_at (heard w f.before door) (frame_taken f.entry.event))
-        (executed w.group known) (said_before (heard w f.before door)) (numbers_below w.group.clients) (body.PoRequest r)
-        f.turn in
+        (executed w.group (known_then w f.before door f.entry)) (said_before (heard w f.before door))
+        (numbers_below w.group.clients) (body.PoRequest r) f.turn in
         let high : last_request (said_before (heard w f.before door)) < above.0.k = above.2 in
         let same : above.0.k ≡ r.k = ap (λ (x : PoRequest). x.k) (sym (request_same above.1)) in
-        let equal : was.0.k ≡ r.k = was.2 in
         omega (arith, low, high, same, equal)
 
-    -- so all that the door had executed then stands before it
+    -- so it isn't certified there
+    uncertified : (f : FirstRequest w base door r) (o : Option Update) →
+        certified_requests w.group (known_then w f.before door f.entry) (request door r.k) ≡ o → o ≡ None
+    uncertified f None e = refl
+    uncertified f (Some y) e =
+        let from = certified_from w.group (known_then w f.before door f.entry) door r.k y e in
+        let found = in_filter_map_from (update_requested door r.k) from.0 from.2 in
+        let is = requested_from door r.k found.0.signer found.0.body found.0.sig y found.2 in
+        let signed : is_correct w found.0.signer ≡ true = subst (λ (i : ℕ). is_correct w i ≡ true) (sym is.2)
+        (correct_too w door right) in
+        let was : HasSaid f.before found.0.signer found.0.body = elim (known_then_from w f.before door f.entry found.0
+        (from.1 found.0 found.1)) [
+          | inl earlier ↦ learned_said w door f.before (legal_before w f.before (f.entry ∷ f.place.after)
+              (subst (λ (xs : List Entry). IsLegal w xs) f.place.whole sound_base.legal))
+              (unforged_before w f.before (f.entry ∷ f.place.after) (subst (λ (xs : List Entry). NothingForged w xs) f.place.whole
+              sound_base.unforged)) right found.0 earlier signed
+          | inr taken ↦ sound_base.unforged.said f.before f.entry f.place found.0 taken signed
+        ] in
+        absurd (not_before f is.0 is.3 (subst (λ (b : Body). HasSaid f.before door b) is.1
+        (subst (λ (i : ℕ). HasSaid f.before i found.0.body) is.2 was)))
+
+    -- all that the door had executed then stands before it
     executed_before : (f : FirstRequest w base door r) (c : ℕ) (before rest : List Request) →
         requests ≡ before ++ request door r.k ∷ rest
         → updates_of c (executed w.group (known_then w f.before door f.entry)) ≤ updates_of c (kept_after [] (filter_map d before))
     executed_before f c before rest e =
         let known : List (Signed Body) = known_then w f.before door f.entry in
+        let own_certified : Request → Option Update = certified_requests w.group (known_then w f.before door f.entry) in
         let runs_f : List (List (List ℕ)) = ordered_run w.group (facts_of w.group (known_then w f.before door f.entry)) in
         let grown : Begins (ordered_run w.group (facts_of w.group (known_then w f.before door f.entry))) runs =
         runs_then f.before f.entry f.place f.by f.loud in
         let split : requests ≡ eligible_requests w.group [] runs_f ++ eligible_requests w.group runs_f grown.rest =
         ap (eligible_requests w.group []) grown.same ∙ eligible-append w.group [] runs_f grown.rest in
-        let all : first_missing d (eligible_requests w.group [] runs_f) ≡ None = missing_left d
-        (eligible_requests w.group [] runs_f) (eligible_requests w.group runs_f grown.rest)
-        (subst (λ (rs : List Request). first_missing d rs ≡ None) split none) in
-        let in_base : Stands whole f.before f.entry = subst (λ (xs : List Entry). Stands xs f.before f.entry) (sym begun.same)
+        let in_whole : Stands whole f.before f.entry = subst (λ (xs : List Entry). Stands xs f.before f.entry) (sym begun.same)
         (stands_on begun.rest f.place) in
-        let begins : Begins (executed_of w.group (certified_requests w.group known) runs_f) (executed_of w.group d runs_f) =
-        executed_whole w.group (certified_requests w.group known) d (λ x u v one other. certified_same w whole sound door m right
-        (are.correct m is_m) known (known_by w whole m) (known_learned w door in_base f.by f.loud)
-        (known_of_within (heard w whole m)) x.j x.k u v one other) runs_f runs_f
-        record { rest = []; same = sym (append-nil runs_f) } all in
-        let ahead : Begins (eligible_requests w.group [] runs_f) before = stands_behind_all
-        (eligible_requests w.group [] runs_f) (eligible_requests w.group runs_f grown.rest) before rest (request door r.k)
-        (sym split ∙ e) (not_before f) in
-        let one : updates_of c (executed_of w.group (certified_requests w.group known) runs_f) ≤
-        updates_of c (executed_of w.group d runs_f) = updates_grow c _ _ begins in
-        let is_one : updates_of c (executed w.group known) ≡ updates_of c (executed_of w.group (certified_requests w.group known)
-        runs_f) = ap (updates_of c) (executed_is w.group known) in
-        let is_two : updates_of c (executed_of w.group d runs_f) ≡ updates_of c (kept_after []
-        (filter_map d (eligible_requests w.group [] runs_f))) = ap (updates_of c) (executed_as w.group d runs_f all) in
-        let two : updates_of c (kept_after [] (filter_map d (eligible_requests w.group [] runs_f))) ≤
+        let alike : (x : Request) (a b : Update) → own_certified x ≡ Some a → d x ≡ Some b → a ≡ b = λ x a b one other.
+        certified_same w whole sound door m right correct known (known_by w whole m) (known_learned w door in_whole f.by f.loud)
+        (known_of_within (heard w whole m)) x.j x.k a b one other in
+        let ahead : Begins (certified_run own_certified (eligible_requests w.group [] runs_f)) (filter_map d before) =
+        elim (append_place (eligible_requests w.group [] runs_f) (eligible_requests w.group runs_f grown.rest) before rest
+        (request door r.k) (sym split ∙ e)) [
+          | inl found ↦ subst (λ (us : List Update). Begins us (filter_map d before))
+              (sym (ap (certified_run own_certified) found.1
+              ∙ run_stops own_certified before found.0 (request door r.k) (uncertified f (own_certified (request door r.k)) refl)))
+              (run_begins own_certified d alike before (missing_left d before (request door r.k ∷ rest)
+              (subst (λ (rs : List Request). first_missing d rs ≡ None) e none)))
+          | inr behind ↦
+              let first_ones : Begins (certified_run own_certified (eligible_requests w.group [] runs_f))
+              (filter_map d (eligible_requests w.group [] runs_f)) = run_begins own_certified d alike
+              (eligible_requests w.group [] runs_f) (missing_left d (eligible_requests w.group [] runs_f)
+              (eligible_requests w.group runs_f grown.rest)
+              (subst (λ (rs : List Request). first_missing d rs ≡ None) split none)) in
+              begins_through first_ones (map_begins d record { rest = behind.0; same = behind.1 })
+        ] in
+        let more : updates_of c (kept_after [] (certified_run own_certified (eligible_requests w.group [] runs_f))) ≤
         updates_of c (kept_after [] (filter_map d before)) = kept_count_more c
-        (filter_map d (eligible_requests w.group [] runs_f)) (filter_map d before) (map_begins d ahead) in
-        omega (arith, one, is_one, is_two, two)
+        (certified_run own_certified (eligible_requests w.group [] runs_f)) (filter_map d before) ahead in
+        let is : updates_of c (executed w.group known) ≡ updates_of c (kept_after [] (certified_run own_certified
+        (eligible_requests w.group [] runs_f))) = ap (updates_of c) (executed_run w.group known) in
+        omega (arith, more, is)
 
   -- a request among those by the turn of another was said by then
   so_far_said : (r : PoRequest) (f : FirstRequest w base door r) (q : PoRequest)

@@ -7,8 +7,8 @@ use Rattle.std.proofs.lemmas.Bool.{cases_lt, eq-eqb, eqb-false}
 use Rattle.std.proofs.lemmas.List.Elements.{filter-append}
 use Rattle.std.specs.List.{filter_map, flat_map, cons_option}
 use Rattle.plain_lists.specs.Lists.{IsIn, here, there, Begins}
-use Rattle.plain_lists.proofs.Members.{none_in, in_cons_cases, in_cases, in_left, in_right, in_first, in_map, in_map_from}
-use Rattle.plain_lists.proofs.Members.{in_flat_map, in_flat_map_from, none_some}
+use Rattle.plain_lists.proofs.Members.{none_in, in_cons_cases, in_left, in_right, in_first, in_map, in_map_from}
+use Rattle.plain_lists.proofs.Members.{in_flat_map, none_some}
 use Rattle.quorum_sets.specs.Masters.{numbers_below}
 use Rattle.message_types.specs.declared.updates.Update.{Update}
 use Rattle.protocol_rules.specs.Words.{numbers_from}
@@ -17,7 +17,7 @@ use Rattle.protocol_rules.specs.Matrix.{eligible, reach}
 use Rattle.protocol_rules.specs.Execution.{Request, requests_between, newly_eligible, eligible_requests, certified_run, first_missing}
 use Rattle.protocol_rules.specs.Execution.{updates_of, kept_after}
 use Rattle.protocol_rules.proofs.Kept.{kept_after-append}
-use Rattle.protocol_rules.proofs.Numbers.{from_in, from_below, from_above}
+use Rattle.protocol_rules.proofs.Numbers.{from_in}
 use Rattle.agreement.proofs.Places.{heads_same, tails_same}
 use Rattle.agreement.proofs.CommittedStays.{in_below}
 use Rattle.agreement.proofs.ExecutedInTurn.{InTurn, kept_more}
@@ -49,14 +49,6 @@ pub placed : {X : Type 0} {x : X} {xs : List X} → IsIn x xs → (first : List 
 placed (here rest) = ([], rest, refl)
 placed {X} (there y rest h) = let found = placed h in
     (y ∷ found.0, found.1, ap (λ (zs : List X). y ∷ zs) found.2)
-
--- what isn't among the first stands behind them
-pub stands_behind_all : {X : Type 0} (xs ys first rest : List X) (x : X) → xs ++ ys ≡ first ++ x ∷ rest → (IsIn x xs → ⊥) →
-    Begins xs first
-stands_behind_all {X} xs ys first rest x e none = elim (append_place xs ys first rest x e) [
-  | inl found ↦ absurd (none (subst (λ (zs : List X). IsIn x zs) (sym found.1) (in_first first found.0)))
-  | inr behind ↦ record { rest = behind.0; same = behind.1 }
-]
 
 abbrev pub request : ℕ → ℕ → Request
 request j k = record { j = j; k = k }
@@ -119,30 +111,6 @@ eligible_there g before (rows ∷ runs) j k low above reached = elim (cases_lt (
       in_right (newly_eligible g before rows) (eligible_there g (before ++ rows ∷ []) runs j k low (omega arith) (omega arith))
 ]
 
--- and each of them the rows reach
-pub eligible_reached : (g : Group) (before runs : List (List (List ℕ))) (j k : ℕ) →
-    IsIn (request j k) (eligible_requests g before runs) → (1 ≤ k) × (k ≤ reach g runs j)
-unfolding eligible_requests
-eligible_reached g before [] j k h = absurd (none_in h)
-eligible_reached g before (rows ∷ runs) j k h = elim (in_cases (newly_eligible g before rows) h) [
-  | inl now ↦
-      let one = in_flat_map_from (λ j. requests_between j (reach g before j) (eligible g rows j)) (numbers_below g.n) now in
-      let among = in_map_from (λ (k : ℕ). request one.0 k) (numbers_from (reach g before one.0 + 1)
-      (eligible g rows one.0 - reach g before one.0)) one.2 in
-      let is_j : j ≡ one.0 = ap (λ (r : Request). r.j) among.2 in
-      let is_k : k ≡ among.0 = ap (λ (r : Request). r.k) among.2 in
-      let high : among.0 < reach g before one.0 + 1 + (eligible g rows one.0 - reach g before one.0) =
-      from_below (reach g before one.0 + 1) (eligible g rows one.0 - reach g before one.0) among.0 among.1 in
-      let above : reach g before one.0 + 1 ≤ among.0 =
-      from_above (reach g before one.0 + 1) (eligible g rows one.0 - reach g before one.0) among.0 among.1 in
-      let same : eligible g rows j ≡ eligible g rows one.0 = ap (eligible g rows) is_j in
-      (omega (arith, is_k, above), omega (arith, is_k, high, above, same))
-  | inr later ↦
-      let deeper = eligible_reached g (before ++ rows ∷ []) runs j k later in
-      let high : k ≤ reach g runs j = deeper.1 in
-      (deeper.0, omega arith)
-]
-
 -- Before a master's request stand its lower ones that weren't eligible before.
 pub eligible_lower : (g : Group) (before runs : List (List (List ℕ))) (first rest : List Request) (j k i : ℕ) → j < g.n →
     eligible_requests g before runs ≡ first ++ request j k ∷ rest → reach g before j < i → i < k → IsIn (request j i) first
@@ -172,6 +140,41 @@ run_whole d (r ∷ xs) e = by (d r) e (run_whole d xs)
         → ◌≡◌ {A = List Update} (elim o [ None ↦ [] | Some u ↦ u ∷ certified_run d xs ]) (cons_option o (filter_map d xs))
     by None e later = absurd (none_some (sym e))
     by (Some u) e later = ap (λ (us : List Update). u ∷ us) (later e)
+
+-- a run of what is certified alike begins it, as far as it goes
+pub run_begins : (c d : Request → Option Update) → ((r : Request) (u v : Update) → c r ≡ Some u → d r ≡ Some v → u ≡ v)
+    → (xs : List Request) → first_missing d xs ≡ None → Begins (certified_run c xs) (filter_map d xs)
+unfolding certified_run first_missing
+run_begins c d same [] e = record { rest = []; same = refl }
+run_begins c d same (r ∷ xs) e = by (c r) (d r) refl refl e (run_begins c d same xs)
+  where
+    by : (o p : Option Update) → c r ≡ o → d r ≡ p
+        → ◌≡◌ {A = Option Request} (elim p [ None ↦ Some r | Some u ↦ first_missing d xs ]) None
+        → (first_missing d xs ≡ None → Begins (certified_run c xs) (filter_map d xs))
+        → Begins {X = Update} (elim o [ None ↦ [] | Some u ↦ u ∷ certified_run c xs ]) (cons_option p (filter_map d xs))
+    by None p is other e later = record { rest = cons_option p (filter_map d xs); same = refl }
+    by (Some u) None is other e later = absurd (none_some (sym e))
+    by (Some u) (Some v) is other e later =
+        let rest : Begins (certified_run c xs) (filter_map d xs) = later e in
+        record {
+          rest = rest.rest;
+          same = ap (λ (x : Update). x ∷ filter_map d xs) (sym (same r u v is other))
+              ∙ ap (λ (us : List Update). u ∷ us) rest.same;
+        }
+
+-- it stops at what isn't certified
+pub run_stops : (c : Request → Option Update) (xs ys : List Request) (r : Request) → c r ≡ None →
+    certified_run c (xs ++ r ∷ ys) ≡ certified_run c xs
+unfolding certified_run
+run_stops c [] ys r none = ap (λ (o : Option Update). elim o as (λ _. List Update)
+    [ None ↦ [] | Some u ↦ u ∷ certified_run c ys ]) none
+run_stops c (x ∷ xs) ys r none = by (c x) (run_stops c xs ys r none)
+  where
+    by : (o : Option Update) → certified_run c (xs ++ r ∷ ys) ≡ certified_run c xs
+        → ◌≡◌ {A = List Update} (elim o [ None ↦ [] | Some u ↦ u ∷ certified_run c (xs ++ r ∷ ys) ])
+        (elim o [ None ↦ [] | Some u ↦ u ∷ certified_run c xs ])
+    by None later = refl
+    by (Some u) later = ap (λ (us : List Update). u ∷ us) later
 
 pub missing_left : (d : Request → Option Update) (xs ys : List Request) → first_missing d (xs ++ ys) ≡ None → first_missing d xs ≡ None
 unfolding first_missing

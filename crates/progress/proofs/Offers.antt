@@ -1,7 +1,8 @@
--- What a connected master requested the leader of view 0 has proposed five rounds later, in rows that make it eligible: four
--- rounds later the leader's summaries do so, at its tick in the fifth it offers these or counts as much as offered.
-use Rattle.std.proofs.Common.{◌≡◌, ℕ, ◌+◌, ◌-◌, ◌<◌, ◌≤◌, Bool, true, false, List, [], ◌∷◌, ◌++◌}
-use Rattle.std.proofs.Common.{nat_lt, refl, sym, ◌∙◌, ap, subst, inl, inr, arith, append_assoc}
+-- What a connected master requested the view offers five rounds later, in rows that make it eligible: four rounds later the
+-- leader's summaries do so, at its tick in the fifth it offers these, or counts as much as offered; or it had ordered such up to
+-- the base of the plan.
+use Rattle.std.proofs.Common.{◌≡◌, ℕ, ◌+◌, ◌-◌, ◌<◌, ◌≤◌, Bool, true, false, List, [], ◌∷◌, ◌++◌, Some}
+use Rattle.std.proofs.Common.{map, nat_lt, refl, sym, ◌∙◌, ap, subst, inl, inr, ◌⊎◌, arith, append_assoc}
 use Rattle.std.proofs.lemmas.Bool.{false≢true, cases_lt, lt-ltb}
 use Rattle.std.proofs.lemmas.Grind.{flat_map-append}
 use Rattle.std.specs.List.{filter_map}
@@ -9,14 +10,14 @@ use Rattle.plain_lists.specs.Lists.{IsIn, here, there, Begins, Within}
 use Rattle.plain_lists.proofs.Members.{any_in, in_left, in_filter_map_from}
 use Rattle.message_types.specs.declared.signed.Signed.{Signed}
 use Rattle.message_types.specs.declared.ordering.PrePrepare.{PrePrepare}
+use Rattle.message_types.specs.declared.views.Plan.{Plan}
 use Rattle.message_types.specs.declared.body.Body.{Body}
 use Rattle.message_types.specs.declared.body.Body.TheVariants as body
 use Rattle.protocol_rules.specs.Words.{greatest_of, numbers_from}
 use Rattle.protocol_rules.specs.Group.{Group, is_live, leader_of, most_number, window}
 use Rattle.protocol_rules.specs.Facts.{facts_of}
 use Rattle.protocol_rules.specs.Matrix.{latest_frames, eligible, reach, exceeds}
-use Rattle.protocol_rules.specs.Plans.{first_plan}
-use Rattle.protocol_rules.specs.Order.{stable, plan_known}
+use Rattle.protocol_rules.specs.Order.{stable, plan_known, ordered, gapless}
 use Rattle.protocol_rules.specs.Views.{view}
 use Rattle.protocol_rules.specs.Master.{Heard, said_before, latest_rows, next_number, offered_number, counted_rows}
 use Rattle.protocol_rules.proofs.Numbers.{from_above}
@@ -28,20 +29,21 @@ use Rattle.agreement.specs.Laws.{IsSound, known_by}
 use Rattle.agreement.proofs.Places.{stands_on, whole_upto}
 use Rattle.agreement.proofs.KnownAsItGrows.{known_then, known_learned, heard_more}
 use Rattle.agreement.proofs.FramesInside.{facts_more}
-use Rattle.agreement.proofs.QuorumsStay.{member_below, each_below, stable_more}
+use Rattle.agreement.proofs.QuorumsStay.{member_below, each_below, stable_more, view_more}
 use Rattle.agreement.proofs.CommittedStays.{in_below}
+use Rattle.agreement.proofs.VouchedIsOrdered.{ordered_stays}
 use Rattle.progress.specs.Rounds.{AreConnected, HasTaken, HasTick, IsRound}
 use Rattle.progress.specs.Laws.{next_offer, counted_before}
-use Rattle.progress.specs.FirstView.{InFirstView, IsProposed, RequestedIsProposed}
-use Rattle.progress.proofs.Arriving.{in_more, known_grows, known_upto, tick_loud, stands_in_round}
+use Rattle.progress.specs.UnderLeader.{IsLed, IsOffer, end_of, RequestedIsOffer}
+use Rattle.progress.proofs.Arriving.{in_more, known_from, known_grows, known_upto, tick_loud, stands_in_round}
 use Rattle.progress.proofs.Certifying.{below_group}
 use Rattle.progress.proofs.Reaching.{left_before, request_number}
 use Rattle.progress.proofs.Joined.{eligible_in_four_rounds}
 use Rattle.progress.proofs.Offering.{leader_offers}
-use Rattle.progress.proofs.Proposed.{offered_by_leader}
+use Rattle.progress.proofs.Proposed.{plan_kept, offered_offer}
 use Rattle.progress.proofs.Settled.{sound_before, view_then}
-use Rattle.progress.proofs.Worthy.{rows_latest, counted_is}
-use Rattle.progress.proofs.Ordered.{open_zero}
+use Rattle.progress.proofs.Worthy.{rows_latest, counted_low, counted_high, gapless_more}
+use Rattle.progress.proofs.Ordered.{open_kept, begins_through, begins_append}
 
 -- a round may go on
 pub round_longer : (w : Setup) (connected : ℕ → Bool) (beginning round more : List Entry) → IsRound w connected beginning round →
@@ -85,11 +87,11 @@ exceeds_none g rows f j low e = elim (cases_lt (f j) (eligible g rows j)) [
 ]
 
 -- the next number only rises
-pub next_more : (said more : List Body) → Within said more → next_number said 0 first_plan ≤ next_number more 0 first_plan
-next_more said more within =
-    let low : greatest_of (filter_map (offered_number 0) said) ≤ greatest_of (filter_map (offered_number 0) more) = each_below
-    (offered_number 0) (greatest_of (filter_map (offered_number 0) more)) said
-    (λ x i. member_below (offered_number 0) more (within x i)) in
+pub next_more : (v : ℕ) (plan : Plan) (said more : List Body) → Within said more → next_number said v plan ≤ next_number more v plan
+next_more v plan said more within =
+    let low : greatest_of (filter_map (offered_number v) said) ≤ greatest_of (filter_map (offered_number v) more) = each_below
+    (offered_number v) (greatest_of (filter_map (offered_number v) more)) said
+    (λ x i. member_below (offered_number v) more (within x i)) in
     omega arith
 
 pub said_more : (w : Setup) (before more : List Entry) (m : ℕ) →
@@ -100,26 +102,32 @@ said_more w before more m b h =
     (subst (λ (bs : List Body). IsIn b bs) (sym (flat_map-append (λ (x : Heard). Rattle.std.proofs.Common.map (λ f. f.body) x.said)
     (heard w before m) grown.0)) (in_left (said_before grown.0) h))
 
-module _ (w : Setup) (connected : ℕ → Bool) (beginning four fifth : List Entry) (live : is_live w.group ≡ true)
-    (sound : IsSound w (four ++ fifth)) (are : AreConnected w connected) (led : InFirstView w connected (four ++ fifth))
-    (left : (m : ℕ) → connected m ≡ true → 1 ≤ room w (own (four ++ fifth) m))
-    (numbers : next_offer w (four ++ fifth) 0 first_plan ≤ most_number)
-    (windows : next_offer w (four ++ fifth) 0 first_plan ≤ stable w.group (facts_of w.group
-    (known_by w beginning (leader_of w.group 0))) + window)
-    (t : HasTick fifth (leader_of w.group 0)) (goes_on : Begins beginning (four ++ t.before))
+-- the rows of which a result tells
+abbrev pub Reaches : Setup → ℕ → Plan → List Entry → ℕ → ℕ → Type 0
+Reaches w v plan whole j k = (s : ℕ) × (rows : List (List ℕ)) × (k ≤ eligible w.group rows j)
+    × (IsOffer w v plan whole s rows ⊎ ((1 ≤ s) × (s ≤ plan.base) × (ordered w.group (facts_of w.group (known_by w whole
+    (leader_of w.group v))) s ≡ Some rows)))
+
+module _ (w : Setup) (connected : ℕ → Bool) (v : ℕ) (plan : Plan) (beginning middle four fifth : List Entry)
+    (live : is_live w.group ≡ true) (sound : IsSound w (four ++ fifth)) (are : AreConnected w connected)
+    (led : IsLed w connected v plan beginning (four ++ fifth))
+    (numbers : next_offer w (four ++ fifth) v plan ≤ most_number)
+    (windows : next_offer w (four ++ fifth) v plan ≤ stable w.group (facts_of w.group
+    (known_by w middle (leader_of w.group v))) + window)
+    (t : HasTick fifth (leader_of w.group v)) (begun : Begins beginning middle) (goes_on : Begins middle (four ++ t.before))
     (j k : ℕ) (low : j < w.group.n) (one : 1 ≤ k)
-    (reached : k ≤ eligible w.group (latest_rows w.group (known_then w (four ++ t.before) (leader_of w.group 0) t.entry)) j) where
+    (reached : k ≤ eligible w.group (latest_rows w.group (known_then w (four ++ t.before) (leader_of w.group v) t.entry)) j) where
   abbrev leader : ℕ
-  leader = leader_of w.group 0
+  leader = leader_of w.group v
 
   abbrev whole : List Entry
   whole = four ++ fifth
 
   abbrev known : List (Signed Body)
-  known = known_then w (four ++ t.before) (leader_of w.group 0) t.entry
+  known = known_then w (four ++ t.before) (leader_of w.group v) t.entry
 
   abbrev said : List Body
-  said = said_before (heard w (four ++ t.before) (leader_of w.group 0))
+  said = said_before (heard w (four ++ t.before) (leader_of w.group v))
 
   place : Stands (four ++ fifth) (four ++ t.before) t.entry
   place = stands_in_round four t.place
@@ -127,97 +135,142 @@ module _ (w : Setup) (connected : ℕ → Bool) (beginning four fifth : List Ent
   loud : is_silent t.entry.event ≡ false
   loud = tick_loud t.entry.event t.tick
 
-  zero_view : view w.group known ≡ 0
-  zero_view = view_then w connected whole live sound are led leader led.leader place t.by loud
-
-  grown : Begins (known_by w beginning (leader_of w.group 0)) known
-  grown = subst (λ (ps : List (Signed Body)). Begins (known_by w beginning leader) ps)
+  grown : (before : List Entry) → Begins before (four ++ t.before) → Begins (known_by w before (leader_of w.group v)) known
+  grown before b = subst (λ (ps : List (Signed Body)). Begins (known_by w before leader) ps)
       (known_upto w (four ++ t.before) t.entry leader t.by loud)
-      (known_grows w ((four ++ t.before) ++ t.entry ∷ []) beginning leader
-      record {
-        rest = goes_on.rest ++ t.entry ∷ [];
-        same = ap (λ (xs : List Entry). xs ++ t.entry ∷ []) goes_on.same
-            ∙ append_assoc beginning goes_on.rest (t.entry ∷ []);
-      })
+      (known_grows w ((four ++ t.before) ++ t.entry ∷ []) before leader
+      (begins_through b (begins_append (four ++ t.before) (t.entry ∷ []))))
 
-  next_low : next_number said 0 first_plan ≤ next_offer w (four ++ fifth) 0 first_plan
-  next_low = next_more said (said_before (heard w whole leader)) (λ b h. subst (λ (xs : List Entry). IsIn b
+  from_start : Begins (known_by w beginning (leader_of w.group v)) known
+  from_start = grown beginning (begins_through begun goes_on)
+
+  in_view : view w.group known ≡ v
+  in_view =
+      let high : view w.group known ≤ v = view_then w connected v plan beginning whole live sound are led leader led.leader place
+      t.by loud in
+      let more : view w.group (known_by w beginning (leader_of w.group v)) ≤ view w.group known = view_more w.group
+      (known_by w beginning leader) known (λ p h. in_more from_start h) in
+      let came : view w.group (known_by w beginning (leader_of w.group v)) ≡ v = led.came leader led.leader in
+      omega (arith, high, more, came)
+
+  knows : plan_known (facts_of w.group known) v ≡ Some plan
+  knows = plan_kept w.group (known_by w beginning leader) known v plan from_start (led.planned leader led.leader)
+
+  based : plan.base ≤ gapless w.group (facts_of w.group known)
+  based =
+      let first : plan.base ≤ gapless w.group (facts_of w.group (known_by w beginning (leader_of w.group v))) =
+      led.based leader led.leader in
+      let more : gapless w.group (facts_of w.group (known_by w beginning (leader_of w.group v))) ≤
+      gapless w.group (facts_of w.group known) = gapless_more w.group (known_by w beginning leader) known from_start in
+      omega (arith, first, more)
+
+  next_low : next_number said v plan ≤ next_offer w (four ++ fifth) v plan
+  next_low = next_more v plan said (said_before (heard w whole leader)) (λ b h. subst (λ (xs : List Entry). IsIn b
       (said_before (heard w xs leader))) (sym place.whole) (said_more w (four ++ t.before) (t.entry ∷ place.after) leader b h))
 
-  next_is : next_number said (view w.group known) first_plan ≡ next_number said 0 first_plan
-  next_is = ap (λ (v : ℕ). next_number said v first_plan) zero_view
+  next_is : next_number said (view w.group known) plan ≡ next_number said v plan
+  next_is = ap (λ (x : ℕ). next_number said x plan) in_view
 
-  abbrev Result : Type 0
-  Result = (s : ℕ) × (rows : List (List ℕ)) × IsProposed w (four ++ fifth) s rows × (k ≤ eligible w.group rows j)
+  beyond : end_of plan < next_number said v plan
+  beyond = omega arith
 
-  counted : exceeds w.group (latest_rows w.group known) (counted_before w.group known first_plan
-      (next_number said (view w.group known) first_plan)) ≡ false → Result
+  counted : exceeds w.group (latest_rows w.group known) (counted_before w.group known plan
+      (next_number said (view w.group known) plan)) ≡ false → Reaches w v plan (four ++ fifth) j k
   counted e =
-      let next : ℕ = next_number said (view w.group known) first_plan in
-      let low_enough : eligible w.group (latest_rows w.group known) j ≤ counted_before w.group known first_plan
-      (next_number said (view w.group known) first_plan) j = exceeds_none w.group (latest_rows w.group known)
-      (counted_before w.group known first_plan next) j low e in
-      let counts = counted_rows w.group (facts_of w.group known) (view w.group known) first_plan in
-      let found = reach_has w.group (filter_map (counted_rows w.group (facts_of w.group known) (view w.group known) first_plan)
-      (numbers_from 1 (next_number said (view w.group known) first_plan - 1))) j k one (omega arith) in
+      let next : ℕ = next_number said (view w.group known) plan in
+      let low_enough : eligible w.group (latest_rows w.group known) j ≤ counted_before w.group known plan
+      (next_number said (view w.group known) plan) j = exceeds_none w.group (latest_rows w.group known)
+      (counted_before w.group known plan next) j low e in
+      let counts = counted_rows w.group (facts_of w.group known) (view w.group known) plan in
+      let found = reach_has w.group (filter_map (counted_rows w.group (facts_of w.group known) (view w.group known) plan)
+      (numbers_from 1 (next_number said (view w.group known) plan - 1))) j k one (omega (arith, low_enough, reached)) in
       let source = in_filter_map_from counts (numbers_from 1 (next - 1)) found.1 in
-      let above : 1 ≤ source.0 = from_above 1 (next - 1) source.0 source.1 in (
+      let above : 1 ≤ source.0 = from_above 1 (next - 1) source.0 source.1 in
+      let is : counted_rows w.group (facts_of w.group known) v plan source.0 ≡ Some found.0 =
+      ap (λ (x : ℕ). counted_rows w.group (facts_of w.group known) x plan source.0) (sym in_view) ∙ source.2 in (
         source.0,
         found.0,
-        offered_by_leader w connected whole live sound.legal are led sound.unforged leader (are.correct leader led.leader) known
-            (known_learned w leader place t.by loud) source.0 found.0
-            (sym (counted_is w.group (facts_of w.group known) (view w.group known) source.0 first_plan zero_view refl above)
-            ∙ source.2),
         found.2,
+        elim (cases_lt plan.base source.0) [
+          | inl high ↦ inl (offered_offer w connected v plan beginning whole live sound are led leader led.leader known
+              (known_learned w leader place t.by loud) source.0 found.0
+              (sym (counted_high w.group (facts_of w.group known) v source.0 plan high) ∙ is))
+          | inr within ↦ inr (
+            above,
+            within,
+            later_order source.0 found.0
+                (sym (counted_low w.group (facts_of w.group known) v source.0 plan within) ∙ is),
+          )
+        ],
+      )
+    where
+      later_order : (s : ℕ) (rows : List (List ℕ)) → ordered w.group (facts_of w.group known) s ≡ Some rows →
+          ordered w.group (facts_of w.group (known_by w (four ++ fifth) (leader_of w.group v))) s ≡ Some rows
+      later_order s rows e =
+          let more : Begins known (known_by w (four ++ fifth) (leader_of w.group v)) = known_from w leader place t.by loud in
+          subst (λ (ps : List (Signed Body)). ordered w.group (facts_of w.group ps) s ≡ Some rows) (sym more.same)
+          (ordered_stays w.group known more.rest s rows e)
+
+  offered_now : HasSaid (four ++ fifth) (leader_of w.group v) (body.PrePrepare record {
+    v = view w.group known;
+    s = next_number said (view w.group known) plan;
+    frames = latest_frames w.group known;
+  }) → Reaches w v plan (four ++ fifth) j k
+  offered_now was =
+      let high : end_of plan < next_number said (view w.group known) plan = subst (λ (x : ℕ). end_of plan < x) (sym next_is) beyond
+      in (
+        next_number said (view w.group known) plan,
+        latest_rows w.group known,
+        reached,
+        inl (
+          omega (arith, high),
+          inr (
+            high,
+            record {
+              word = record {
+                v = view w.group known;
+                s = next_number said (view w.group known) plan;
+                frames = latest_frames w.group known;
+              };
+              said = was;
+              of_view = in_view;
+              numbered = refl;
+              are = sym (rows_latest w.group known);
+            },
+          ),
+        ),
       )
 
-  offered_now : HasSaid (four ++ fifth) (leader_of w.group 0) (body.PrePrepare record {
-    v = view w.group known;
-    s = next_number said (view w.group known) first_plan;
-    frames = latest_frames w.group known;
-  }) → Result
-  offered_now was = (
-    next_number said (view w.group known) first_plan,
-    latest_rows w.group known,
-    record {
-      word = record {
-        v = view w.group known;
-        s = next_number said (view w.group known) first_plan;
-        frames = latest_frames w.group known;
-      };
-      said = was;
-      of_view = zero_view;
-      numbered = refl;
-      are = sym (rows_latest w.group known);
-    },
-    reached,
-  )
-
-  pub offers : (s : ℕ) × (rows : List (List ℕ)) × IsProposed w (four ++ fifth) s rows × (k ≤ eligible w.group rows j)
+  pub offers : Reaches w v plan (four ++ fifth) j k
   offers =
-      let most : next_offer w (four ++ fifth) 0 first_plan ≤ most_number = numbers in
-      let high : next_offer w (four ++ fifth) 0 first_plan ≤ stable w.group (facts_of w.group
-      (known_by w beginning (leader_of w.group 0))) + window = windows in
-      let below : next_number said 0 first_plan ≤ next_offer w (four ++ fifth) 0 first_plan = next_low in
-      let same : next_number said (view w.group known) first_plan ≡ next_number said 0 first_plan = next_is in
-      let risen : stable w.group (facts_of w.group (known_by w beginning (leader_of w.group 0))) ≤
-      stable w.group (facts_of w.group known) = stable_more w.group (facts_of w.group (known_by w beginning leader))
-      (facts_of w.group known) (facts_more w.group (known_by w beginning leader) known (λ p h. in_more grown h)) in
-      elim (leader_offers w whole (four ++ t.before) t.entry leader first_plan live sound.legal (are.correct leader led.leader)
-      (left leader led.leader) place t.by t.tick (ap (leader_of w.group) (sym zero_view)) (open_zero w.group known zero_view)
-      (ap (plan_known (facts_of w.group known)) zero_view) (omega arith) (omega arith) (omega arith)) [
+      let most : next_offer w (four ++ fifth) v plan ≤ most_number = numbers in
+      let high : next_offer w (four ++ fifth) v plan ≤ stable w.group (facts_of w.group
+      (known_by w middle (leader_of w.group v))) + window = windows in
+      let below : next_number said v plan ≤ next_offer w (four ++ fifth) v plan = next_low in
+      let same : next_number said (view w.group known) plan ≡ next_number said v plan = next_is in
+      let on : Begins (known_by w middle (leader_of w.group v)) known = grown middle goes_on in
+      let risen : stable w.group (facts_of w.group (known_by w middle (leader_of w.group v))) ≤
+      stable w.group (facts_of w.group known) = stable_more w.group (facts_of w.group (known_by w middle leader))
+      (facts_of w.group known) (facts_more w.group (known_by w middle leader) known (λ p h. in_more on h)) in
+      elim (leader_offers w whole (four ++ t.before) t.entry leader plan live sound.legal (are.correct leader led.leader)
+      (led.leaves leader led.leader) place t.by t.tick (ap (leader_of w.group) (sym in_view))
+      (open_kept w.group (known_by w beginning leader) known (λ p h. in_more from_start h)
+      (led.came leader led.leader ∙ sym in_view) (led.opened leader led.leader))
+      (ap (plan_known (facts_of w.group known)) in_view ∙ knows) based (omega (arith, most, below, same))
+      (omega (arith, high, below, same, risen))) [
         | inl none ↦ counted none
         | inr was ↦ offered_now was
       ]
 
-pub requested_is_proposed : RequestedIsProposed
-requested_is_proposed w connected beginning first second third fourth fifth live sound are fair led left numbers windows j r is_j was =
-    let three : List Entry = ((beginning ++ first) ++ second) ++ third in
+pub requested_is_offer : RequestedIsOffer
+requested_is_offer w connected v plan beginning middle first second third fourth fifth live sound are fair led begun numbers windows
+    j r is_j was =
+    let three : List Entry = ((middle ++ first) ++ second) ++ third in
     let four : List Entry = three ++ fourth in
-    let leader : ℕ = leader_of w.group 0 in
-    let fair_four : IsRound w connected (((beginning ++ first) ++ second) ++ third) fourth = fair.1.1.1.0 in
-    let fair_five : IsRound w connected ((((beginning ++ first) ++ second) ++ third) ++ fourth) fifth = fair.1.1.1.1.0 in
-    let t : HasTick fifth (leader_of w.group 0) = fair_five.ticks leader led.leader in
+    let leader : ℕ = leader_of w.group v in
+    let fair_four : IsRound w connected (((middle ++ first) ++ second) ++ third) fourth = fair.1.1.1.0 in
+    let fair_five : IsRound w connected ((((middle ++ first) ++ second) ++ third) ++ fourth) fifth = fair.1.1.1.1.0 in
+    let t : HasTick fifth (leader_of w.group v) = fair_five.ticks leader led.leader in
     let place = stands_in_round four t.place in
     let more : List Entry = t.before ++ t.entry ∷ [] in
     let upto : List Entry = (four ++ t.before) ++ t.entry ∷ [] in
@@ -225,23 +278,20 @@ requested_is_proposed w connected beginning first second third fourth fifth live
     let sound_upto : IsSound w upto = sound_before w upto place.after
     (subst (λ (xs : List Entry). IsSound w xs) (whole_upto place) sound) in
     let sound_there : IsSound w (three ++ (fourth ++ more)) = subst (λ (xs : List Entry). IsSound w xs) same sound_upto in
-    let legal_first : IsLegal w beginning = (sound_before w beginning first (sound_before w (beginning ++ first) second
-    (sound_before w ((beginning ++ first) ++ second) third (sound_before w three fourth
+    let legal_first : IsLegal w middle = (sound_before w middle first (sound_before w (middle ++ first) second
+    (sound_before w ((middle ++ first) ++ second) third (sound_before w three fourth
     (sound_before w four fifth sound))))).legal in
     let reached : r.k ≤ eligible w.group (latest_rows w.group (known_by w (three ++ (fourth ++ more)) leader)) j =
-    eligible_in_four_rounds w connected beginning first second third (fourth ++ more) live sound_there.legal sound.sizes
+    eligible_in_four_rounds w connected middle first second third (fourth ++ more) live sound_there.legal sound.sizes
     sound_there.unforged are (fair.0, (fair.1.0, (fair.1.1.0, (round_longer w connected three fourth more fair_four, tt))))
     (λ m is_m. subst (λ (xs : List Entry). 1 ≤ room w (own xs m)) same (left_before w upto place.after m
-    (subst (λ (xs : List Entry). 1 ≤ room w (own xs m)) (whole_upto place) (left m is_m)))) j r is_j was leader led.leader in
+    (subst (λ (xs : List Entry). 1 ≤ room w (own xs m)) (whole_upto place) (led.leaves m is_m)))) j r is_j was leader led.leader in
     let known : known_by w (three ++ (fourth ++ more)) leader ≡ known_then w (four ++ t.before) leader t.entry =
     ap (λ (xs : List Entry). known_by w xs leader) (sym same)
     ∙ known_upto w (four ++ t.before) t.entry leader t.by (tick_loud t.entry.event t.tick) in
-    let later : Begins beginning (four ++ t.before) = record {
-      rest = first ++ (second ++ (third ++ (fourth ++ t.before)));
-      same = append_assoc three fourth t.before ∙ append_assoc ((beginning ++ first) ++ second) third (fourth ++ t.before)
-          ∙ append_assoc (beginning ++ first) second (third ++ (fourth ++ t.before))
-          ∙ append_assoc beginning first (second ++ (third ++ (fourth ++ t.before)));
-    } in
-    offers w connected beginning four fifth live sound are led left numbers windows t later j r.k
-    (below_group w j (are.correct j is_j)) (request_number w beginning j r live legal_first (are.correct j is_j) was).0
+    let later : Begins middle (four ++ t.before) = begins_through (begins_append middle first)
+    (begins_through (begins_append (middle ++ first) second) (begins_through (begins_append ((middle ++ first) ++ second) third)
+    (begins_through (begins_append three fourth) (begins_append four t.before)))) in
+    offers w connected v plan beginning middle four fifth live sound are led numbers windows t begun later j r.k
+    (below_group w j (are.correct j is_j)) (request_number w middle j r live legal_first (are.correct j is_j) was).0
     (subst (λ (ps : List (Signed Body)). r.k ≤ eligible w.group (latest_rows w.group ps) j) known reached)

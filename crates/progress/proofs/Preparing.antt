@@ -47,7 +47,7 @@ first_more {F} {X} f xs ys x e = ap first_of_list (filter_map-append f xs ys) �
     by [] e = absurd (none_some e)
     by (z ∷ zs) e = e
 
-plan_stays : (facts more : List OrderFact) (v : ℕ) (plan : Plan) → plan_known facts v ≡ Some plan →
+pub plan_stays : (facts more : List OrderFact) (v : ℕ) (plan : Plan) → plan_known facts v ≡ Some plan →
     plan_known (facts ++ more) v ≡ Some plan
 plan_stays facts more v plan e = by (nat_eq v 0) e
   where

@@ -1,50 +1,78 @@
--- What a connected master has ordered the leader of view 0 proposed, so each has it ordered three rounds later; and where it
--- has certified all that its numbers make eligible, it has executed what the other one had.
-use Rattle.std.proofs.Common.{◌≡◌, ℕ, ◌+◌, ◌-◌, ◌<◌, ◌≤◌, Bool, true, List, [], ◌∷◌, ◌++◌, Option, Some, None}
-use Rattle.std.proofs.Common.{refl, sym, ◌∙◌, ap, subst, arith, append_assoc, append-nil}
+-- What a connected master has ordered each has ordered three rounds later: up to the base of the plan it had, and above it is
+-- what the view offers. And where it has certified all that its numbers make eligible, it has executed what the other one had.
+use Rattle.std.proofs.Common.{◌≡◌, ℕ, ◌+◌, ◌-◌, ◌<◌, ◌≤◌, zero, suc, Bool, true, List, [], ◌∷◌, ◌++◌, Option, Some, None}
+use Rattle.std.proofs.Common.{refl, sym, ◌∙◌, ap, subst, inl, inr, arith, append-nil}
+use Rattle.std.proofs.lemmas.Bool.{cases_lt}
 use Rattle.std.specs.List.{filter_map}
 use Rattle.plain_lists.specs.Lists.{IsIn, Begins}
-use Rattle.plain_lists.proofs.Members.{in_filter_map, none_some}
+use Rattle.plain_lists.proofs.Members.{in_filter_map, some_same, none_some}
 use Rattle.message_types.specs.declared.signed.Signed.{Signed}
 use Rattle.message_types.specs.declared.updates.Update.{Update}
+use Rattle.message_types.specs.declared.views.Plan.{Plan}
 use Rattle.message_types.specs.declared.body.Body.{Body}
 use Rattle.message_types.specs.declared.body.Body.TheVariants as body
-use Rattle.protocol_rules.specs.Words.{greatest_of, or_else}
+use Rattle.protocol_rules.specs.Words.{greatest_of, or_else, run_from}
 use Rattle.protocol_rules.specs.Group.{Group, is_live, leader_of, most_number, window}
 use Rattle.protocol_rules.specs.Facts.{facts_of}
-use Rattle.protocol_rules.specs.Plans.{first_plan}
-use Rattle.protocol_rules.specs.Order.{ordered, ordered_run, stable}
+use Rattle.protocol_rules.specs.Order.{ordered, ordered_run, gapless, stable}
 use Rattle.protocol_rules.specs.Execution.{Request, eligible_requests, certified_run, first_missing, kept_after, executed_of, waiting_of}
 use Rattle.protocol_rules.specs.Master.{said_before, certified_requests, executed, waiting_for, offered_number}
 use Rattle.history_rules.specs.Events.{Entry}
-use Rattle.history_rules.specs.Setup.{Setup, room, own}
+use Rattle.history_rules.specs.Setup.{Setup, own}
 use Rattle.history_rules.specs.Legal.{IsLegal, heard}
 use Rattle.agreement.specs.Laws.{IsSound, known_by}
 use Rattle.agreement.proofs.KnownAsItGrows.{known_of_within, said_earlier, correct_said}
-use Rattle.agreement.proofs.ExecutedInTurn.{runs_grow, executed_grow}
-use Rattle.agreement.proofs.ExecutionsAgree.{certified_agree}
+use Rattle.agreement.proofs.ExecutedInTurn.{executed_grow}
+use Rattle.agreement.proofs.ExecutionsAgree.{certified_agree, ordered_agree}
 use Rattle.agreement.proofs.PlannedRows.{greatest_above}
 use Rattle.progress.specs.Rounds.{AreConnected, IsRound}
 use Rattle.progress.specs.Laws.{next_offer}
-use Rattle.progress.specs.FirstView.{InFirstView, IsProposed, ExecutionsSpread}
+use Rattle.progress.specs.UnderLeader.{IsLed, IsProposed, IsOffer, end_of, ExecutionsSpread}
 use Rattle.progress.proofs.Proposed.{offers_number}
-use Rattle.progress.proofs.Settled.{sound_before, ordered_proposed}
-use Rattle.progress.proofs.Ordered.{led_before, proposed_is_ordered}
+use Rattle.progress.proofs.Settled.{sound_before, led_before, ordered_offer}
+use Rattle.progress.proofs.Worthy.{ordered_upto}
+use Rattle.progress.proofs.Ordered.{begins_through, begins_append, ordered_kept, offer_is_ordered}
 
--- what the leader proposed is below the number that it would offer next
-pub below_next : (w : Setup) (connected : ℕ → Bool) (history : List Entry) → IsLegal w history → AreConnected w connected →
-    InFirstView w connected history → (s : ℕ) (rows : List (List ℕ)) → IsProposed w history s rows →
-    s < next_offer w history 0 first_plan
-below_next w connected history legal are led s rows is =
-    let leader : ℕ = leader_of w.group 0 in
+-- what the view offers is below the number that its leader would offer next
+pub below_next : (w : Setup) (connected : ℕ → Bool) (v : ℕ) (plan : Plan) (beginning history : List Entry) → IsLegal w history →
+    AreConnected w connected → IsLed w connected v plan beginning history → (s : ℕ) (rows : List (List ℕ)) →
+    IsOffer w v plan history s rows → s < next_offer w history v plan
+below_next w connected v plan beginning history legal are led s rows (above, inl planned) =
+    let low : s ≤ end_of plan = planned.0 in omega arith
+below_next w connected v plan beginning history legal are led s rows (above, inr beyond) =
+    let leader : ℕ = leader_of w.group v in
+    let is : IsProposed w v history s rows = beyond.1 in
     let loud = (correct_said w leader (body.PrePrepare is.word) legal is.said.place is.said.by
     (are.correct leader led.leader) is.said.among).0 in
-    let among : IsIn (body.PrePrepare is.word) (said_before (heard w history (leader_of w.group 0))) = said_earlier w leader
+    let among : IsIn (body.PrePrepare is.word) (said_before (heard w history (leader_of w.group v))) = said_earlier w leader
     (body.PrePrepare is.word) is.said.place is.said.by loud is.said.among in
-    let high : s ≤ greatest_of (filter_map (offered_number 0) (said_before (heard w history (leader_of w.group 0)))) =
-    greatest_above s (filter_map (offered_number 0) (said_before (heard w history leader)))
-    (in_filter_map (offered_number 0) among (offers_number is.word s is.of_view is.numbered)) in
-    omega arith
+    let high : s ≤ greatest_of (filter_map (offered_number v) (said_before (heard w history (leader_of w.group v)))) =
+    greatest_above s (filter_map (offered_number v) (said_before (heard w history leader)))
+    (in_filter_map (offered_number v) among (offers_number is.word v s is.of_view is.numbered)) in
+    omega (arith, high)
+
+-- runs of which one has all that the other has, from their first number on
+runs_from : {X : Type 0} (f h : ℕ → Option X) (start most : ℕ) →
+    ((n : ℕ) (x : X) → start ≤ n → f n ≡ Some x → h n ≡ Some x) → Begins (run_from f start most) (run_from h start most)
+unfolding run_from
+runs_from f h start zero same = record { rest = []; same = refl }
+runs_from {X} f h start (suc most) same = by_first (f start) refl
+    (runs_from f h (suc start) most (λ n x low e. same n x (omega arith) e))
+  where
+    found : (x : X) (p : Option X) → p ≡ Some x → Begins (run_from f (suc start) most) (run_from h (suc start) most)
+        → Begins {X = X} (x ∷ run_from f (suc start) most)
+        (elim p [ None ↦ [] | Some y ↦ y ∷ run_from h (suc start) most ])
+    found x None e deeper = absurd (none_some e)
+    found x (Some y) e deeper = record {
+      rest = deeper.rest;
+      same = ap (λ (z : X). z ∷ run_from h (suc start) most) (some_same e) ∙ ap (λ (zs : List X). x ∷ zs) deeper.same;
+    }
+
+    by_first : (o : Option X) → f start ≡ o → Begins (run_from f (suc start) most) (run_from h (suc start) most)
+        → Begins {X = X} (elim o [ None ↦ [] | Some x ↦ x ∷ run_from f (suc start) most ])
+        (elim (h start) [ None ↦ [] | Some y ↦ y ∷ run_from h (suc start) most ])
+    by_first None e deeper = record { rest = _; same = refl }
+    by_first (Some x) e deeper = found x (h start) (same start x (omega arith) e) deeper
 
 -- where all is certified by one, what another has certified alike changes nothing
 run_or : (c d : Request → Option Update) (xs : List Request) → first_missing d xs ≡ None →
@@ -88,50 +116,68 @@ unfolding executed
 executed_spread g known more same runs none = executed_whole g (certified_requests g known) (certified_requests g more) same
     (ordered_run g (facts_of g known)) (ordered_run g (facts_of g more)) runs (none_missing g more none)
 
-module _ (w : Setup) (connected : ℕ → Bool) (beginning first second third : List Entry) (live : is_live w.group ≡ true)
-    (sound : IsSound w (((beginning ++ first) ++ second) ++ third)) (are : AreConnected w connected)
-    (fair_one : IsRound w connected beginning first) (fair_two : IsRound w connected (beginning ++ first) second)
-    (fair_three : IsRound w connected ((beginning ++ first) ++ second) third)
-    (led : InFirstView w connected (((beginning ++ first) ++ second) ++ third))
-    (left : (m : ℕ) → connected m ≡ true → 1 ≤ room w (own (((beginning ++ first) ++ second) ++ third) m))
-    (low : (m : ℕ) → connected m ≡ true → next_offer w beginning 0 first_plan ≤
-    stable w.group (facts_of w.group (known_by w beginning m)) + window) where
+module _ (w : Setup) (connected : ℕ → Bool) (v : ℕ) (plan : Plan) (beginning middle first second third : List Entry)
+    (live : is_live w.group ≡ true)
+    (sound : IsSound w (((middle ++ first) ++ second) ++ third)) (are : AreConnected w connected)
+    (fair_one : IsRound w connected middle first) (fair_two : IsRound w connected (middle ++ first) second)
+    (fair_three : IsRound w connected ((middle ++ first) ++ second) third)
+    (led : IsLed w connected v plan beginning (((middle ++ first) ++ second) ++ third)) (begun : Begins beginning middle)
+    (low : (m : ℕ) → connected m ≡ true → next_offer w middle v plan ≤
+    stable w.group (facts_of w.group (known_by w middle m)) + window) where
   abbrev three : List Entry
-  three = ((beginning ++ first) ++ second) ++ third
+  three = ((middle ++ first) ++ second) ++ third
 
-  sound_begun : IsSound w beginning
-  sound_begun = sound_before w beginning first (sound_before w (beginning ++ first) second
-      (sound_before w ((beginning ++ first) ++ second) third sound))
+  middle_three : Begins middle three
+  middle_three = begins_through (begins_append middle first) (begins_through (begins_append (middle ++ first) second)
+      (begins_append ((middle ++ first) ++ second) third))
 
-  led_begun : InFirstView w connected beginning
-  led_begun = led_before w connected beginning first (led_before w connected (beginning ++ first) second
-      (led_before w connected ((beginning ++ first) ++ second) third led))
+  sound_middle : IsSound w middle
+  sound_middle = sound_before w middle middle_three.rest (subst (λ (xs : List Entry). IsSound w xs) middle_three.same sound)
+
+  led_middle : IsLed w connected v plan beginning middle
+  led_middle = led_before w connected v plan beginning middle middle_three.rest begun
+      (subst (λ (xs : List Entry). IsLed w connected v plan beginning xs) middle_three.same led)
+
+  whole_three : Begins three three
+  whole_three = record { rest = []; same = sym (append-nil three) }
 
   -- what one has ordered each has ordered
+  order_spread : (i m : ℕ) → connected i ≡ true → connected m ≡ true → (s : ℕ) (rows : List (List ℕ)) → 1 ≤ s
+      → ordered w.group (facts_of w.group (known_by w middle i)) s ≡ Some rows
+      → ordered w.group (facts_of w.group (known_by w (((middle ++ first) ++ second) ++ third) m)) s ≡ Some rows
+  order_spread i m is_i is_m s rows one e = elim (cases_lt plan.base s) [
+    | inl above ↦
+        let offer : IsOffer w v plan middle s rows = ordered_offer w connected v plan beginning middle live sound_middle are
+        led_middle i is_i (known_by w middle i) (known_of_within (heard w middle i)) s rows above e in
+        let below : s < next_offer w middle v plan = below_next w connected v plan beginning middle sound_middle.legal are
+        led_middle s rows offer in
+        (offer_is_ordered w connected v plan beginning middle first second third live sound are
+        (fair_one, (fair_two, (fair_three, tt))) led begun s rows offer (λ k is_k.
+        let high : next_offer w middle v plan ≤ stable w.group (facts_of w.group (known_by w middle k)) + window = low k is_k in
+        omega (arith, high, below)) m is_m).0
+    | inr within ↦
+        let base : plan.base ≤ gapless w.group (facts_of w.group (known_by w beginning m)) = led.based m is_m in
+        let own = ordered_upto w.group (facts_of w.group (known_by w beginning m)) s one (omega (arith, within, base)) in
+        let same : own.0 ≡ rows = ordered_agree w three beginning middle m i sound led.begins middle_three (are.correct m is_m)
+        (are.correct i is_i) s own.0 rows own.1 e in
+        ordered_kept w m beginning three led.begins s rows (own.1 ∙ ap (λ (x : List (List ℕ)). Some x) same)
+  ]
+
   pub runs_spread : (i m : ℕ) → connected i ≡ true → connected m ≡ true →
-      Begins (ordered_run w.group (facts_of w.group (known_by w beginning i)))
-      (ordered_run w.group (facts_of w.group (known_by w (((beginning ++ first) ++ second) ++ third) m)))
+      Begins (ordered_run w.group (facts_of w.group (known_by w middle i)))
+      (ordered_run w.group (facts_of w.group (known_by w (((middle ++ first) ++ second) ++ third) m)))
   unfolding ordered_run
-  runs_spread i m is_i is_m = runs_grow (ordered w.group (facts_of w.group (known_by w beginning i)))
-      (ordered w.group (facts_of w.group (known_by w three m))) (λ s rows e.
-      let proposed : IsProposed w beginning s rows = ordered_proposed w connected beginning live sound_begun are led_begun i is_i
-      (known_by w beginning i) (known_of_within (heard w beginning i)) s rows e in
-      let below : s < next_offer w beginning 0 first_plan = below_next w connected beginning sound_begun.legal are led_begun s rows
-      proposed in
-      (proposed_is_ordered w connected beginning first second third live sound are (fair_one, (fair_two, (fair_three, tt))) led
-      left s rows proposed (λ k is_k.
-      let high : next_offer w beginning 0 first_plan ≤ stable w.group (facts_of w.group (known_by w beginning k)) + window =
-      low k is_k in
-      omega arith) m is_m).0) 1 most_number
+  runs_spread i m is_i is_m = runs_from (ordered w.group (facts_of w.group (known_by w middle i)))
+      (ordered w.group (facts_of w.group (known_by w three m))) 1 most_number
+      (λ s rows one e. order_spread i m is_i is_m s rows one e)
+
+  pub executed_after : (i m : ℕ) → connected i ≡ true → connected m ≡ true → waiting_for w.group (known_by w three m) ≡ None →
+      Begins (executed w.group (known_by w middle i)) (executed w.group (known_by w three m))
+  executed_after i m is_i is_m none = executed_spread w.group (known_by w middle i) (known_by w three m)
+      (λ r u x one other. certified_agree w three middle three i m sound middle_three whole_three (are.correct i is_i)
+      (are.correct m is_m) r.j r.k u x one other) (runs_spread i m is_i is_m) none
 
 pub executions_spread : ExecutionsSpread
-executions_spread w connected beginning first second third live sound are fair led left low i m is_i is_m none =
-    executed_spread w.group (known_by w beginning i) (known_by w (((beginning ++ first) ++ second) ++ third) m)
-    (λ r u v one other. certified_agree w (((beginning ++ first) ++ second) ++ third) beginning
-    (((beginning ++ first) ++ second) ++ third) i m sound record {
-      rest = first ++ (second ++ third);
-      same = append_assoc (beginning ++ first) second third ∙ append_assoc beginning first (second ++ third);
-    } record { rest = []; same = sym (append-nil (((beginning ++ first) ++ second) ++ third)) } (are.correct i is_i)
-    (are.correct m is_m) r.j r.k u v one other)
-    (runs_spread w connected beginning first second third live sound are fair.0 fair.1.0 fair.1.1.0 led left low i m is_i is_m)
-    none
+executions_spread w connected v plan beginning middle first second third live sound are fair led begun low i m is_i is_m none =
+    executed_after w connected v plan beginning middle first second third live sound are fair.0 fair.1.0 fair.1.1.0 led begun low
+    i m is_i is_m none

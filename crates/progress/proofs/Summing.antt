@@ -38,7 +38,7 @@ use Rattle.progress.proofs.Saying.{SaidByPart, all_is_said, said_by_part}
 use Rattle.progress.proofs.Reaching.{vector_reaches}
 
 -- there is something as far as a run goes
-run_has : {X : Type 0} (f : ℕ → Option X) (start most k : ℕ) → start ≤ k → k < start + length (run_from f start most) →
+pub run_has : {X : Type 0} (f : ℕ → Option X) (start most k : ℕ) → start ≤ k → k < start + length (run_from f start most) →
     (x : X) × (f k ≡ Some x)
 unfolding run_from
 run_has f start zero k low high = absurd (omega arith)

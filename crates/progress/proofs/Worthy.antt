@@ -1,13 +1,13 @@
--- What the leader of view 0 proposed is worth a prepare at each connected master a round later. Each number up to it adds
--- something there: it did so for the leader when it proposed it, over the rows of all lower numbers that it proposed; and
--- all that stands at lower numbers for a follower, offered or ordered, is what the leader proposed.
+-- What the leader proposed is worth a prepare at each connected master a round later. Each number beyond the plan adds something
+-- there: it did so for the leader when it proposed it, over the rows of all lower numbers; and all that stands at lower
+-- numbers for a follower the leader counted: up to the plan's base what is ordered, above it what the view offers.
 use Rattle.std.proofs.Common.{◌≡◌, ℕ, ◌+◌, ◌-◌, ◌<◌, ◌≤◌, zero, suc, Bool, true, false, cond, ◌||◌, List, [], ◌∷◌, ◌++◌}
 use Rattle.std.proofs.Common.{Option, Some, None, length, map, nat_eq, nat_lt, nat_le, refl, sym, ◌∙◌, ap, subst, inl, inr, ◌⊎◌}
-use Rattle.std.proofs.Common.{arith, if◌then◌else◌, eqb-true}
-use Rattle.std.proofs.lemmas.Bool.{and_from, or_right, cases_eq, lt-ltb, ltb-true, eq-eqb, ne_eqb}
-use Rattle.std.proofs.lemmas.Bool.{not_from_false, leb-true, false_from_ne_true}
+use Rattle.std.proofs.Common.{arith, if◌then◌else◌, eqb-true, length-append}
+use Rattle.std.proofs.lemmas.Bool.{and_from, or_left, or_right, cases_lt, cases_eq, lt-ltb, ltb-true, eq-eqb, ne_eqb}
+use Rattle.std.proofs.lemmas.Bool.{not_from_false, le-leb}
 use Rattle.std.specs.List.{list_all, find, filter_map}
-use Rattle.plain_lists.specs.Lists.{IsIn, here, there, Within}
+use Rattle.plain_lists.specs.Lists.{IsIn, here, there, Begins, Within}
 use Rattle.plain_lists.proofs.Members.{none_in, in_cons_cases, in_cases, in_filter_map, in_filter_map_from, any_from, any_in}
 use Rattle.plain_lists.proofs.Members.{find_some, none_some}
 use Rattle.quorum_sets.specs.Masters.{numbers_below}
@@ -18,34 +18,36 @@ use Rattle.message_types.specs.declared.views.Plan.{Plan}
 use Rattle.message_types.specs.declared.body.Body.{Body}
 use Rattle.message_types.specs.declared.body.Body.TheVariants as body
 use Rattle.protocol_rules.specs.declared.facts.OrderFact.{OrderFact}
-use Rattle.protocol_rules.specs.declared.facts.OrderFact.TheVariants as fact
 use Rattle.protocol_rules.specs.Words.{or_else, run_from, numbers_from}
 use Rattle.protocol_rules.specs.Group.{Group, is_live, leader_of, most_number}
 use Rattle.protocol_rules.specs.Facts.{facts_of}
 use Rattle.protocol_rules.specs.Matrix.{summary_of, tells_more, latest, latest_frames, row_of, rows_of_frames, eligible, reach, exceeds}
-use Rattle.protocol_rules.specs.Plans.{first_plan}
-use Rattle.protocol_rules.specs.Order.{proposal_in, offered, ordered, ordered_run, gapless}
+use Rattle.protocol_rules.specs.Order.{plan_known, offered, ordered, ordered_run, gapless}
 use Rattle.protocol_rules.specs.Views.{view}
 use Rattle.protocol_rules.specs.Worth.{stands_at, plan_end, rows_before, adds, is_worth}
-use Rattle.protocol_rules.specs.Master.{latest_rows, counted_rows, said_before, next_number}
-use Rattle.protocol_rules.proofs.FirstMet.{first_there}
+use Rattle.protocol_rules.specs.Master.{latest_rows, counted_rows}
 use Rattle.protocol_rules.proofs.Numbers.{from_in, from_below, from_above}
-use Rattle.history_rules.specs.Events.{Entry}
+use Rattle.history_rules.specs.Events.{Entry, is_silent}
 use Rattle.history_rules.specs.Setup.{Setup, is_correct_master}
 use Rattle.history_rules.specs.Legal.{IsLegal, heard}
 use Rattle.agreement.specs.Laws.{IsSound, known_by}
-use Rattle.agreement.proofs.Places.{said_on, legal_before}
+use Rattle.agreement.proofs.Places.{legal_before}
 use Rattle.agreement.proofs.KnownAsItGrows.{learned_by, known_then, known_learned, learned_then, known_of_within}
 use Rattle.agreement.proofs.SpokenByKind.{if_some}
 use Rattle.agreement.proofs.FramesInside.{best_in}
+use Rattle.agreement.proofs.ExecutedInTurn.{runs_grow}
+use Rattle.agreement.proofs.OrdersAgree.{ordered_same}
+use Rattle.agreement.proofs.VouchedIsOrdered.{ordered_stays}
 use Rattle.progress.specs.Rounds.{AreConnected, goes_to}
 use Rattle.progress.specs.Laws.{KnowsWord}
-use Rattle.progress.specs.FirstView.{InFirstView, IsProposed, ProposedIsWorth}
-use Rattle.progress.proofs.Arriving.{said_learned, words_arrive}
+use Rattle.progress.specs.UnderLeader.{IsLed, IsProposed, IsOffer, end_of, ProposedIsWorth}
+use Rattle.progress.proofs.Arriving.{known_grows, said_learned, words_arrive}
 use Rattle.progress.proofs.Certifying.{find_there}
-use Rattle.progress.proofs.Proposing.{proposed, lower_before, no_plan}
-use Rattle.progress.proofs.Proposed.{offered_first, offered_by_leader, told_proposal, proposed_same, lower_at, leads}
-use Rattle.progress.proofs.Settled.{ordered_proposed, sound_before}
+use Rattle.progress.proofs.Summing.{run_has}
+use Rattle.progress.proofs.Proposing.{Proposes, proposed, lower_before}
+use Rattle.progress.proofs.Proposed.{offered_planned, above_false, plan_kept, proposed_begun, offer_begun, offered_offer, offered_known}
+use Rattle.progress.proofs.Proposed.{offer_lower, plans_then, leads}
+use Rattle.progress.proofs.Settled.{sound_before, led_before, ordered_offer}
 
 -- what a run holds is given of a number within it
 pub run_member : {X : Type 0} (f : ℕ → Option X) (start most : ℕ) (x : X) → IsIn x (run_from f start most)
@@ -142,32 +144,41 @@ rows_latest g known = map_alike (λ j. row_of (latest_frames g known) j)
     ap (λ (o : Option (Signed PoSummary)). elim o as (λ _. List ℕ) [ None ↦ [] | Some f ↦ f.body.numbers ])
     (found_by_name (latest known) (numbers_below g.n) j (latest_own known) among))
 
--- what a leader of view 0 counts at a number
-pub counted_is : (g : Group) (facts : List OrderFact) (v r : ℕ) (plan : Plan) → v ≡ 0 → plan ≡ first_plan → 1 ≤ r →
-    counted_rows g facts v plan r ≡ offered facts 0 r
-counted_is g facts v r plan zero_view none one =
-    ap (λ (p : Plan). counted_rows g facts v p r) none
-    ∙ ap (λ (b : Bool). cond b (ordered g facts r) (offered facts v r))
-    (false_from_ne_true (nat_le r 0) (λ low. let no : r ≤ 0 = leb-true r 0 low in omega arith))
-    ∙ ap (λ (x : ℕ). offered facts x r) zero_view
+-- what a leader counts at a number
+pub counted_low : (g : Group) (facts : List OrderFact) (v r : ℕ) (plan : Plan) → r ≤ plan.base →
+    counted_rows g facts v plan r ≡ ordered g facts r
+counted_low g facts v r plan low = ap (λ (b : Bool). cond b (ordered g facts r) (offered facts v r)) (le-leb r plan.base low)
 
-proposal_at : (b : PrePrepare) (s : ℕ) (rows : List (List ℕ)) → b.v ≡ 0 → b.s ≡ s →
-    proposal_in 0 s (fact.Proposal b.v b.s rows) ≡ Some rows
-proposal_at b s rows zero_view number = ap (λ (c : Bool). cond c (Some rows) None)
-    (and_from (nat_eq b.v 0) (nat_eq b.s s) (eq-eqb b.v 0 zero_view) (eq-eqb b.s s number))
+pub counted_high : (g : Group) (facts : List OrderFact) (v r : ℕ) (plan : Plan) → plan.base < r →
+    counted_rows g facts v plan r ≡ offered facts v r
+counted_high g facts v r plan above =
+    ap (λ (b : Bool). cond b (ordered g facts r) (offered facts v r)) (above_false r plan.base above)
 
-counted_from : (said : List Body) (v : ℕ) (plan : Plan) → 1 ≤ next_number said v plan
-counted_from said v plan = omega arith
+-- what is ordered without a gap
+pub ordered_upto : (g : Group) (facts : List OrderFact) (r : ℕ) → 1 ≤ r → r ≤ gapless g facts →
+    (x : List (List ℕ)) × (ordered g facts r ≡ Some x)
+unfolding ordered_run
+ordered_upto g facts r one low = run_has (ordered g facts) 1 most_number r one (omega arith)
 
-pub proposed_on : (w : Setup) (history more : List Entry) (s : ℕ) (rows : List (List ℕ)) → IsProposed w history s rows →
-    IsProposed w (history ++ more) s rows
-proposed_on w history more s rows is = record {
-  word = is.word;
-  said = said_on more is.said;
-  of_view = is.of_view;
-  numbered = is.numbered;
-  are = is.are;
-}
+-- it only grows
+pub runs_more : (g : Group) (known more : List (Signed Body)) → Begins known more →
+    Begins (ordered_run g (facts_of g known)) (ordered_run g (facts_of g more))
+unfolding ordered_run
+runs_more g known more b = runs_grow (ordered g (facts_of g known)) (ordered g (facts_of g more))
+    (λ s rows e. ordered_later s rows e) 1 most_number
+  where
+    ordered_later : (s : ℕ) (rows : List (List ℕ)) → ordered g (facts_of g known) s ≡ Some rows →
+        ordered g (facts_of g more) s ≡ Some rows
+    ordered_later s rows e = subst (λ (ps : List (Signed Body)). ordered g (facts_of g ps) s ≡ Some rows) (sym b.same)
+        (ordered_stays g known b.rest s rows e)
+
+pub gapless_more : (g : Group) (known more : List (Signed Body)) → Begins known more →
+    gapless g (facts_of g known) ≤ gapless g (facts_of g more)
+gapless_more g known more b =
+    let grown : Begins (ordered_run g (facts_of g known)) (ordered_run g (facts_of g more)) = runs_more g known more b in
+    let all : length (ordered_run g (facts_of g more)) ≡ length (ordered_run g (facts_of g known)) + length grown.rest =
+    ap length grown.same ∙ length-append (ordered_run g (facts_of g known)) grown.rest in
+    omega arith
 
 -- a proposal goes to every other master
 pub proposal_sent : (g : Group) (m i : ℕ) (b : PrePrepare) → (m ≡ i) ⊎ (goes_to g i (body.PrePrepare b) m ≡ true)
@@ -176,161 +187,205 @@ proposal_sent g m i b = elim (cases_eq m i) [
   | inr apart ↦ inr (not_from_false (nat_eq m i) (ne_eqb m i apart))
 ]
 
-module _ (w : Setup) (connected : ℕ → Bool) (history : List Entry) (live : is_live w.group ≡ true) (sound : IsSound w history)
-    (are : AreConnected w connected) (led : InFirstView w connected history) where
-  abbrev g : Group
-  g = w.group
+module _ (w : Setup) (connected : ℕ → Bool) (v : ℕ) (plan : Plan) (beginning history : List Entry)
+    (live : is_live w.group ≡ true) (sound : IsSound w history) (are : AreConnected w connected)
+    (led : IsLed w connected v plan beginning history) where
+  -- a connected master knew these rows as ordered up to the base
+  pub record IsBased (r : ℕ) (x : List (List ℕ)) : Type 0 where
+    pub low : r ≤ plan.base
+    pub master : ℕ
+    pub is_one : connected master ≡ true
+    pub known : List (Signed Body)
+    pub within : Within known (learned_by w history master)
+    pub holds : ordered w.group (facts_of w.group known) r ≡ Some x
 
-  -- a master that knows the proposal of a number finds it offered
-  pub offered_known : (m : ℕ) → is_correct_master w m ≡ true → (known : List (Signed Body)) → Within known (learned_by w history m)
-      → (p : Signed Body) (b : PrePrepare) → IsIn p known → p.body ≡ body.PrePrepare b → b.v ≡ 0
-      → (s : ℕ) (rows : List (List ℕ)) → b.s ≡ s → 1 ≤ s → IsProposed w history s rows
-      → offered (facts_of w.group known) 0 s ≡ Some rows
-  offered_known m correct known within p b among is zero_view s rows number one proposes =
-      let facts : List OrderFact = facts_of w.group known in
-      let made : List (List ℕ) = rows_of_frames w.group b.frames in
-      let first = first_there (in_filter_map (proposal_in 0 s) (told_proposal w.group known p b among is)
-      (proposal_at b s made zero_view number)) in
-      let found : offered (facts_of w.group known) 0 s ≡ Some first.0 = offered_first facts s one ∙ first.1 in
-      let same : first.0 ≡ rows = proposed_same w connected history live sound.legal are led s first.0 rows
-      (offered_by_leader w connected history live sound.legal are led sound.unforged m correct known within s first.0 found)
-      proposes in
-      found ∙ ap (λ (x : List (List ℕ)). Some x) same
+  -- what counts below a number
+  abbrev pub IsBelow : ℕ → List (List ℕ) → Type 0
+  IsBelow r x = IsOffer w v plan history r x ⊎ IsBased r x
 
-  pub proposed_counted : (s : ℕ) (rows : List (List ℕ)) → IsProposed w history s rows → 1 ≤ s
-  proposed_counted s rows is =
-      let at = (proposed w (leader_of w.group 0) is.word live sound.legal is.said.place is.said.by
-      (leads w connected history live sound.legal are led) is.said.among).1 in
-      let number : is.word.s ≡ next_number (said_before (heard w is.said.before (leader_of w.group 0))) (view w.group
-      (known_then w is.said.before (leader_of w.group 0) is.said.entry)) at.plan = at.next in
-      let some : 1 ≤ next_number (said_before (heard w is.said.before (leader_of w.group 0))) (view w.group
-      (known_then w is.said.before (leader_of w.group 0) is.said.entry)) at.plan = counted_from
-      (said_before (heard w is.said.before (leader_of w.group 0)))
-      (view w.group (known_then w is.said.before (leader_of w.group 0) is.said.entry)) at.plan in
-      let is_s : is.word.s ≡ s = is.numbered in
-      omega (arith, number, some, is_s)
+  module _ (t : ℕ) (rows : List (List ℕ)) (is : IsProposed w v history t rows) where
+    abbrev leader : ℕ
+    leader = leader_of w.group v
 
-  -- What the leader proposed as a number makes more eligible than what it proposed as lower ones.
-  pub proposed_adds : (t : ℕ) (rows : List (List ℕ)) → IsProposed w history t rows → (before : List (List (List ℕ)))
-      → ((x : List (List ℕ)) → IsIn x before → (r : ℕ) × (1 ≤ r) × (r < t) × IsProposed w history r x)
-      → exceeds w.group rows (reach w.group before) ≡ true
-  proposed_adds t rows is before under =
-      let leader : ℕ = leader_of w.group 0 in
-      let right : is_correct_master w (leader_of w.group 0) ≡ true = leads w connected history live sound.legal are led in
-      let due = proposed w (leader_of w.group 0) is.word live sound.legal is.said.place is.said.by right is.said.among in
-      let at = due.1 in
-      let known : List (Signed Body) = known_then w is.said.before (leader_of w.group 0) is.said.entry in
-      let facts : List OrderFact = facts_of w.group known in
-      let zero_view : view w.group (known_then w is.said.before (leader_of w.group 0) is.said.entry) ≡ 0 = sym at.of_view
-      ∙ is.of_view in
-      let within : Within (known_then w is.said.before (leader_of w.group 0) is.said.entry)
-      (learned_by w history (leader_of w.group 0)) = known_learned w leader is.said.place is.said.by due.0 in
-      let counts = counted_rows w.group facts (view w.group known) at.plan in
-      let more : exceeds w.group rows (reach w.group (filter_map counts (numbers_from 1 (t - 1)))) ≡ true =
-      subst (λ (x : ℕ). exceeds w.group rows (reach w.group (filter_map counts (numbers_from 1 (x - 1)))) ≡ true) is.numbered
-      (subst (λ (x : List (List ℕ)). exceeds w.group x (reach w.group (filter_map counts (numbers_from 1 (is.word.s - 1)))) ≡
-      true) (sym (is.are ∙ ap (rows_of_frames w.group) at.latest ∙ rows_latest w.group known)) at.more) in
-      exceeds_less w.group rows (reach w.group (filter_map counts (numbers_from 1 (t - 1)))) (reach w.group before)
-      (λ j. reach_within w.group before (filter_map counts (numbers_from 1 (t - 1))) j (λ x h.
-      let low = under x h in
-      let one : 1 ≤ low.0 = low.1 in
-      let less : low.0 < t = low.2 in
-      let c = lower_before w leader live right t history sound.legal is.word is.said is.of_view is.numbered low.0 low.1
-      low.2 in
-      let own : KnowsWord (learned_by w is.said.before (leader_of w.group 0)) (leader_of w.group 0) (body.PrePrepare c.0) =
-      said_learned w leader (body.PrePrepare c.0) c.1.place c.1.by (proposed w leader c.0 live (legal_before w is.said.before
-      (is.said.entry ∷ is.said.place.after) (subst (λ (xs : List Entry). IsLegal w xs) is.said.place.whole sound.legal))
-      c.1.place c.1.by right c.1.among).0 c.1.among in
-      in_filter_map counts (from_in 1 (t - 1) low.0 one (omega arith))
-      (counted_is w.group facts (view w.group known) low.0 at.plan zero_view
-      (no_plan w.group known (view w.group known) at.plan zero_view at.planned) one
-      ∙ offered_known leader right known within own.part c.0
-      (learned_then w is.said.before leader is.said.entry own.part own.among) own.word c.2 low.0 x c.3 one low.3)))
-      more
+    abbrev known_at_it : List (Signed Body)
+    known_at_it = known_then w is.said.before (leader_of w.group v) is.said.entry
 
-  module _ (m : ℕ) (is_m : connected m ≡ true) (known : List (Signed Body)) (within : Within known (learned_by w history m)) where
+    right : is_correct_master w (leader_of w.group v) ≡ true
+    right = leads w connected v plan beginning history live sound are led
+
+    -- what the leader counted at a lower number
+    leader_counts : (at : Proposes w.group (leader_of w.group v) known_at_it
+        (Rattle.protocol_rules.specs.Master.said_before (heard w is.said.before (leader_of w.group v))) is.word)
+        → is_silent is.said.entry.event ≡ false → (r : ℕ) (x : List (List ℕ)) → 1 ≤ r → r < t → IsBelow r x
+        → counted_rows w.group (facts_of w.group known_at_it) (view w.group known_at_it) at.plan r ≡ Some x
+    leader_counts at loud r x one less below =
+        let is_v : view w.group known_at_it ≡ v = sym at.of_view ∙ is.of_view in
+        let knows : plan_known (facts_of w.group known_at_it) v ≡ Some at.plan =
+        ap (plan_known (facts_of w.group known_at_it)) (sym is_v) ∙ at.planned in
+        let plan_is : at.plan ≡ plan = plans_then w connected v plan beginning history live sound are led is.said.before
+        is.said.entry is.said.place is.said.by loud at.plan knows in
+        let whole : counted_rows w.group (facts_of w.group known_at_it) (view w.group known_at_it) at.plan r ≡ counted_rows w.group
+        (facts_of w.group known_at_it) v plan r = ap (λ (p : Plan). counted_rows w.group (facts_of w.group known_at_it)
+        (view w.group known_at_it) p r) plan_is ∙ ap (λ (y : ℕ). counted_rows w.group (facts_of w.group known_at_it) y plan r) is_v in
+        let within : Within known_at_it (learned_by w history (leader_of w.group v)) = known_learned w leader is.said.place is.said.by
+        loud in
+        whole ∙ by_case within (knows ∙ ap (λ (p : Plan). Some p) plan_is)
+        (subst (λ (p : Plan). p.base ≤ gapless w.group (facts_of w.group known_at_it)) plan_is at.based) below
+      where
+        by_case : Within known_at_it (learned_by w history (leader_of w.group v))
+            → plan_known (facts_of w.group known_at_it) v ≡ Some plan
+            → plan.base ≤ gapless w.group (facts_of w.group known_at_it) → IsBelow r x
+            → counted_rows w.group (facts_of w.group known_at_it) v plan r ≡ Some x
+        by_case within knows based (inr low) =
+            let below_base : r ≤ plan.base = low.low in
+            let own = ordered_upto w.group (facts_of w.group known_at_it) r one (omega (arith, below_base, based)) in
+            let same : own.0 ≡ x = ordered_same w history sound leader low.master right (are.correct low.master low.is_one)
+            known_at_it low.known within low.within r own.0 x own.1 low.holds in
+            counted_low w.group (facts_of w.group known_at_it) v r plan low.low ∙ own.1
+            ∙ ap (λ (y : List (List ℕ)). Some y) same
+        by_case within knows based (inl (above, inl planned)) =
+            counted_high w.group (facts_of w.group known_at_it) v r plan above
+            ∙ offered_planned (facts_of w.group known_at_it) v r plan knows above planned.0 ∙ planned.1
+        by_case within knows based (inl (above, inr beyond)) =
+            let c = lower_before w leader v plan live right history sound.legal (plans_then w connected v plan beginning history
+            live sound are led) t is.word is.said is.of_view is.numbered r beyond.0 less in
+            let own : KnowsWord (learned_by w is.said.before (leader_of w.group v)) (leader_of w.group v) (body.PrePrepare c.0) =
+            said_learned w leader (body.PrePrepare c.0) c.1.place c.1.by (proposed w leader c.0 live (legal_before w is.said.before
+            (is.said.entry ∷ is.said.place.after) (subst (λ (xs : List Entry). IsLegal w xs) is.said.place.whole sound.legal))
+            c.1.place c.1.by right c.1.among).0 c.1.among in
+            counted_high w.group (facts_of w.group known_at_it) v r plan above
+            ∙ offered_known w connected v plan beginning history live sound are led leader led.leader known_at_it within knows
+            own.part c.0 (learned_then w is.said.before leader is.said.entry own.part own.among) own.word c.2 r x c.3 beyond.0
+            beyond.1
+
+    -- What the leader proposed as a number makes more eligible than what counts below it.
+    pub proposed_adds : (before : List (List (List ℕ)))
+        → ((x : List (List ℕ)) → IsIn x before → (r : ℕ) × (1 ≤ r) × (r < t) × IsBelow r x)
+        → exceeds w.group rows (reach w.group before) ≡ true
+    proposed_adds before under =
+        let due = proposed w leader is.word live sound.legal is.said.place is.said.by right is.said.among in
+        let at = due.1 in
+        let counts = counted_rows w.group (facts_of w.group known_at_it) (view w.group known_at_it) at.plan in
+        let more : exceeds w.group rows (reach w.group (filter_map counts (numbers_from 1 (t - 1)))) ≡ true =
+        subst (λ (x : ℕ). exceeds w.group rows (reach w.group (filter_map counts (numbers_from 1 (x - 1)))) ≡ true) is.numbered
+        (subst (λ (x : List (List ℕ)). exceeds w.group x (reach w.group (filter_map counts (numbers_from 1 (is.word.s - 1)))) ≡
+        true) (sym (is.are ∙ ap (rows_of_frames w.group) at.latest ∙ rows_latest w.group known_at_it)) at.more) in
+        exceeds_less w.group rows (reach w.group (filter_map counts (numbers_from 1 (t - 1)))) (reach w.group before)
+        (λ j. reach_within w.group before (filter_map counts (numbers_from 1 (t - 1))) j (λ x h.
+        let low = under x h in
+        let one : 1 ≤ low.0 = low.1 in
+        let less : low.0 < t = low.2 in
+        in_filter_map counts (from_in 1 (t - 1) low.0 one (omega (arith, one, less)))
+        (leader_counts at due.0 low.0 x one less low.3)))
+        more
+
+  module _ (m : ℕ) (is_m : connected m ≡ true) (known : List (Signed Body)) (within : Within known (learned_by w history m))
+      (later : Begins (known_by w beginning m) known) where
     abbrev facts : List OrderFact
     facts = facts_of w.group known
 
-    -- what stands at a number for a connected master
-    stands_proposed : (r : ℕ) (x : List (List ℕ)) → stands_at w.group (facts_of w.group known) 0 r ≡ Some x →
-        IsProposed w history r x
-    stands_proposed r x e = by (offered facts 0 r) refl e
+    knows : plan_known (facts_of w.group known) v ≡ Some plan
+    knows = plan_kept w.group (known_by w beginning m) known v plan later (led.planned m is_m)
+
+    based : plan.base ≤ gapless w.group (facts_of w.group known)
+    based =
+        let first : plan.base ≤ gapless w.group (facts_of w.group (known_by w beginning m)) = led.based m is_m in
+        let grown : gapless w.group (facts_of w.group (known_by w beginning m)) ≤ gapless w.group (facts_of w.group known) =
+        gapless_more w.group (known_by w beginning m) known later in
+        omega arith
+
+    ends : plan_end (facts_of w.group known) v ≡ end_of plan
+    ends = ap (λ (o : Option Plan). elim o as (λ _. ℕ) [ None ↦ 0 | Some plan ↦ plan.base + length plan.rows ]) knows
+
+    -- what is ordered as a number, or stands at one
+    ordered_below : (r : ℕ) (x : List (List ℕ)) → ordered w.group (facts_of w.group known) r ≡ Some x → IsBelow r x
+    ordered_below r x e = elim (cases_lt plan.base r) [
+      | inl above ↦ inl (ordered_offer w connected v plan beginning history live sound are led m is_m known within r x above e)
+      | inr low ↦ inr record { low = low; master = m; is_one = is_m; known = known; within = within; holds = e }
+    ]
+
+    stands_below : (r : ℕ) (x : List (List ℕ)) → stands_at w.group (facts_of w.group known) v r ≡ Some x → IsBelow r x
+    stands_below r x e = by (offered facts v r) refl e
       where
-        by : (o : Option (List (List ℕ))) → offered (facts_of w.group known) 0 r ≡ o →
-            or_else o (ordered w.group (facts_of w.group known) r) ≡ Some x → IsProposed w history r x
-        by (Some y) is e = offered_by_leader w connected history live sound.legal are led sound.unforged m (are.correct m is_m)
-            known within r x (is ∙ e)
-        by None is e = ordered_proposed w connected history live sound are led m is_m known within r x e
+        by : (o : Option (List (List ℕ))) → offered (facts_of w.group known) v r ≡ o →
+            or_else o (ordered w.group (facts_of w.group known) r) ≡ Some x → IsBelow r x
+        by (Some y) is e = inl (offered_offer w connected v plan beginning history live sound are led m is_m known within r x
+            (is ∙ e))
+        by None is e = ordered_below r x e
 
     -- the rows that count before a number
-    before_proposed : (t : ℕ) → gapless w.group (facts_of w.group known) < t → (x : List (List ℕ)) →
-        IsIn x (rows_before w.group (facts_of w.group known) 0 t) → (r : ℕ) × (1 ≤ r) × (r < t) × IsProposed w history r x
+    before_below : (t : ℕ) → gapless w.group (facts_of w.group known) < t → (x : List (List ℕ)) →
+        IsIn x (rows_before w.group (facts_of w.group known) v t) → (r : ℕ) × (1 ≤ r) × (r < t) × IsBelow r x
     unfolding ordered_run
-    before_proposed t above x h = elim (in_cases (ordered_run w.group (facts_of w.group known)) h) [
+    before_below t above x h = elim (in_cases (ordered_run w.group (facts_of w.group known)) h) [
       | inl run ↦
           let found = run_member (ordered w.group facts) 1 most_number x run in
-          let high : found.0 < 1 + length (run_from (ordered w.group (facts_of w.group known)) 1 most_number) = found.2 in (
-            found.0,
-            found.1,
-            omega arith,
-            ordered_proposed w connected history live sound are led m is_m known within found.0 x
-                found.3,
-          )
+          let high : found.0 < 1 + length (run_from (ordered w.group (facts_of w.group known)) 1 most_number) = found.2 in
+          (found.0, found.1, omega arith, ordered_below found.0 x found.3)
       | inr stood ↦
           let first : ℕ = gapless w.group facts + 1 in
           let count : ℕ = t - gapless w.group facts - 1 in
-          let found = in_filter_map_from (stands_at w.group facts 0) (numbers_from (gapless w.group facts + 1)
+          let found = in_filter_map_from (stands_at w.group facts v) (numbers_from (gapless w.group facts + 1)
           (t - gapless w.group facts - 1)) stood in
           let low : gapless w.group (facts_of w.group known) + 1 ≤ found.0 = from_above first count found.0 found.1 in
           let high : found.0 < gapless w.group (facts_of w.group known) + 1 + (t - gapless w.group (facts_of w.group known) - 1) =
           from_below first count found.0 found.1 in
-          (found.0, omega arith, omega arith, stands_proposed found.0 x found.2)
+          (found.0, omega arith, omega arith, stands_below found.0 x found.2)
     ]
 
-    -- each number that is offered and not yet ordered without a gap adds something
+    -- each number that is offered and not yet ordered without a gap adds something, or is of the plan
     offered_adds : (t : ℕ) (rows : List (List ℕ)) → gapless w.group (facts_of w.group known) < t →
-        offered (facts_of w.group known) 0 t ≡ Some rows → IsProposed w history t rows
-        → adds w.group (facts_of w.group known) 0 t ≡ true
+        offered (facts_of w.group known) v t ≡ Some rows → IsOffer w v plan history t rows
+        → adds w.group (facts_of w.group known) v t ≡ true
     offered_adds t rows above e is =
         ap (λ (o : Option (List (List ℕ))). elim (or_else o (ordered w.group facts t)) as (λ _. Bool) [
           | None ↦ false
-          | Some rows ↦ nat_le t (plan_end facts 0) || exceeds w.group rows (reach w.group (rows_before w.group facts 0 t))
-        ]) e ∙ or_right (nat_le t (plan_end facts 0)) _
-        (proposed_adds t rows is (rows_before w.group facts 0 t) (before_proposed t above))
+          | Some rows ↦ nat_le t (plan_end facts v) || exceeds w.group rows (reach w.group (rows_before w.group facts v t))
+        ]) e ∙ elim is.1 [
+          | inl planned ↦ or_left (nat_le t (plan_end facts v)) _ (le-leb t (plan_end facts v) (subst (λ (x : ℕ). t ≤ x)
+              (sym ends) planned.0))
+          | inr beyond ↦ or_right (nat_le t (plan_end facts v)) _ (proposed_adds t rows beyond.1
+              (rows_before w.group facts v t) (before_below t above))
+        ]
 
-    pub worth_by : (s : ℕ) → ((t : ℕ) → 1 ≤ t → t ≤ s → (rows : List (List ℕ)) × (offered (facts_of w.group known) 0 t ≡ Some rows)
-        × IsProposed w history t rows) → is_worth w.group (facts_of w.group known) 0 s ≡ true
-    worth_by s all = or_right (nat_le s (plan_end facts 0)) _ (all_from (adds w.group facts 0)
+    pub worth_by : (s : ℕ) → ((t : ℕ) → plan.base < t → t ≤ s → (rows : List (List ℕ))
+        × (offered (facts_of w.group known) v t ≡ Some rows) × IsOffer w v plan history t rows)
+        → is_worth w.group (facts_of w.group known) v s ≡ true
+    worth_by s all = or_right (nat_le s (plan_end facts v)) _ (all_from (adds w.group facts v)
         (numbers_from (gapless w.group facts + 1) (s - gapless w.group facts)) (λ t h.
         let low : gapless w.group (facts_of w.group known) + 1 ≤ t = from_above (gapless w.group facts + 1)
         (s - gapless w.group facts) t h in
         let high : t < gapless w.group (facts_of w.group known) + 1 + (s - gapless w.group (facts_of w.group known)) =
         from_below (gapless w.group facts + 1) (s - gapless w.group facts) t h in
-        let found = all t (omega arith) (omega arith) in
-        offered_adds t found.0 (omega arith) found.1 found.2))
+        let base : plan.base ≤ gapless w.group (facts_of w.group known) = based in
+        let found = all t (omega (arith, low, base)) (omega (arith, low, high)) in
+        offered_adds t found.0 (omega (arith, low)) found.1 found.2))
 
 pub proposed_is_worth : ProposedIsWorth
-proposed_is_worth w connected beginning round live sound are fair led s rows is m is_m =
-    let whole : List Entry = beginning ++ round in
+proposed_is_worth w connected v plan beginning middle round live sound are fair led begun s rows beyond is m is_m =
+    let whole : List Entry = middle ++ round in
     let known : List (Signed Body) = known_by w whole m in
-    let within : Within (known_by w (beginning ++ round) m) (learned_by w (beginning ++ round) m) =
-    known_of_within (heard w whole m) in
-    let leader : ℕ = leader_of w.group 0 in
-    let offers : (t : ℕ) (x : List (List ℕ)) → 1 ≤ t → IsProposed w beginning t x →
-    offered (facts_of w.group (known_by w (beginning ++ round) m)) 0 t ≡ Some x = λ t x one proposes.
-    let knows : KnowsWord (known_by w (beginning ++ round) m) (leader_of w.group 0) (body.PrePrepare proposes.word) =
-    words_arrive w connected beginning round sound.legal are fair leader m led.leader is_m (body.PrePrepare proposes.word)
-    proposes.said (proposal_sent w.group m leader proposes.word) in
-    offered_known w connected whole live sound are led m (are.correct m is_m) known within knows.part proposes.word knows.among
-    knows.word proposes.of_view t x proposes.numbered one (proposed_on w beginning round t x proposes) in
-    let whole_is : IsProposed w (beginning ++ round) s rows = proposed_on w beginning round s rows is in (
-      offers s rows (proposed_counted w connected whole live sound are led s rows whole_is) is,
-      worth_by w connected whole live sound are led m is_m known within s (λ t one low.
-          let under = lower_there t one low in
-          (under.0, offers t under.0 one under.1, proposed_on w beginning round t under.0 under.1)),
+    let within : Within (known_by w (middle ++ round) m) (learned_by w (middle ++ round) m) = known_of_within (heard w whole m) in
+    let later : Begins (known_by w beginning m) (known_by w (middle ++ round) m) = known_grows w whole beginning m led.begins in
+    let knows : plan_known (facts_of w.group (known_by w (middle ++ round) m)) v ≡ Some plan = plan_kept w.group
+    (known_by w beginning m) known v plan later (led.planned m is_m) in
+    let on : Begins middle (middle ++ round) = record { rest = round; same = refl } in
+    let arrives : (t : ℕ) (x : List (List ℕ)) → end_of plan < t → IsProposed w v middle t x →
+    offered (facts_of w.group (known_by w (middle ++ round) m)) v t ≡ Some x = λ t x high proposes.
+    let knows_it : KnowsWord (known_by w (middle ++ round) m) (leader_of w.group v) (body.PrePrepare proposes.word) =
+    words_arrive w connected middle round sound.legal are fair (leader_of w.group v) m led.leader is_m
+    (body.PrePrepare proposes.word) proposes.said (proposal_sent w.group m (leader_of w.group v) proposes.word) in
+    offered_known w connected v plan beginning whole live sound are led m is_m known within knows knows_it.part proposes.word
+    knows_it.among knows_it.word proposes.of_view t x proposes.numbered high (proposed_begun w v t x on proposes) in
+    let offers : (t : ℕ) (x : List (List ℕ)) → IsOffer w v plan middle t x →
+    offered (facts_of w.group (known_by w (middle ++ round) m)) v t ≡ Some x = λ t x offer. elim offer.1 [
+      | inl planned ↦ offered_planned (facts_of w.group known) v t plan knows offer.0 planned.0 ∙ planned.1
+      | inr more ↦ arrives t x more.0 more.1
+    ] in
+    let offer : IsOffer w v plan middle s rows = (omega arith, inr (beyond, is)) in (
+      offers s rows offer,
+      worth_by w connected v plan beginning whole live sound are led m is_m known within later s (λ t above low.
+          let under = offer_lower w connected v plan beginning middle live (sound_before w middle round sound) are
+          (led_before w connected v plan beginning middle round begun led) s rows offer t above low in
+          (under.0, offers t under.0 under.1, offer_begun w v plan t under.0 on under.1)),
     )
-  where
-    lower_there : (t : ℕ) → 1 ≤ t → t ≤ s → (x : List (List ℕ)) × IsProposed w beginning t x
-    lower_there t one low = lower_at w live (are.correct (leader_of w.group 0) led.leader) beginning
-        (sound_before w beginning round sound).legal s rows is t one low

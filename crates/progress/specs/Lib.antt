@@ -1,3 +1,4 @@
 pub mod Rounds
 pub mod Laws
-pub mod FirstView
+pub mod UnderLeader
+pub mod Leaving

@@ -1,5 +1,6 @@
-ghost use Rattle.progress.specs.Laws.{KnownGrows, WordsArrive, AllIsSaid, RequestsOnce, TurnsInARound, CertifiedInARound, ReachedInTwoRounds, EligibleInTwoRounds, EligibleInFourRounds, LeaderOffers, OfferedIsPrepared, PreparesArrive, PreparedIsCommitted, CommitsArrive, IntroducedInARound};
-ghost use Rattle.progress.specs.FirstView.{OfferedIsProposed, ProposedInTurn, OrderedIsProposed, ProposedIsWorth, ProposedIsPrepared, ProposedIsOrdered, RequestedIsProposed, ExecutionsSpread, EligibleWasRequested, UnderFirstLeader};
+ghost use Rattle.progress.specs.Laws.{KnownGrows, WordsArrive, AllIsSaid, RequestsOnce, TurnsInARound, CertifiedInARound, ReachedInTwoRounds, EligibleInTwoRounds, EligibleInFourRounds, LeaderOffers, OfferedIsPrepared, PreparesArrive, PreparedIsCommitted, CommitsArrive, IntroducedInARound, UnderCorrectLeader};
+ghost use Rattle.progress.specs.UnderLeader.{PlansAgree, OfferedIsOffer, OrderedIsOffer, ProposedIsWorth, OfferIsPrepared, OfferIsOrdered, RequestedIsOffer, ExecutionsSpread};
+ghost use Rattle.progress.specs.Leaving.{VotesSpread, VotedIsLeft, ViewOpens};
 
 /// What a master knows only grows, at its end.
 pub fn known_grows()
@@ -76,52 +77,62 @@ pub fn prepared_is_committed()
     ensures { PreparedIsCommitted }
 {}
 
-/// In view 0 what is offered as a number is what its leader proposed.
-pub fn offered_is_proposed()
-    ensures { OfferedIsProposed }
+/// The connected masters in a view that one of them leads know one plan.
+pub fn plans_agree()
+    ensures { PlansAgree }
 {}
 
-/// The leader of view 0 proposes its numbers in turn, each once.
-pub fn proposed_in_turn()
-    ensures { ProposedInTurn }
+/// What a connected master's words offer as a number is what the view offers, each number in one way.
+pub fn offered_is_offer()
+    ensures { OfferedIsOffer }
 {}
 
-/// What a connected master knows to be prepared or ordered in view 0 is what its leader proposed.
-pub fn ordered_is_proposed()
-    ensures { OrderedIsProposed }
+/// What a connected master knows to be prepared in the view, or ordered above its plan's base, is what the view offers.
+pub fn ordered_is_offer()
+    ensures { OrderedIsOffer }
 {}
 
-/// What the leader of view 0 proposed each connected master finds worth a prepare a round later.
+/// What the leader proposed each connected master finds worth a prepare a round later.
 pub fn proposed_is_worth()
     ensures { ProposedIsWorth }
 {}
 
-/// What the leader of view 0 proposed each connected master has prepared a round later.
-pub fn proposed_is_prepared()
-    ensures { ProposedIsPrepared }
+/// What the view offers each connected master has prepared a round later.
+pub fn offer_is_prepared()
+    ensures { OfferIsPrepared }
 {}
 
-/// What the leader of view 0 proposed each connected master has ordered three rounds later, with all lower numbers.
-pub fn proposed_is_ordered()
-    ensures { ProposedIsOrdered }
+/// What the view offers each connected master has ordered three rounds later, with all lower numbers.
+pub fn offer_is_ordered()
+    ensures { OfferIsOrdered }
 {}
 
-/// What a connected master requested the leader of view 0 has proposed five rounds later.
-pub fn requested_is_proposed()
-    ensures { RequestedIsProposed }
+/// What a connected master requested the view offers five rounds later.
+pub fn requested_is_offer()
+    ensures { RequestedIsOffer }
 {}
 
-/// What one connected master executed in view 0 each has executed three rounds later, where it lacks no request.
+/// What one connected master executed each has executed three rounds later, where it lacks no request.
 pub fn executions_spread()
     ensures { ExecutionsSpread }
 {}
 
-/// What rows proposed in view 0 make eligible of a connected master it requested before.
-pub fn eligible_was_requested()
-    ensures { EligibleWasRequested }
+/// Progress under a correct leader: what a client handed to a connected door each connected master has executed nine rounds later.
+pub fn under_correct_leader()
+    ensures { UnderCorrectLeader }
 {}
 
-/// Progress under the leader of view 0: what a client handed to a connected door each connected master has executed nine rounds later.
-pub fn under_first_leader()
-    ensures { UnderFirstLeader }
+/// Where more than f + k connected masters voted against a view all have done so a round later.
+pub fn votes_spread()
+    ensures { VotesSpread }
+{}
+
+/// A view that all connected masters voted against each has left a round later.
+pub fn voted_is_left()
+    ensures { VotedIsLeft }
+{}
+
+/// A view that all connected masters came to, and that one of them leads, is open to each two rounds later.
+pub fn view_opens()
+    ensures { ViewOpens }
 {}

@@ -9,7 +9,8 @@ use std::sync::Wait;
 use std::thread::Threads;
 
 const COMMANDS: [&str; 11] = [
-    "play", "run", "replay", "make", "keys", "verify", "parts", "rebuild", "blame", "trend", "delays",
+    "play", "run", "replay", "make", "keys", "verify", "parts", "rebuild", "blame", "trend",
+    "delays",
 ];
 
 /// What a call came to.

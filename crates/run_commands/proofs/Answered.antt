@@ -9,7 +9,7 @@ use Rattle.scenario_file.specs.Valid.{IsScenario}
 use Rattle.scenario_file.specs.declared.refusal.ScenarioRefusal.{ScenarioRefusal}
 use Rattle.scenario_file.specs.declared.refusal.ScenarioRefusal.TheVariants as scenario
 use Rattle.history_rules.specs.Events.{Entry}
-use Rattle.command_words.specs.Wanted.{Wanted, play, run, replay, make, keys, verify, parts, rebuild, blame, trend, delays}
+use Rattle.command_words.specs.Wanted.{Wanted, play, run, replay, make, keys, verify, parts, rebuild, blame, trend, delays, page}
 use Rattle.command_words.specs.Wanted.{is_command, wanted_in}
 use Rattle.command_ends.specs.Refusals.{status_of}
 use Rattle.command_ends.specs.Steps.{Step}
@@ -106,6 +106,8 @@ course-of r (parts scenario history originator number) p contents step is comes 
 course-of r (blame scenario history) p contents step is comes =
     subst (λ (q : List ℕ × List ℕ × Question). QuestionCourse r q.0 q.1 q.2 contents step) (same_Some _ _ is) comes
 course-of r (delays scenario history) p contents step is comes =
+    subst (λ (q : List ℕ × List ℕ × Question). QuestionCourse r q.0 q.1 q.2 contents step) (same_Some _ _ is) comes
+course-of r (page scenario history) p contents step is comes =
     subst (λ (q : List ℕ × List ℕ × Question). QuestionCourse r q.0 q.1 q.2 contents step) (same_Some _ _ is) comes
 course-of r (trend scenario history point from to) p contents step is comes =
     subst (λ (q : List ℕ × List ℕ × Question). QuestionCourse r q.0 q.1 q.2 contents step) (same_Some _ _ is) comes

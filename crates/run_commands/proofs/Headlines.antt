@@ -17,7 +17,7 @@ use Rattle.script_lines.specs.Scripts.{script_in}
 use Rattle.script_lines.specs.Sayings.{words_in}
 use Rattle.script_lines.specs.declared.script.Line.{Line}
 use Rattle.script_lines.specs.declared.saying.Saying.{Saying}
-use Rattle.command_words.specs.Wanted.{Wanted, play, run, replay, make, keys, verify, parts, rebuild, blame, trend, delays}
+use Rattle.command_words.specs.Wanted.{Wanted, play, run, replay, make, keys, verify, parts, rebuild, blame, trend, delays, page}
 use Rattle.command_words.specs.Wanted.{is_command, wanted_in}
 use Rattle.command_ends.specs.Refusals.{status_of}
 use Rattle.command_ends.specs.Steps.{Step}
@@ -314,6 +314,7 @@ by-wanted r laws call text (Some (parts scenario history originator number)) ask
 by-wanted r laws call text (Some (rebuild scenario pieces)) asked asks contents loaded next put = not-asked asks
 by-wanted r laws call text (Some (blame scenario history)) asked asks contents loaded next put = not-asked asks
 by-wanted r laws call text (Some (delays scenario history)) asked asks contents loaded next put = not-asked asks
+by-wanted r laws call text (Some (page scenario history)) asked asks contents loaded next put = not-asked asks
 by-wanted r laws call text (Some (trend scenario history point first last)) asked asks contents loaded next put =
     not-asked asks
 

@@ -4,7 +4,7 @@ use Rattle.std.proofs.lemmas.Option.{same_Some}
 use Rattle.std.specs.declared.vec.Vec.{Vec}
 use Rattle.std.specs.declared.alloc.Global.{Global}
 use Rattle.scenario_file.specs.Reading.{Contents}
-use Rattle.command_words.specs.Wanted.{Wanted, play, run, replay, make, keys, verify, parts, rebuild, blame, trend, delays}
+use Rattle.command_words.specs.Wanted.{Wanted, play, run, replay, make, keys, verify, parts, rebuild, blame, trend, delays, page}
 use Rattle.command_ends.specs.Steps.{Step}
 use Rattle.command_ends.specs.Steps.Step.{Load, Gives, Refuses}
 use Rattle.command_ends.specs.Calls.{TextCause}
@@ -45,6 +45,8 @@ question-cause r (blame scenario history) p held first last result is cause =
 question-cause r (trend scenario history point from to) p held first last result is cause =
     subst (CausedBy r held first last result) (sym (same_Some _ _ is)) cause
 question-cause r (delays scenario history) p held first last result is cause =
+    subst (CausedBy r held first last result) (sym (same_Some _ _ is)) cause
+question-cause r (page scenario history) p held first last result is cause =
     subst (CausedBy r held first last result) (sym (same_Some _ _ is)) cause
 question-cause r (play scenario script words) p held first last result is cause = none p is
 question-cause r (run scenario script words hands turns) p held first last result is cause = none p is

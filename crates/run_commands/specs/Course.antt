@@ -8,7 +8,7 @@ use Rattle.script_lines.specs.Sayings.{words_in}
 use Rattle.script_lines.specs.declared.script.Line.{Line}
 use Rattle.script_lines.specs.declared.saying.Saying.{Saying}
 use Rattle.hash_signatures.specs.Verification.{Verifies}
-use Rattle.command_words.specs.Wanted.{Wanted, play, run, replay, make, keys, verify, parts, rebuild, blame, trend, delays}
+use Rattle.command_words.specs.Wanted.{Wanted, play, run, replay, make, keys, verify, parts, rebuild, blame, trend, delays, page}
 use Rattle.command_words.specs.Wanted.{is_command, wanted_in}
 use Rattle.run_commands.specs.MadeScenario.{made_scenario}
 use Rattle.run_commands.specs.MadeScript.{made_script}
@@ -131,6 +131,7 @@ CommandStep r (blame scenario history) contents step = QuestionCourse r scenario
 CommandStep r (trend scenario history point first last) contents step =
     QuestionCourse r scenario history (question.Trend point first last) contents step
 CommandStep r (delays scenario history) contents step = QuestionCourse r scenario history question.Delays contents step
+CommandStep r (page scenario history) contents step = QuestionCourse r scenario history question.Page contents step
 
 -- The same of words: those that aren't a command are refused at once.
 abbrev pub AskedStep : Readers → Bool → Option Wanted → List (List ℕ) → Step → Type 0

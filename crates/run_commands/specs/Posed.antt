@@ -1,6 +1,6 @@
 -- The commands that ask a question over a history. (This project's own.)
 use Rattle.std.specs.Prelude.{ℕ, List, Option, None, Some}
-use Rattle.command_words.specs.Wanted.{Wanted, parts, blame, trend, delays}
+use Rattle.command_words.specs.Wanted.{Wanted, parts, blame, trend, delays, page}
 use Rattle.run_commands.specs.declared.questions.Question.{Question}
 use Rattle.run_commands.specs.declared.questions.Question.TheVariants as question
 
@@ -10,4 +10,5 @@ posed (parts scenario history originator number) = Some (scenario, history, ques
 posed (blame scenario history) = Some (scenario, history, question.Blame)
 posed (trend scenario history point first last) = Some (scenario, history, question.Trend point first last)
 posed (delays scenario history) = Some (scenario, history, question.Delays)
+posed (page scenario history) = Some (scenario, history, question.Page)
 posed _ = None

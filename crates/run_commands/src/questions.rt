@@ -15,6 +15,8 @@ pub enum Question {
     Trend { point: u32, first: u32, last: u32 },
     /// How long updates took.
     Delays,
+    /// The page that shows the history.
+    Page,
 }
 
 /// The names of the scenario and the history that a question is asked over, where a question is asked.
@@ -37,6 +39,7 @@ pub fn posed<'a>(asked: Asked<'a>) -> Option<(&'a str, &'a str, Question)>
             last,
         } => Some((scenario, history, Question::Trend { point, first, last })),
         Asked::Delays { scenario, history } => Some((scenario, history, Question::Delays)),
+        Asked::Page { scenario, history } => Some((scenario, history, Question::Page)),
         _ => None,
     }
 }

@@ -3,6 +3,7 @@ use Rattle.std.proofs.Common.{ℕ}
 use Rattle.run_questions.specs.BlameLaws.{BlamedAreProved, QuorumsAreBlamed, CorrectAreNotBlamed}
 use Rattle.run_questions.specs.TrendLaws.{PrintsTheChangesOfOne, PrintsTheChangesOfAll, AlwaysMatches}
 use Rattle.part_lines.specs.Laws.{EnoughLinesRebuild}
+use Rattle.page_text.specs.Escaping.{EscapedIsPlain}
 use Rattle.run_questions.specs.PartsLaws.{PartsArePrinted, PrintedLinesRebuild}
 use Rattle.command_ends.specs.Calls.{Call}
 use Rattle.command_ends.specs.Ended.{ErrorSink}
@@ -10,6 +11,7 @@ use Rattle.run_commands.specs.Keeps.{KeepsCommands}
 use Rattle.run_program.specs.Keeps.{Keeps}
 use Rattle.run_program.specs.Whole.{program_readers}
 use Rattle.run_program.proofs.Requested.{keeps_parts, keeps_rebuild}
+use Rattle.run_program.proofs.Shown.{keeps_page}
 use Rattle.run_program.proofs.Worth.{keeps_blame, keeps_delays, keeps_trend}
 
 -- the laws of what is asked over a history
@@ -23,6 +25,7 @@ pub record Laws : Type 0 where
   pub printed : PartsArePrinted
   pub rebuild : PrintedLinesRebuild
   pub enough : EnoughLinesRebuild
+  pub plain : EscapedIsPlain
 
 pub keeps : Laws → (call : Call) (err : ErrorSink) (status : ℕ) → KeepsCommands program_readers call err status →
     Keeps call err status
@@ -33,6 +36,7 @@ keeps laws call err status kept = record {
   blame = keeps_blame laws.proved laws.quorums laws.correct call err status kept.answers;
   trend = keeps_trend laws.one laws.all laws.matches call err status kept.answers;
   delays = keeps_delays call err status kept.answers;
+  page = keeps_page laws.plain call err status kept.answers;
   parts = keeps_parts laws.printed laws.rebuild call err status kept.answers;
   rebuild = keeps_rebuild laws.enough call err status kept.requests;
 }

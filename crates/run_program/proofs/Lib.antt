@@ -7,4 +7,5 @@ mod Giving
 mod Answered
 mod Worth
 mod Requested
+mod Shown
 mod Keeping

@@ -1,19 +1,13 @@
 -- What holds of the definitions that plays and replays go by.
-use Rattle.std.proofs.Common.{◌≡◌, ℕ, ◌&&◌, not, List, [], ◌∷◌, Result, Ok, Err, refl, sym, ◌∙◌, ap}
-use Rattle.std.specs.List.{list_all}
+use Rattle.std.proofs.Common.{◌≡◌, ℕ, List, Result, Ok, Err, ap}
 use Rattle.history_rules.specs.Events.{Entry}
-use Rattle.play_words.specs.declared.words.Word.{Word}
-use Rattle.play_words.specs.declared.words.Word.TheVariants as word
-use Rattle.script_lines.specs.declared.saying.Saying.{Saying}
 use Rattle.script_laws.specs.Laws.{ReadLinesAreOfScenario, ReadWordsAreOfScenario}
 use Rattle.run_scripts.specs.declared.answer.StepRefusal.{StepRefusal}
-use Rattle.run_scripts.specs.Making as making
 use Rattle.run_scripts.specs.Laws as plays
 use Rattle.run_lines.specs.declared.refusal.HistoryRefusal.{HistoryRefusal}
 use Rattle.printed_history.specs.Histories.{history_in}
 use Rattle.replica_threads.specs.Courses.{inputs_given}
 use Rattle.replica_threads.specs.Ended.{HistoriesAreLegal}
-use Rattle.play_words.specs.Accepted.{is_raw}
 use Rattle.run_commands.specs.Readers.{KeepsRules}
 use Rattle.run_program.specs.Faults.{played_or_fault, history_or_fault}
 use Rattle.run_program.specs.Whole.{program_readers}
@@ -30,16 +24,6 @@ read_of : (told : Result (List Entry) HistoryRefusal) (history : List Entry) →
 read_of (Ok made) history is = let same : made ≡ history = cc in ap Ok same
 read_of (Err why) history is = absurd (cc)
 
--- both have one word for raw bytes
-same_raw : (w : Word) → is_raw w ≡ making.is_raw w
-same_raw (word.Raw bytes) = refl
-same_raw _ = refl
-
-none_raw : (sayings : List Saying) → list_all (λ (s : Saying). not (is_raw s.word)) sayings ≡ list_all
-    (λ (s : Saying). not (making.is_raw s.word)) sayings
-none_raw [] = refl
-none_raw (s ∷ rest) = λ i. not (same_raw s.word i) && none_raw rest i
-
 pub keeps : ReadLinesAreOfScenario → ReadWordsAreOfScenario → plays.PlayedIsLegal →
     plays.PlayedIsUnforged → HistoriesAreLegal → KeepsRules program_readers
 keeps lines_read words_read legal unforged runs = record {
@@ -50,7 +34,7 @@ keeps lines_read words_read legal unforged runs = record {
   played_unforged = λ c lines sayings history valid script words is raw.
       unforged (record { scenario = c; sayings = sayings }) lines history valid
       (lines_read c script.0 lines valid script.1) (words_read c words.0 sayings valid words.1)
-      (sym (none_raw sayings) ∙ raw) (played_of _ history is);
+      raw (played_of _ history is);
   run_legal = λ c lines sayings turns history run. runs c (inputs_given c lines sayings) turns history run;
   read_legal = λ c text history valid is. read_is_legal c text history (read_of (history_in c text) history is);
 }

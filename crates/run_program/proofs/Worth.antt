@@ -44,7 +44,7 @@ pub keeps_blame : BlamedAreProved → QuorumsAreBlamed → CorrectAreNotBlamed �
 keeps_blame proved many intruded call err status keeps zero asked =
     blames proved many intruded call (keeps.answers zero question.Blame asked)
 
-tells_delays : (call : Call) → Answered whole_runs call question.Delays → TellsDelays call
+tells_delays : (call : Call) → Answered program_readers call question.Delays → TellsDelays call
 tells_delays call a = record {
   scenario = a.scenario;
   history = a.history;
@@ -53,7 +53,7 @@ tells_delays call a = record {
 }
 
 -- what each call of `delays` tells that ends well
-pub keeps_delays : (call : Call) (err : ErrorSink) (status : ℕ) → KeepsAnswers whole_runs call err status →
+pub keeps_delays : (call : Call) (err : ErrorSink) (status : ℕ) → KeepsAnswers program_readers call err status →
     KeepsDelays call status
 keeps_delays call err status keeps zero asked = tells_delays call (keeps.answers zero question.Delays asked)
 

@@ -10,6 +10,7 @@ use Rattle.part_lines.specs.declared.fault.RebuildRefusal.{RebuildRefusal}
 use Rattle.part_lines.specs.declared.fault.RebuildRefusal.TheVariants as rebuild
 use Rattle.part_lines.specs.Rebuilding.{rebuilt_in}
 use Rattle.run_questions.specs.DelaysText.{delays_in}
+use Rattle.run_page.specs.Page.{page_in}
 use Rattle.run_questions.specs.PartsText.{parts_in}
 use Rattle.run_questions.specs.declared.parts.text.PartsRefusal.{PartsRefusal}
 use Rattle.run_questions.specs.declared.parts.text.PartsRefusal.TheVariants as parts
@@ -46,6 +47,7 @@ answered c history (question.Parts originator number) = certified_or_lack (parts
 answered c history question.Blame = Ok (blame_text c history)
 answered c history (question.Trend point first last) = trend_or_lack (trend_in c history point first last)
 answered c history question.Delays = Ok (delays_in c history)
+answered c history question.Page = Ok (page_in c history)
 
 -- Why parts rebuild no request. None is defined to want memory, so that case may be told as either.
 abbrev pub no_request : RebuildRefusal → NoRequest

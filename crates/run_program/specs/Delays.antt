@@ -7,12 +7,12 @@ use Rattle.run_questions.specs.DelaysText.{delays_in}
 use Rattle.command_ends.specs.Calls.{Call}
 use Rattle.run_commands.specs.declared.questions.Question.TheVariants as question
 use Rattle.run_commands.specs.Answered.{asked_by, Spells}
-use Rattle.run_program.specs.Whole.{whole_runs}
+use Rattle.run_program.specs.Whole.{program_readers}
 
 pub record TellsDelays (call : Call) : Type 0 where
   pub scenario : Contents
   pub history : List Entry
-  pub spells : Spells whole_runs call question.Delays scenario history
+  pub spells : Spells program_readers call question.Delays scenario history
   pub put : call.put_after ≡ with_piece call.put_before (delays_in scenario history)
 
 -- Each call of `delays` that ends well.

@@ -5,4 +5,5 @@ pub mod Blame
 pub mod Trends
 pub mod Requests
 pub mod Delays
+pub mod Pages
 pub mod Keeps

@@ -15,6 +15,7 @@ use part_lines::rebuilt_text;
 use plain_lists::Want;
 use printed_history::{Replay, read_replay};
 use run_commands::Question;
+use run_page::history_page;
 use run_questions::blame::blame_text;
 use run_questions::delays::delays_text;
 use run_questions::parts::parts_text;
@@ -64,6 +65,10 @@ fn answer(
         },
         Question::Delays => match delays_text(alloc, scenario, &replay.history) {
             Ok(text) => Ok(text),
+            Err(Want) => Err(Refusal::Memory),
+        },
+        Question::Page => match history_page(alloc, scenario, &replay.history, benches) {
+            Ok(page) => Ok(page),
             Err(Want) => Err(Refusal::Memory),
         },
         Question::Trend { point, first, last } => {

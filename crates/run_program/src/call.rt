@@ -8,6 +8,7 @@ ghost use Rattle.run_program.specs.Whole.{program_readers};
 
 use crate::runs::ProgramRuns;
 use outside::{Files, Sink};
+use page_text::laws::escaped_is_plain;
 use part_lines::laws::enough_lines_rebuild;
 use run_commands::Program;
 use run_commands::call::run_command;
@@ -49,6 +50,7 @@ pub fn spire<R: Threads + Wait + Sync, F: Files, O: Sink, E: Sink>(
     parts_are_printed();
     printed_lines_rebuild();
     enough_lines_rebuild();
+    escaped_is_plain();
     let program = Program {
         runs: ProgramRuns { rt },
     };

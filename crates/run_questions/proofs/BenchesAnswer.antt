@@ -9,6 +9,7 @@ use Rattle.std.specs.List.{All, filter_map, cons_option}
 use Rattle.quorum_sets.specs.Masters.{numbers_below, voters}
 use Rattle.message_types.specs.declared.updates.Update.{Update}
 use Rattle.protocol_rules.specs.Group.{Group}
+use Rattle.protocol_rules.specs.Words.{greatest_reached}
 use Rattle.scenario_file.specs.Reading.{Contents}
 use Rattle.history_rules.specs.Events.{Entry}
 use Rattle.history_rules.specs.Setup.{is_correct_master}
@@ -19,7 +20,7 @@ use Rattle.world_history.specs.State.{BenchState, executed_if}
 use Rattle.world_history.specs.Benches.{bench_in, unsigned, AreBenches}
 use Rattle.trend_archive.specs.declared.board.Vote.{Vote}
 use Rattle.trend_archive.specs.Boards.{Tally}
-use Rattle.run_questions.specs.TrendAnswers.{changes_of, correct_masters, counts_in, executed_by_more, greatest_reached}
+use Rattle.run_questions.specs.TrendAnswers.{changes_of, correct_masters, counts_in, executed_by_more}
 use Rattle.run_questions.specs.TrendAnswers.{reaching, vote_at_end, vote_by, vote_of, votes_in}
 use Rattle.run_questions.proofs.VotesGathered.{with_votes}
 use Rattle.run_questions.proofs.FilteredBoth.{filter_both}

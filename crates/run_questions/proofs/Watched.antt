@@ -45,15 +45,21 @@ spoken_more h f xs i x found base old new below is so_far same put =
     ∙ ap (map h) (sym (shown_more f xs i x below is)))
 
 -- the same of a list all of whose members tell something
-pub told_more : {X : Type 0} (h : What → Happening) (g : X → What) (xs : List X) (i : ℕ) (x : X)
-    (base old new : List Happening) → i < length xs → x ≡ get_or xs i x →
-    old ≡ base ++ map h (map g (take i xs)) → new ≡ old ++ map h (g x ∷ [])
-    → new ≡ base ++ map h (map g (take (i + 1) xs))
-told_more {X} h g xs i x base old new below is so_far put =
-    put ∙ ap (λ (hs : List Happening). hs ++ map h (g x ∷ [])) so_far
-    ∙ append_assoc base (map h (map g (take i xs))) (map h (g x ∷ []))
-    ∙ ap (λ (hs : List Happening). base ++ hs) (sym (map-append h (map g (take i xs)) (g x ∷ []))
-    ∙ ap (λ (y : X). map h (map g (take i xs) ++ g y ∷ [])) is ∙ ap (map h) (sym (map_more g xs i x below)))
+pub told_more : {X : Type 0} (h : What → Happening) (g : X → What) (xs : List X) (i : ℕ) (d : X)
+    (base old new : List Happening) → i < length xs → old ≡ base ++ map h (map g (take i xs))
+    → new ≡ old ++ map h (g (get_or xs i d) ∷ []) → new ≡ base ++ map h (map g (take (i + 1) xs))
+told_more {X} h g xs i d base old new below so_far put =
+    put ∙ ap (λ (hs : List Happening). hs ++ map h (g (get_or xs i d) ∷ [])) so_far
+    ∙ append_assoc base (map h (map g (take i xs))) (map h (g (get_or xs i d) ∷ []))
+    ∙ ap (λ (hs : List Happening). base ++ hs) (sym (map-append h (map g (take i xs)) (g (get_or xs i d) ∷ []))
+    ∙ ap (map h) (sym (map_more g xs i d below)))
+
+-- one part more behind those appended so far
+one_more : (h : What → Happening) (xs ys : List What) (base old new : List Happening) → old ≡ base ++ map h xs →
+    new ≡ old ++ map h ys → new ≡ base ++ map h (xs ++ ys)
+one_more h xs ys base old new so_far put =
+    put ∙ ap (λ (hs : List Happening). hs ++ map h ys) so_far ∙ append_assoc base (map h xs) (map h ys)
+    ∙ ap (λ (hs : List Happening). base ++ hs) (sym (map-append h xs ys))
 
 -- five parts appended in turn, which come to a whole
 pub parts_appended : (h : What → Happening) (a b c d e whole : List What)
@@ -61,17 +67,10 @@ pub parts_appended : (h : What → Happening) (a b c d e whole : List What)
     three ≡ two ++ map h c → four ≡ three ++ map h d → new ≡ four ++ map h e → a ++ b ++ c ++ d ++ e ≡ whole
     → new ≡ base ++ map h whole
 parts_appended h a b c d e whole base one two three four new first second third fourth last is =
-    last ∙ ap (λ (hs : List Happening). hs ++ map h e) (fourth ∙ ap (λ (hs : List Happening). hs ++ map h d)
-    (third ∙ ap (λ (hs : List Happening). hs ++ map h c) (second ∙ ap (λ (hs : List Happening). hs ++ map h b) first)))
-    ∙ behind (((base ++ map h a) ++ map h b) ++ map h c) d e
-    ∙ behind ((base ++ map h a) ++ map h b) c (d ++ e) ∙ behind (base ++ map h a) b (c ++ d ++ e)
-    ∙ behind base a (b ++ c ++ d ++ e) ∙ ap (λ (ws : List What). base ++ map h ws) is
-  where
-    behind : (front : List Happening) (xs ys : List What)
-        → (front ++ map h xs) ++ map h ys ≡ front ++ map h (xs ++ ys)
-    behind front xs ys =
-        append_assoc front (map h xs) (map h ys)
-        ∙ ap (λ (hs : List Happening). front ++ hs) (sym (map-append h xs ys))
+    one_more h (a ++ b ++ c ++ d) e base four new
+    (one_more h (a ++ b ++ c) d base three four
+    (one_more h (a ++ b) c base two three (one_more h a b base one two first second) third) fourth) last
+    ∙ ap (λ (ws : List What). base ++ map h ws) is
 
 -- what happened since an actor had come so far is what happened between its two benches
 pub between_benches : (old now : BenchState) (e : Entry) (executed shown view : ℕ) (happened more : List Happening) →

@@ -52,6 +52,10 @@ fn commands_over_scripts_and_histories(rt: HostRuntime) -> Result<(), Fail> {
         scenario: "s",
         history: "h",
     };
+    let page = Asked::Page {
+        scenario: "s",
+        history: "h",
+    };
     for (line, asked) in [
         ("play s p w", play),
         ("run s --turns 009 p --hands=+2 w", run),
@@ -59,6 +63,7 @@ fn commands_over_scripts_and_histories(rt: HostRuntime) -> Result<(), Fail> {
         ("blame s -- -h", blame),
         ("trend s h 1 0 4294967295", trend),
         ("delays s h", delays),
+        ("page s h", page),
     ] {
         asks(&rt, rt.alloc(), line, asked)?;
     }

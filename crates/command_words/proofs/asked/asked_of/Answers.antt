@@ -55,6 +55,10 @@ pub returns-in-delays : goal.returns-in-delays
 returns-in-delays c =
     named (goal.at.returns-in-delays c).In_ok-name (codes "delays") _ c.in-delays.is c.delays.ensures
 
+pub returns-in-page : goal.returns-in-page
+returns-in-page c =
+    named (goal.at.returns-in-page c).In_ok-name (codes "page") _ c.in-page.is c.page.ensures
+
 pub returns-in_default : goal.returns-in_default
 returns-in_default c =
     let other : command_in c.in_ok-name.name.now (rows_of (found_of c.in_ok-name.found.now)) ≡ None =
@@ -70,5 +74,6 @@ returns-in_default c =
       other_name _ _ c.in_default.not-blame,
       other_name _ _ c.in_default.not-trend,
       other_name _ _ c.in_default.not-delays,
+      other_name _ _ c.in_default.not-page,
     ) refl in
     named (goal.at.returns-in_default c).In_ok-name c.in_ok-name.name.now _ refl (sym other)

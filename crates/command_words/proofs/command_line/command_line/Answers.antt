@@ -1,6 +1,6 @@
 -- The subcommands, joined in order, are the literal of the definitions.
 use Rattle.command_words.specs.CommandLine.{play_shape, run_shape, replay_shape, make_shape, keys_shape}
-use Rattle.command_words.specs.CommandLine.{verify_shape, parts_shape, rebuild_shape, blame_shape, trend_shape, delays_shape}
+use Rattle.command_words.specs.CommandLine.{verify_shape, parts_shape, rebuild_shape, blame_shape, trend_shape, delays_shape, page_shape}
 use Rattle.command_words.proofs.command_line.command_line.Goals as goal
 
 pub returns : goal.returns
@@ -15,4 +15,5 @@ returns c =
     let eighth = c.joined-commands-8.ensures _ rebuild_shape seventh c.rebuild.ensures in
     let ninth = c.joined-commands-9.ensures _ blame_shape eighth c.blame.ensures in
     let tenth = c.joined-commands-10.ensures _ trend_shape ninth c.trend.ensures in
-    c.joined.ensures _ delays_shape tenth c.delays.ensures
+    let eleventh = c.joined-commands-11.ensures _ delays_shape tenth c.delays.ensures in
+    c.joined.ensures _ page_shape eleventh c.page.ensures

@@ -15,6 +15,7 @@ returns-clause-keeps g c =
       printed = c.parts_are_printed.ensures;
       rebuild = c.printed_lines_rebuild.ensures;
       enough = c.enough_lines_rebuild.ensures;
+      plain = c.escaped_is_plain.ensures;
     } in
     keeps laws _ _ c.run_command.result c.run_command.ensures
 

@@ -30,8 +30,8 @@ returns-clause-bench c =
 pub returns-clause-happened : goal.returns-clause-happened
 returns-clause-happened c =
     on_ok_weaker c.add_happened.result
-    (λ made. between_benches c.args.bench.now _ (entry_of c.args.entry.now) c.len.result c.len-2.result c.view.result
-    c.args.happened.now.items _
-    (c.len.ensures ∙ ap length (c.executions.ensures c.requires.works))
-    (c.len-2.ensures ∙ ap length (c.board.ensures c.requires.works)) (c.view.ensures c.requires.works) made)
+    (λ made. between_benches c.args.bench.now c.act.new.self (entry_of c.args.entry.now) (length c.executions.result.now)
+    (length c.board.result.now) c.view.result c.args.happened.now.items _
+    (ap length (c.executions.ensures c.requires.works)) (ap length (c.board.ensures c.requires.works))
+    (c.view.ensures c.requires.works) made)
     c.add_happened.ensures

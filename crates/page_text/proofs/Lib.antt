@@ -1,0 +1,2 @@
+-- That an escaped text is plain.
+pub mod EscapedPlain

@@ -1,0 +1,9 @@
+//! The page's script, in parts.
+
+pub(crate) mod causes;
+pub(crate) mod head;
+pub(crate) mod line;
+pub(crate) mod page;
+pub(crate) mod plots;
+pub(crate) mod read;
+pub(crate) mod words;

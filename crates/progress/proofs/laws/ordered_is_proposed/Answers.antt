@@ -1,5 +1,0 @@
-use Rattle.progress.proofs.Settled.{ordered_is_proposed}
-use Rattle.progress.proofs.laws.ordered_is_proposed.Goals as goal
-
-pub returns : goal.returns
-returns c = ordered_is_proposed

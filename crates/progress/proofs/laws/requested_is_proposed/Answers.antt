@@ -1,5 +1,0 @@
-use Rattle.progress.proofs.Offers.{requested_is_proposed}
-use Rattle.progress.proofs.laws.requested_is_proposed.Goals as goal
-
-pub returns : goal.returns
-returns c = requested_is_proposed

@@ -1,0 +1,2 @@
+-- A history told entry by entry.
+pub mod Told
