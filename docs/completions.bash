@@ -7,7 +7,7 @@ _spire() {
     if [ "$COMP_CWORD" -eq 1 ]; then
         found=$(sed -n 's|^    \./spire \([-a-z]*\).*|\1|p' "$_spire_commands")$'\n--proved\n--help'
     else
-        found=$(grep "^    \./spire ${COMP_WORDS[1]} " "$_spire_commands" | grep -oE -- ' --[a-z]+')$'\n--help'
+        found=$(grep "^    \./spire ${COMP_WORDS[1]} " "$_spire_commands" | grep -oE -- '[[ ]--[a-z]+' | tr -d '[ ')$'\n--help'
         [[ $word == -* ]] || found=
     fi
     mapfile -t COMPREPLY < <(compgen -W "$(sort -u <<<"$found")" -- "$word")

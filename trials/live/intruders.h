@@ -205,7 +205,8 @@ struct Intruders {
                 of_view.push_back(f);
         withheld.swap(of_view);
         if (!withheld.empty() && least <= (u64)setting("last_moment", 4)) {
-            net.say_to(from, withheld[0], with_ours(some));
+            // (whoever of them acts: it is the word of the one who leads)
+            net.say_to(withheld[0].signer, withheld[0], with_ours(some));
             withheld.erase(withheld.begin());
         }
         for (u32 c : some)

@@ -47,6 +47,9 @@ no_answer_text none.NoPoint = codes "trend NoPoint"
 no_answer_text none.BadRange = codes "trend BadRange"
 no_answer_text (none.NotReached executed) = codes "trend NotReached " ++ decimal executed
 no_answer_text none.NoMatch = codes "trend NoMatch"
+no_answer_text none.BadPart = codes "picture BadRange"
+no_answer_text (none.NoSuchEntry last) = codes "picture NotReached " ++ decimal last
+no_answer_text none.NoPlot = codes "plot NoPoint"
 
 -- the line of a file's fault at a number
 unfoldable pub fault_line : List ℕ → LineFault → ℕ → List ℕ

@@ -40,6 +40,12 @@ pub enum NoAnswer {
     NotReached { executed: u64 },
     /// No f + 1 correct masters that executed up to the range's end give one answer.
     NoMatch,
+    /// A picture's range ends before it begins.
+    BadPart,
+    /// A picture's range goes beyond the history, whose last stamp is this one, 0 where it has no entry.
+    NoSuchEntry { last: u64 },
+    /// The plant has no point that could be plotted under this number.
+    NoPlot,
 }
 
 /// Why a call didn't put its whole text.

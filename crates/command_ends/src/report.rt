@@ -112,6 +112,11 @@ fn no_answer_line(alloc: Global, why: NoAnswer) -> Result<String, AllocError>
             format!(in alloc; "spire: trend NotReached {executed}\n")
         }
         NoAnswer::NoMatch => String::from_str(alloc, "spire: trend NoMatch\n"),
+        NoAnswer::BadPart => String::from_str(alloc, "spire: picture BadRange\n"),
+        NoAnswer::NoSuchEntry { last } => {
+            format!(in alloc; "spire: picture NotReached {last}\n")
+        }
+        NoAnswer::NoPlot => String::from_str(alloc, "spire: plot NoPoint\n"),
     }
 }
 

@@ -1,12 +1,13 @@
 -- A command as a user writes it is taken, and asks for itself: for each subcommand the walk is led word by word to its
 -- end, where each value stands in its row.
-use Rattle.std.proofs.Common.{◌≡◌, ◌∙◌, ℕ, true, refl, ap, List, [], ◌∷◌, Option, Some, codes, arith}
+use Rattle.std.proofs.Common.{◌≡◌, ◌∙◌, ℕ, true, refl, ap, List, [], ◌∷◌, Option, None, Some, codes, arith}
 use Rattle.std.specs.Prelude.{decimal}
 use Rattle.clap.specs.Walk.{Row, Text, Walk, finished, idle, nothing_held, walk_from}
 use Rattle.clap.specs.ValueTests.{is_unsigned_in}
 use Rattle.clap.proofs.OnLiterals.{clap_on_literals}
-use Rattle.command_words.specs.Wanted.{IsPlain, IsWhole, Wanted, command_in, is_command, number_in, wanted_in, words_of}
+use Rattle.command_words.specs.Wanted.{IsPlain, IsSpan, IsWhole, IsWidth, Wanted, command_in, is_command, number_in, wanted_in, words_of}
 use Rattle.command_words.specs.Wanted.{play, run, replay, make, keys, verify, parts, rebuild, blame, trend, delays, page}
+use Rattle.command_words.specs.Wanted.{picture, plot, chart}
 use Rattle.command_words.proofs.Walks.{IsWord, Runs, ends, held, is_taken_if, leaf, level_taken, name_is_word, state}
 use Rattle.command_words.proofs.Walks.{steps, text_row, word_steps}
 use Rattle.command_words.proofs.Numbers.{below_whole, whole_is_in, whole_is_word, whole_reads, written_is_in}
@@ -198,6 +199,197 @@ page_asks a b wa wb =
       wanted = ap (asked_at 11 (codes "page")) runs.walked_to;
     }
 
+-- ---- picture
+
+picture_asks : (a b : Text) → IsWord a → IsWord b → Asks (codes "picture" ∷ a ∷ b ∷ []) (picture a b None None None)
+unfolding clap_on_literals
+picture_asks a b wa wb =
+    let runs : Runs (leaf 12) (walk_from nothing_held) (a ∷ b ∷ [])
+    (end_at (text_row (codes "scenario") a ∷ []) (codes "history") b 3) =
+    word_steps (leaf 12) _ _ _ a _ _ wa refl (word_steps (leaf 12) _ _ _ b _ _ wb refl (ends (leaf 12) _)) in
+    record {
+      taken = ap is_taken_if (level_taken (leaf 12) _ _ runs refl);
+      wanted = ap (asked_at 12 (codes "picture")) runs.walked_to;
+    }
+
+picture_from : (a b c : Text) (nc : ℕ) → IsWord a → IsWord b → IsWord c → is_unsigned_in 0 4294967295 c ≡ true →
+    number_in c ≡ Some nc → Asks (codes "picture" ∷ a ∷ b ∷ c ∷ []) (picture a b (Some nc) None None)
+unfolding clap_on_literals
+picture_from a b c nc wa wb wc ec hc =
+    let runs : Runs (leaf 12) (walk_from nothing_held) (a ∷ b ∷ c ∷ [])
+    (end_at (text_row (codes "scenario") a ∷ text_row (codes "history") b ∷ []) (codes "first") c 4) =
+    word_steps (leaf 12) _ _ _ a _ _ wa refl (word_steps (leaf 12) _ _ _ b _ _ wb refl
+    (word_steps (leaf 12) _ _ _ c _ _ wc refl (ends (leaf 12) _))) in
+    record {
+      taken = ap is_taken_if (level_taken (leaf 12) _ _ runs (rw ec refl));
+      wanted = ap (asked_at 12 (codes "picture")) runs.walked_to ∙ rw hc refl;
+    }
+
+picture_between : (a b c d : Text) (nc nd : ℕ) → IsWord a → IsWord b → IsWord c → IsWord d →
+    is_unsigned_in 0 4294967295 c ≡ true → is_unsigned_in 0 4294967295 d ≡ true → number_in c ≡ Some nc →
+    number_in d ≡ Some nd → Asks (codes "picture" ∷ a ∷ b ∷ c ∷ d ∷ []) (picture a b (Some nc) (Some nd) None)
+unfolding clap_on_literals
+picture_between a b c d nc nd wa wb wc wd ec ed hc hd =
+    let runs : Runs (leaf 12) (walk_from nothing_held) (a ∷ b ∷ c ∷ d ∷ [])
+    (end_at (text_row (codes "scenario") a ∷ text_row (codes "history") b ∷
+    text_row (codes "first") c ∷ []) (codes "last") d 5) =
+    word_steps (leaf 12) _ _ _ a _ _ wa refl (word_steps (leaf 12) _ _ _ b _ _ wb refl
+    (word_steps (leaf 12) _ _ _ c _ _ wc refl (word_steps (leaf 12) _ _ _ d _ _ wd (rw ec refl) (ends (leaf 12) _)))) in
+    record {
+      taken = ap is_taken_if (level_taken (leaf 12) _ _ runs (rw ed refl));
+      wanted = ap (asked_at 12 (codes "picture")) runs.walked_to ∙ rw (hc, hd) refl;
+    }
+
+picture_wide : (a b w : Text) (nw : ℕ) → IsWord a → IsWord b → IsWord w → is_unsigned_in 600 4000 w ≡ true →
+    number_in w ≡ Some nw
+    → Asks (codes "picture" ∷ a ∷ b ∷ codes "--width" ∷ w ∷ []) (picture a b None None (Some nw))
+unfolding clap_on_literals
+picture_wide a b w nw wa wb ww ew hw =
+    let runs : Runs (leaf 12) (walk_from nothing_held) (a ∷ b ∷ codes "--width" ∷ w ∷ [])
+    (end_at (text_row (codes "scenario") a ∷ text_row (codes "history") b ∷ []) (codes "width") w 3) =
+    word_steps (leaf 12) _ _ _ a _ _ wa refl (word_steps (leaf 12) _ _ _ b _ _ wb refl
+    (steps (leaf 12) _ _ (codes "--width") _ _ refl refl
+    (word_steps (leaf 12) _ _ _ w _ _ ww refl (ends (leaf 12) _)))) in
+    record {
+      taken = ap is_taken_if (level_taken (leaf 12) _ _ runs (rw ew refl));
+      wanted = ap (asked_at 12 (codes "picture")) runs.walked_to ∙ rw hw refl;
+    }
+
+picture_from_wide : (a b c w : Text) (nc nw : ℕ) → IsWord a → IsWord b → IsWord c → IsWord w →
+    is_unsigned_in 0 4294967295 c ≡ true → is_unsigned_in 600 4000 w ≡ true → number_in c ≡ Some nc →
+    number_in w ≡ Some nw
+    → Asks (codes "picture" ∷ a ∷ b ∷ c ∷ codes "--width" ∷ w ∷ []) (picture a b (Some nc) None (Some nw))
+unfolding clap_on_literals
+picture_from_wide a b c w nc nw wa wb wc ww ec ew hc hw =
+    let runs : Runs (leaf 12) (walk_from nothing_held) (a ∷ b ∷ c ∷ codes "--width" ∷ w ∷ [])
+    (end_at (text_row (codes "scenario") a ∷ text_row (codes "history") b ∷
+    text_row (codes "first") c ∷ []) (codes "width") w 4) =
+    word_steps (leaf 12) _ _ _ a _ _ wa refl (word_steps (leaf 12) _ _ _ b _ _ wb refl
+    (word_steps (leaf 12) _ _ _ c _ _ wc refl (steps (leaf 12) _ _ (codes "--width") _ _ (rw ec refl) refl
+    (word_steps (leaf 12) _ _ _ w _ _ ww refl (ends (leaf 12) _))))) in
+    record {
+      taken = ap is_taken_if (level_taken (leaf 12) _ _ runs (rw ew refl));
+      wanted = ap (asked_at 12 (codes "picture")) runs.walked_to ∙ rw (hc, hw) refl;
+    }
+
+picture_between_wide : (a b c d w : Text) (nc nd nw : ℕ) → IsWord a → IsWord b → IsWord c → IsWord d → IsWord w →
+    is_unsigned_in 0 4294967295 c ≡ true → is_unsigned_in 0 4294967295 d ≡ true →
+    is_unsigned_in 600 4000 w ≡ true → number_in c ≡ Some nc → number_in d ≡ Some nd → number_in w ≡ Some nw →
+    Asks (codes "picture" ∷ a ∷ b ∷ c ∷ d ∷ codes "--width" ∷ w ∷ []) (picture a b (Some nc) (Some nd) (Some nw))
+unfolding clap_on_literals
+picture_between_wide a b c d w nc nd nw wa wb wc wd ww ec ed ew hc hd hw =
+    let runs : Runs (leaf 12) (walk_from nothing_held) (a ∷ b ∷ c ∷ d ∷ codes "--width" ∷ w ∷ [])
+    (end_at (text_row (codes "scenario") a ∷ text_row (codes "history") b ∷
+    text_row (codes "first") c ∷ text_row (codes "last") d ∷ []) (codes "width") w 5) =
+    word_steps (leaf 12) _ _ _ a _ _ wa refl (word_steps (leaf 12) _ _ _ b _ _ wb refl
+    (word_steps (leaf 12) _ _ _ c _ _ wc refl (word_steps (leaf 12) _ _ _ d _ _ wd (rw ec refl)
+    (steps (leaf 12) _ _ (codes "--width") _ _ (rw ed refl) refl
+    (word_steps (leaf 12) _ _ _ w _ _ ww refl (ends (leaf 12) _)))))) in
+    record {
+      taken = ap is_taken_if (level_taken (leaf 12) _ _ runs (rw ew refl));
+      wanted = ap (asked_at 12 (codes "picture")) runs.walked_to ∙ rw (hc, hd, hw) refl;
+    }
+
+picture_plain : (scenario history : Text) (first last width : Option ℕ) → IsWord scenario → IsWord history →
+    IsSpan first last → IsWidth width
+    → Asks (words_of (picture scenario history first last width)) (picture scenario history first last width)
+picture_plain s h None None None ws wh span wide = picture_asks s h ws wh
+picture_plain s h (Some a) None None ws wh span wide =
+    picture_from s h (decimal a) a ws wh (whole_is_word a span) (whole_is_in a span) (whole_reads a span)
+picture_plain s h (Some a) (Some b) None ws wh span wide =
+    picture_between s h (decimal a) (decimal b) a b ws wh (whole_is_word a span.0) (whole_is_word b span.1)
+    (whole_is_in a span.0) (whole_is_in b span.1) (whole_reads a span.0) (whole_reads b span.1)
+picture_plain s h None None (Some w) ws wh span wide =
+    let whole : IsWhole w = below_whole w 4000 wide.1 (omega arith) in
+    picture_wide s h (decimal w) w ws wh (whole_is_word w whole) (written_is_in 600 4000 w wide.0 wide.1 whole)
+    (whole_reads w whole)
+picture_plain s h (Some a) None (Some w) ws wh span wide =
+    let whole : IsWhole w = below_whole w 4000 wide.1 (omega arith) in
+    picture_from_wide s h (decimal a) (decimal w) a w ws wh (whole_is_word a span) (whole_is_word w whole)
+    (whole_is_in a span) (written_is_in 600 4000 w wide.0 wide.1 whole) (whole_reads a span) (whole_reads w whole)
+picture_plain s h (Some a) (Some b) (Some w) ws wh span wide =
+    let whole : IsWhole w = below_whole w 4000 wide.1 (omega arith) in
+    picture_between_wide s h (decimal a) (decimal b) (decimal w) a b w ws wh (whole_is_word a span.0)
+    (whole_is_word b span.1) (whole_is_word w whole) (whole_is_in a span.0) (whole_is_in b span.1)
+    (written_is_in 600 4000 w wide.0 wide.1 whole) (whole_reads a span.0) (whole_reads b span.1) (whole_reads w whole)
+picture_plain s h None (Some b) width ws wh span wide = absurd span
+
+-- ---- plot
+
+plot_asks : (a b c : Text) (nc : ℕ) → IsWord a → IsWord b → IsWord c → is_unsigned_in 0 4294967295 c ≡ true →
+    number_in c ≡ Some nc → Asks (codes "plot" ∷ a ∷ b ∷ c ∷ []) (plot a b nc None)
+unfolding clap_on_literals
+plot_asks a b c nc wa wb wc ec hc =
+    let runs : Runs (leaf 13) (walk_from nothing_held) (a ∷ b ∷ c ∷ [])
+    (end_at (text_row (codes "scenario") a ∷ text_row (codes "history") b ∷ []) (codes "point") c 4) =
+    word_steps (leaf 13) _ _ _ a _ _ wa refl (word_steps (leaf 13) _ _ _ b _ _ wb refl
+    (word_steps (leaf 13) _ _ _ c _ _ wc refl (ends (leaf 13) _))) in
+    record {
+      taken = ap is_taken_if (level_taken (leaf 13) _ _ runs (rw ec refl));
+      wanted = ap (asked_at 13 (codes "plot")) runs.walked_to ∙ rw hc refl;
+    }
+
+plot_wide : (a b c w : Text) (nc nw : ℕ) → IsWord a → IsWord b → IsWord c → IsWord w →
+    is_unsigned_in 0 4294967295 c ≡ true → is_unsigned_in 600 4000 w ≡ true → number_in c ≡ Some nc →
+    number_in w ≡ Some nw → Asks (codes "plot" ∷ a ∷ b ∷ c ∷ codes "--width" ∷ w ∷ []) (plot a b nc (Some nw))
+unfolding clap_on_literals
+plot_wide a b c w nc nw wa wb wc ww ec ew hc hw =
+    let runs : Runs (leaf 13) (walk_from nothing_held) (a ∷ b ∷ c ∷ codes "--width" ∷ w ∷ [])
+    (end_at (text_row (codes "scenario") a ∷ text_row (codes "history") b ∷
+    text_row (codes "point") c ∷ []) (codes "width") w 4) =
+    word_steps (leaf 13) _ _ _ a _ _ wa refl (word_steps (leaf 13) _ _ _ b _ _ wb refl
+    (word_steps (leaf 13) _ _ _ c _ _ wc refl (steps (leaf 13) _ _ (codes "--width") _ _ (rw ec refl) refl
+    (word_steps (leaf 13) _ _ _ w _ _ ww refl (ends (leaf 13) _))))) in
+    record {
+      taken = ap is_taken_if (level_taken (leaf 13) _ _ runs (rw ew refl));
+      wanted = ap (asked_at 13 (codes "plot")) runs.walked_to ∙ rw (hc, hw) refl;
+    }
+
+plot_plain : (scenario history : Text) (point : ℕ) (width : Option ℕ) → IsWord scenario → IsWord history →
+    IsWhole point → IsWidth width
+    → Asks (words_of (plot scenario history point width)) (plot scenario history point width)
+plot_plain s h p None ws wh whole wide =
+    plot_asks s h (decimal p) p ws wh (whole_is_word p whole) (whole_is_in p whole) (whole_reads p whole)
+plot_plain s h p (Some w) ws wh whole wide =
+    let fits : IsWhole w = below_whole w 4000 wide.1 (omega arith) in
+    plot_wide s h (decimal p) (decimal w) p w ws wh (whole_is_word p whole) (whole_is_word w fits) (whole_is_in p whole)
+    (written_is_in 600 4000 w wide.0 wide.1 fits) (whole_reads p whole) (whole_reads w fits)
+
+-- ---- chart
+
+chart_asks : (a b : Text) → IsWord a → IsWord b → Asks (codes "chart" ∷ a ∷ b ∷ []) (chart a b None)
+unfolding clap_on_literals
+chart_asks a b wa wb =
+    let runs : Runs (leaf 14) (walk_from nothing_held) (a ∷ b ∷ [])
+    (end_at (text_row (codes "scenario") a ∷ []) (codes "history") b 3) =
+    word_steps (leaf 14) _ _ _ a _ _ wa refl (word_steps (leaf 14) _ _ _ b _ _ wb refl (ends (leaf 14) _)) in
+    record {
+      taken = ap is_taken_if (level_taken (leaf 14) _ _ runs refl);
+      wanted = ap (asked_at 14 (codes "chart")) runs.walked_to;
+    }
+
+chart_wide : (a b w : Text) (nw : ℕ) → IsWord a → IsWord b → IsWord w → is_unsigned_in 600 4000 w ≡ true →
+    number_in w ≡ Some nw → Asks (codes "chart" ∷ a ∷ b ∷ codes "--width" ∷ w ∷ []) (chart a b (Some nw))
+unfolding clap_on_literals
+chart_wide a b w nw wa wb ww ew hw =
+    let runs : Runs (leaf 14) (walk_from nothing_held) (a ∷ b ∷ codes "--width" ∷ w ∷ [])
+    (end_at (text_row (codes "scenario") a ∷ text_row (codes "history") b ∷ []) (codes "width") w 3) =
+    word_steps (leaf 14) _ _ _ a _ _ wa refl (word_steps (leaf 14) _ _ _ b _ _ wb refl
+    (steps (leaf 14) _ _ (codes "--width") _ _ refl refl
+    (word_steps (leaf 14) _ _ _ w _ _ ww refl (ends (leaf 14) _)))) in
+    record {
+      taken = ap is_taken_if (level_taken (leaf 14) _ _ runs (rw ew refl));
+      wanted = ap (asked_at 14 (codes "chart")) runs.walked_to ∙ rw hw refl;
+    }
+
+chart_plain : (scenario history : Text) (width : Option ℕ) → IsWord scenario → IsWord history → IsWidth width
+    → Asks (words_of (chart scenario history width)) (chart scenario history width)
+chart_plain s h None ws wh wide = chart_asks s h ws wh
+chart_plain s h (Some w) ws wh wide =
+    let fits : IsWhole w = below_whole w 4000 wide.1 (omega arith) in
+    chart_wide s h (decimal w) w ws wh (whole_is_word w fits) (written_is_in 600 4000 w wide.0 wide.1 fits)
+    (whole_reads w fits)
+
 -- ---- all
 
 plain : (w : Wanted) → IsPlain w → Asks (words_of w) w
@@ -232,6 +424,12 @@ plain (delays scenario history) h =
     delays_asks scenario history (name_is_word scenario h.0) (name_is_word history h.1)
 plain (page scenario history) h =
     page_asks scenario history (name_is_word scenario h.0) (name_is_word history h.1)
+plain (picture scenario history first last width) h =
+    picture_plain scenario history first last width (name_is_word scenario h.0) (name_is_word history h.1) h.2 h.3
+plain (plot scenario history point width) h =
+    plot_plain scenario history point width (name_is_word scenario h.0) (name_is_word history h.1) h.2 h.3
+plain (chart scenario history width) h =
+    chart_plain scenario history width (name_is_word scenario h.0) (name_is_word history h.1) h.2
 
 pub plain_taken : (w : Wanted) → IsPlain w → is_command (words_of w) ≡ true
 plain_taken w h = (plain w h).taken

@@ -1,4 +1,5 @@
--- The command line as `clap` is to have it: eleven subcommands, each with required words, numbers of a range among them.
+-- The command line as `clap` is to have it: fifteen subcommands, each with required words, numbers of a
+-- range among them; pictures have numbers that may be left out.
 -- It is this project's own. How `clap` reads words for it is the kit's definition (`fault_of`, `subcommand_of`).
 use Rattle.std.specs.Prelude.{◌≡◌, ℕ, true, false, List, [], ◌∷◌, Some, codes}
 use Rattle.clap.specs.Words.{App, Rule, Shape, Text, app_of, new_rule}
@@ -18,6 +19,14 @@ number_rule id low high = record (text_rule id) { parser = Some (vp.Unsigned low
 -- the same behind `--id`
 abbrev pub option_rule : Text → ℕ → ℕ → Rule
 option_rule id low high = record (number_rule id low high) { long = Some id }
+
+-- a number in a range that may be left out
+abbrev pub free_rule : Text → ℕ → ℕ → Rule
+free_rule id low high = record (new_rule id) { parser = Some (vp.Unsigned low high) }
+
+-- how many pixels wide a picture is, behind `--width`
+abbrev pub width_rule : Rule
+width_rule = record (free_rule (codes "width") 600 4000) { long = Some (codes "width") }
 
 -- a required number that only has to fit 32 bits
 abbrev pub whole_rule : Text → Rule
@@ -69,6 +78,19 @@ delays_shape = command (codes "delays") (text_rule (codes "scenario") ∷ text_r
 abbrev pub page_shape : Shape
 page_shape = command (codes "page") (text_rule (codes "scenario") ∷ text_rule (codes "history") ∷ [])
 
+-- (the range's ends: which stamps are shown)
+abbrev pub picture_shape : Shape
+picture_shape = command (codes "picture") (text_rule (codes "scenario") ∷ text_rule (codes "history")
+    ∷ free_rule (codes "first") 0 4294967295 ∷ free_rule (codes "last") 0 4294967295 ∷ width_rule ∷ [])
+
+abbrev pub plot_shape : Shape
+plot_shape = command (codes "plot") (text_rule (codes "scenario") ∷ text_rule (codes "history")
+    ∷ whole_rule (codes "point") ∷ width_rule ∷ [])
+
+abbrev pub chart_shape : Shape
+chart_shape =
+    command (codes "chart") (text_rule (codes "scenario") ∷ text_rule (codes "history") ∷ width_rule ∷ [])
+
 -- the words begin with the subcommand, and one is required
 abbrev pub top_shape : Shape
 top_shape = record (new_shape (codes "spire")) {
@@ -81,7 +103,7 @@ abbrev pub spire_app : App
 spire_app = record {
   top = top_shape;
   subs = play_shape ∷ run_shape ∷ replay_shape ∷ make_shape ∷ keys_shape ∷ verify_shape ∷ parts_shape ∷ rebuild_shape
-      ∷ blame_shape ∷ trend_shape ∷ delays_shape ∷ page_shape ∷ [];
+      ∷ blame_shape ∷ trend_shape ∷ delays_shape ∷ page_shape ∷ picture_shape ∷ plot_shape ∷ chart_shape ∷ [];
 }
 
 -- the command has this shape, no subcommand and no global argument

@@ -1,5 +1,5 @@
 -- What the words of a command line ask for.
-use Rattle.std.specs.Prelude.{◌≢◌, ◌≤◌, ℕ, Bool, List, [], ◌∷◌, Option, None, Some, codes}
+use Rattle.std.specs.Prelude.{◌≢◌, ◌≤◌, ℕ, Bool, List, [], ◌∷◌, ◌++◌, Option, None, Some, codes}
 use Rattle.std.specs.Prelude.{if◌then◌else◌, option_and_then, decimal}
 use Rattle.std.specs.Str.{bytes_eq}
 use Rattle.std.specs.Str.Parse.{digits_value, without_leading_plus}
@@ -24,6 +24,10 @@ pub data Wanted : Type 0 where
   trend : Text → Text → ℕ → ℕ → ℕ → Wanted
   delays : Text → Text → Wanted
   page : Text → Text → Wanted
+  -- the first and the last stamp, and the width
+  picture : Text → Text → Option ℕ → Option ℕ → Option ℕ → Wanted
+  plot : Text → Text → ℕ → Option ℕ → Wanted
+  chart : Text → Text → Option ℕ → Wanted
 
 abbrev pub wanted : Asked → Wanted
 wanted (asked.Play scenario script words) = play scenario.now script.now words.now
@@ -38,6 +42,9 @@ wanted (asked.Blame scenario history) = blame scenario.now history.now
 wanted (asked.Trend scenario history point first last) = trend scenario.now history.now point first last
 wanted (asked.Delays scenario history) = delays scenario.now history.now
 wanted (asked.Page scenario history) = page scenario.now history.now
+wanted (asked.Picture scenario history first last width) = picture scenario.now history.now first last width
+wanted (asked.Plot scenario history point width) = plot scenario.now history.now point width
+wanted (asked.Chart scenario history width) = chart scenario.now history.now width
 
 -- The words are a command: `clap` refuses them for no cause but want of memory.
 abbrev pub is_command : List Text → Bool
@@ -115,6 +122,21 @@ abbrev pub page_in : List Row → Option Wanted
 page_in rows = with_text (codes "scenario") rows (λ scenario.
     with_text (codes "history") rows (λ history. Some (page scenario history)))
 
+abbrev pub picture_in : List Row → Option Wanted
+picture_in rows = with_text (codes "scenario") rows (λ scenario.
+    with_text (codes "history") rows (λ history. Some (picture scenario history (number_of (codes "first") rows)
+    (number_of (codes "last") rows) (number_of (codes "width") rows))))
+
+abbrev pub plot_in : List Row → Option Wanted
+plot_in rows = with_text (codes "scenario") rows (λ scenario.
+    with_text (codes "history") rows (λ history.
+    with_number (codes "point") rows (λ point.
+    Some (plot scenario history point (number_of (codes "width") rows)))))
+
+abbrev pub chart_in : List Row → Option Wanted
+chart_in rows = with_text (codes "scenario") rows (λ scenario.
+    with_text (codes "history") rows (λ history. Some (chart scenario history (number_of (codes "width") rows))))
+
 abbrev pub command_in : Text → List Row → Option Wanted
 command_in name rows = if bytes_eq name (codes "play") then play_in rows
     else (if bytes_eq name (codes "run") then run_in rows
@@ -127,7 +149,10 @@ command_in name rows = if bytes_eq name (codes "play") then play_in rows
     else (if bytes_eq name (codes "blame") then blame_in rows
     else (if bytes_eq name (codes "trend") then trend_in rows
     else (if bytes_eq name (codes "delays") then delays_in rows
-    else (if bytes_eq name (codes "page") then page_in rows else None)))))))))))
+    else (if bytes_eq name (codes "page") then page_in rows
+    else (if bytes_eq name (codes "picture") then picture_in rows
+    else (if bytes_eq name (codes "plot") then plot_in rows
+    else (if bytes_eq name (codes "chart") then chart_in rows else None))))))))))))))
 
 -- the command that `clap` found, by its name and its rows
 abbrev pub asked_in : Option (Text × List Row) → Option Wanted
@@ -139,6 +164,14 @@ wanted_in words = asked_in (subcommand_of spire_app words)
 
 -- ---- A command as a user writes it: its name and its values in order, numbers in digits without sign or leading
 -- zeros.
+
+abbrev pub number_words : Option ℕ → List Text
+number_words None = []
+number_words (Some n) = decimal n ∷ []
+
+abbrev pub width_words : Option ℕ → List Text
+width_words None = []
+width_words (Some n) = codes "--width" ∷ decimal n ∷ []
 
 abbrev pub words_of : Wanted → List Text
 words_of (play scenario script words) = codes "play" ∷ scenario ∷ script ∷ words ∷ []
@@ -156,6 +189,10 @@ words_of (trend scenario history point first last) =
     codes "trend" ∷ scenario ∷ history ∷ decimal point ∷ decimal first ∷ decimal last ∷ []
 words_of (delays scenario history) = codes "delays" ∷ scenario ∷ history ∷ []
 words_of (page scenario history) = codes "page" ∷ scenario ∷ history ∷ []
+words_of (picture scenario history first last width) =
+    codes "picture" ∷ scenario ∷ history ∷ (number_words first ++ (number_words last ++ width_words width))
+words_of (plot scenario history point width) = codes "plot" ∷ scenario ∷ history ∷ decimal point ∷ width_words width
+words_of (chart scenario history width) = codes "chart" ∷ scenario ∷ history ∷ width_words width
 
 -- a name isn't empty and doesn't begin with a hyphen, whose number is 45
 abbrev pub IsName : Text → Type 0
@@ -164,6 +201,17 @@ IsName (x ∷ xs) = x ≢ 45
 
 abbrev pub IsWhole : ℕ → Type 0
 IsWhole number = number ≤ 4294967295
+
+-- the first of two numbers may stand alone
+abbrev pub IsSpan : Option ℕ → Option ℕ → Type 0
+IsSpan None None = Unit {0}
+IsSpan None (Some last) = ⊥
+IsSpan (Some first) None = IsWhole first
+IsSpan (Some first) (Some last) = IsWhole first × IsWhole last
+
+abbrev pub IsWidth : Option ℕ → Type 0
+IsWidth None = Unit {0}
+IsWidth (Some width) = (600 ≤ width) × (width ≤ 4000)
 
 -- each name is one, and each number is in its range
 abbrev pub IsPlain : Wanted → Type 0
@@ -182,3 +230,7 @@ IsPlain (trend scenario history point first last) =
     IsName scenario × IsName history × IsWhole point × IsWhole first × IsWhole last
 IsPlain (delays scenario history) = IsName scenario × IsName history
 IsPlain (page scenario history) = IsName scenario × IsName history
+IsPlain (picture scenario history first last width) =
+    IsName scenario × IsName history × IsSpan first last × IsWidth width
+IsPlain (plot scenario history point width) = IsName scenario × IsName history × IsWhole point × IsWidth width
+IsPlain (chart scenario history width) = IsName scenario × IsName history × IsWidth width

@@ -4,6 +4,7 @@ ghost use Rattle.clap.specs.Words.{first_of, found_of, rows_of, subcommand_rows_
 ghost use Rattle.command_words.specs.Wanted.{asked_in, number_of, wanted};
 ghost use Rattle.command_words.specs.Wanted.{play_in, run_in, replay_in, make_in, keys_in};
 ghost use Rattle.command_words.specs.Wanted.{verify_in, parts_in, rebuild_in, blame_in, trend_in, delays_in, page_in};
+ghost use Rattle.command_words.specs.Wanted.{picture_in, plot_in, chart_in};
 
 use clap::ArgMatches;
 
@@ -77,6 +78,27 @@ pub enum Asked<'a> {
     Page {
         scenario: &'a str,
         history: &'a str,
+    },
+    /// Draw the entries of a history, from one stamp to another where these are told, so many pixels wide where that is.
+    Picture {
+        scenario: &'a str,
+        history: &'a str,
+        first: Option<u32>,
+        last: Option<u32>,
+        width: Option<u32>,
+    },
+    /// Draw a point over the executions.
+    Plot {
+        scenario: &'a str,
+        history: &'a str,
+        point: u32,
+        width: Option<u32>,
+    },
+    /// Draw how long updates took.
+    Chart {
+        scenario: &'a str,
+        history: &'a str,
+        width: Option<u32>,
     },
 }
 
@@ -208,6 +230,39 @@ fn page<'a>(found: &ArgMatches<'a>) -> Option<Asked<'a>>
     })
 }
 
+fn picture<'a>(found: &ArgMatches<'a>) -> Option<Asked<'a>>
+    ensures { option_map wanted result ≡ picture_in (rows_of (found_of found.now)) }
+{
+    Some(Asked::Picture {
+        scenario: text(found, "scenario")?,
+        history: text(found, "history")?,
+        first: number(found, "first"),
+        last: number(found, "last"),
+        width: number(found, "width"),
+    })
+}
+
+fn plot<'a>(found: &ArgMatches<'a>) -> Option<Asked<'a>>
+    ensures { option_map wanted result ≡ plot_in (rows_of (found_of found.now)) }
+{
+    Some(Asked::Plot {
+        scenario: text(found, "scenario")?,
+        history: text(found, "history")?,
+        point: number(found, "point")?,
+        width: number(found, "width"),
+    })
+}
+
+fn chart<'a>(found: &ArgMatches<'a>) -> Option<Asked<'a>>
+    ensures { option_map wanted result ≡ chart_in (rows_of (found_of found.now)) }
+{
+    Some(Asked::Chart {
+        scenario: text(found, "scenario")?,
+        history: text(found, "history")?,
+        width: number(found, "width"),
+    })
+}
+
 /// The command that `clap` found, with its values.
 pub fn asked_of<'a>(matches: &ArgMatches<'a>) -> Option<Asked<'a>>
     ensures { option_map wanted result ≡ asked_in (subcommand_rows_of matches.now) }
@@ -226,6 +281,9 @@ pub fn asked_of<'a>(matches: &ArgMatches<'a>) -> Option<Asked<'a>>
         "trend" => trend(found),
         "delays" => delays(found),
         "page" => page(found),
+        "picture" => picture(found),
+        "plot" => plot(found),
+        "chart" => chart(found),
         _ => None,
     }
 }

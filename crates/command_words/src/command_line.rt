@@ -1,9 +1,10 @@
 //! The command line as `clap` has it.
 ghost use Rattle.std.specs.Prelude.{◌≡◌, ◌∷◌, [], IfOk, codes, false, true};
 ghost use Rattle.clap.specs.Words.{App, Shape, app_of, rule_of, with_subcommand};
-ghost use Rattle.command_words.specs.CommandLine.{IsCommand, command, number_rule, option_rule, spire_app, text_rule, top_shape};
+ghost use Rattle.command_words.specs.CommandLine.{IsCommand, command, free_rule, number_rule, option_rule, spire_app, text_rule, top_shape, width_rule};
 ghost use Rattle.command_words.specs.CommandLine.{play_shape, run_shape, replay_shape, make_shape, keys_shape};
 ghost use Rattle.command_words.specs.CommandLine.{verify_shape, parts_shape, rebuild_shape, blame_shape, trend_shape, delays_shape, page_shape};
+ghost use Rattle.command_words.specs.CommandLine.{picture_shape, plot_shape, chart_shape};
 
 use clap::builder::ValueParser;
 use clap::{Arg, Command};
@@ -14,6 +15,11 @@ pub const MOST_HANDS: u64 = 4;
 
 /// How many turns each actor of `run` has at most.
 pub const MOST_TURNS: u64 = 4000;
+
+/// How many pixels wide a picture is at least, and at most.
+pub const LEAST_WIDTH: u64 = 600;
+
+pub const MOST_WIDTH: u64 = 4000;
 
 /// The greatest number of a word that only has to fit 32 bits.
 pub const MOST_NUMBER: u64 = 4294967295;
@@ -40,6 +46,22 @@ fn option<'a>(alloc: Global, id: &'a str, low: u64, high: u64) -> Arg<'a>
     ensures local { result.global ≡ false }
 {
     number(alloc, id, low, high).long(id)
+}
+
+// A number in a range, which may be left out.
+fn free<'a>(alloc: Global, id: &'a str, low: u64, high: u64) -> Arg<'a>
+    ensures rule { rule_of result ≡ free_rule id.entry.now low high }
+    ensures local { result.global ≡ false }
+{
+    Arg::new(alloc, id).value_parser(ValueParser::unsigned(low, high))
+}
+
+// How wide a picture is, behind `--width`, which may be left out.
+fn width<'a>(alloc: Global) -> Arg<'a>
+    ensures rule { rule_of result ≡ width_rule }
+    ensures local { result.global ≡ false }
+{
+    free(alloc, "width", LEAST_WIDTH, MOST_WIDTH).long("width")
 }
 
 fn over_a_history<'a>(alloc: Global, name: &'a str) -> Result<Command<'a>, AllocError>
@@ -143,6 +165,29 @@ fn page<'a>(alloc: Global) -> Result<Command<'a>, AllocError>
     over_a_history(alloc, "page")
 }
 
+fn picture<'a>(alloc: Global) -> Result<Command<'a>, AllocError>
+    ensures { IfOk result (IsCommand picture_shape) }
+{
+    over_a_history(alloc, "picture")?
+        .arg(free(alloc, "first", 0, MOST_NUMBER))?
+        .arg(free(alloc, "last", 0, MOST_NUMBER))?
+        .arg(width(alloc))
+}
+
+fn plot<'a>(alloc: Global) -> Result<Command<'a>, AllocError>
+    ensures { IfOk result (IsCommand plot_shape) }
+{
+    over_a_history(alloc, "plot")?
+        .arg(number(alloc, "point", 0, MOST_NUMBER))?
+        .arg(width(alloc))
+}
+
+fn chart<'a>(alloc: Global) -> Result<Command<'a>, AllocError>
+    ensures { IfOk result (IsCommand chart_shape) }
+{
+    over_a_history(alloc, "chart")?.arg(width(alloc))
+}
+
 // Lets go of a value. Where a function does so by itself, its proof goes through all that a command holds.
 fn let_go<T: Drop>(_value: T) {}
 
@@ -201,5 +246,8 @@ pub fn command_line<'a>(alloc: Global) -> Result<Command<'a>, AllocError>
     let commands = joined(commands, blame(alloc));
     let commands = joined(commands, trend(alloc));
     let commands = joined(commands, delays(alloc));
-    joined(commands, page(alloc))
+    let commands = joined(commands, page(alloc));
+    let commands = joined(commands, picture(alloc));
+    let commands = joined(commands, plot(alloc));
+    joined(commands, chart(alloc))
 }

@@ -70,7 +70,11 @@ legal_after w seen (e ∷ rest) legal all =
     subst (IsLegal w) (append_assoc seen (e ∷ []) rest)
     (legal_after w (seen ++ e ∷ []) rest (one_more_is_legal w seen e legal all.0) all.1)
 
+-- A history is legal whose entries may come and say what the rules make their actors say.
+pub legal_by_says : (w : Setup) (history : List Entry) → each_may_come w [] history ≡ true →
+    EachSays w [] history → IsLegal w history
+legal_by_says w history may said = legal_after w [] history (none_is_legal w) (each_legal w [] history may said)
+
 pub legal_history : (w : Setup) (history : List Entry) → each_may_come w [] history ≡ true →
     each_says w history ≡ true → IsLegal w history
-legal_history w history may said = legal_after w [] history (none_is_legal w)
-    (each_legal w [] history may (says_by_minds w history said))
+legal_history w history may said = legal_by_says w history may (says_by_minds w history said)

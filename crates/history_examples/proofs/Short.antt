@@ -48,12 +48,12 @@ enough f start (suc count) zero none = all_none f start (suc count) (λ k h. non
 enough {X} f start (suc count) (suc m) none =
     ap (λ (ys : List X). f start ++ ys) (enough f (suc start) count m (λ k h. none k (omega arith)))
 
-same_each : {X Y : Type 0} (f g : X → List Y) (xs : List X) → ((x : X) → f x ≡ g x) → flat_map f xs ≡ flat_map g xs
+pub same_each : {X Y : Type 0} (f g : X → List Y) (xs : List X) → ((x : X) → f x ≡ g x) → flat_map f xs ≡ flat_map g xs
 same_each f g [] same = refl
 same_each f g (x ∷ xs) same = λ i. same x i ++ same_each f g xs same i
 
 -- the numbers that a word names: of a request, of a question for an update, of one for an order; 0 where it is none
-abbrev requested : Signed Body → ℕ
+abbrev pub requested : Signed Body → ℕ
 requested f = elim f.body [ body.PoRequest b ↦ b.k | _ ↦ 0 ]
 
 abbrev update_asked : Signed Body → ℕ
@@ -63,7 +63,7 @@ abbrev order_asked : Signed Body → ℕ
 order_asked f = elim f.body [ body.AskOrder b ↦ b.s | _ ↦ 0 ]
 
 -- the greatest number that any of the words names
-abbrev highest : (Signed Body → ℕ) → List (Signed Body) → ℕ
+abbrev pub highest : (Signed Body → ℕ) → List (Signed Body) → ℕ
 highest number known = greatest_of (map number known)
 
 abbrev pub short_acks : Group → List (Signed Body) → List Body → List Body
@@ -90,7 +90,7 @@ not_requested j k signer sig (body.PoRequest r) low =
     (and_right (nat_eq signer j) (nat_eq r.k k) (ne_eqb r.k k (λ is. absurd (omega arith))))
 not_requested j k signer sig _ low = refl
 
-none_requested : (known : List (Signed Body)) (j k : ℕ) → highest requested known < k → updates_requested known j k ≡ []
+pub none_requested : (known : List (Signed Body)) (j k : ℕ) → highest requested known < k → updates_requested known j k ≡ []
 none_requested [] j k low = refl
 none_requested (f ∷ known) j k low =
     let first : update_requested j k f ≡ None = not_requested j k f.signer f.sig f.body (omega arith) in

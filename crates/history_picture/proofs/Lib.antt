@@ -1,2 +1,5 @@
-mod DrawnInTurn
-mod PlottedInTurn
+mod Joined
+mod Turned
+mod Marked
+mod Furthest
+mod Asking

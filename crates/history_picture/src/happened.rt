@@ -1,76 +1,135 @@
 //! What happened at each entry of a history: it is acted once more, and each actor is looked at before and after.
-ghost use Rattle.std.specs.Prelude.{◌≡◌, ◌<◌, ◌^◌, length, IfOk};
+ghost use Rattle.std.specs.Prelude.{◌≡◌, ◌<◌, ◌^◌, ◌++◌, ◌∷◌, [], length, map, true, false, nat_lt, IfOk, OnOk};
+ghost use Rattle.std.specs.List.{list_all};
 ghost use Rattle.scenario_file.specs.Reading.{contents};
 ghost use Rattle.scenario_file.specs.Valid.{IsScenario};
-ghost use Rattle.history_rules.specs.Legal.{IsLegal};
+ghost use Rattle.history_rules.specs.Legal.{IsLegal, TakesWell};
+ghost use Rattle.world_entries.specs.Entries.{event_of, entry_of};
 ghost use Rattle.world_rules.specs.Scenarios.{setup_of};
+ghost use Rattle.world_history.specs.State.{setup_in, with_entry};
+ghost use Rattle.history_picture.specs.Marks.{came, lane_of, lanes_in, last_stamp, mark_at, mark_by, marks_in, role_in, said_at, what_of};
 
-use crate::lanes::lanes_of;
-use crate::picture::{Mark, Picture, What};
-use checked_frames::Checked;
-use plain_lists::{Copied, Same, Want};
+use crate::picture::{Lane, Mark, Role, What};
+use plain_lists::{Copied, Want};
 use run_lines::kind_of;
 use scenario_file::Scenario;
 use std::alloc::Global;
 use world_entries::{Entry, Event, History};
-use world_history::{Bench, all_benches};
+use world_history::{Bench, all_benches, is_halted};
+
+/// A lane for each actor in the order of their numbers, and a mark for each entry in order.
+pub struct Happened {
+    pub lanes: Vec<Lane>,
+    pub marks: Vec<Mark>,
+}
+
+// Taken apart here once, so that no function proves it again.
+impl Drop for Happened {
+    fn drop(self) {
+        let Happened { lanes: _, marks: _ } = self;
+    }
+}
 
 /// What happened in a legal history, and to whom.
-pub fn picture_of(alloc: Global, scenario: &Scenario, history: &History) -> Result<Picture, Want>
+pub(crate) fn happened_in(
+    alloc: Global,
+    scenario: &Scenario,
+    history: &History,
+) -> Result<Happened, Want>
     requires valid { IsScenario (contents scenario.now) }
     requires legal { IsLegal (setup_of (contents scenario.now)) history.now }
     requires short { length history.now < 2 ^ 32 }
-    ensures { IfOk result (λ picture. length picture.marks.items ≡ length history.now) }
+    ensures lanes { IfOk result (λ happened. happened.lanes.items ≡ lanes_in (contents scenario.now) history.now) }
+    ensures marks { IfOk result (λ happened. happened.marks.items ≡ marks_in (contents scenario.now) history.now) }
 {
     let mut benches = all_benches(alloc, scenario)?;
     let mut marks = Vec::new(alloc);
     let entries = history.entries();
     for entry in entries {
-        let event = entry.event.copy()?;
-        let what = what_of(entries, &event);
-        let bench = &mut benches[entry.actor as usize];
-        let before = Came::so_far(bench);
-        bench.act(entry.stamp, event)?;
-        marks.push(mark_of(entry, what, before, Came::so_far(bench)))?;
+        let role = role_of(scenario, entry.actor);
+        push_mark(&mut marks, role, &mut benches[entry.actor as usize], entry)?;
     }
-    let lanes = lanes_of(alloc, scenario, &benches)?;
-    Ok(Picture { lanes, marks })
+    let lanes = lanes_of(alloc, scenario, benches.as_slice())?;
+    Ok(Happened { lanes, marks })
 }
 
-/// How far an actor came.
+/// How many updates an actor executed, how many values it wrote and notices it showed, and its view.
 #[derive(Clone, Copy)]
-struct Came {
-    executed: u64,
-    written: u64,
-    shown: u64,
-    view: u64,
+pub struct Came {
+    pub executed: u64,
+    pub written: u64,
+    pub shown: u64,
+    pub view: u64,
 }
 
-impl Came {
-    fn so_far(bench: &Bench) -> Came {
-        Came {
-            executed: bench.executions().len() as u64,
-            written: bench.writes().len() as u64,
-            shown: bench.board().len() as u64,
-            view: bench.view(),
-        }
+/// How far the actor of a bench came.
+fn far(bench: &Bench) -> Came
+    requires { bench.now.is_spent ≡ false }
+    ensures { result ≡ came bench.now }
+{
+    Came {
+        executed: bench.executions().len() as u64,
+        written: bench.writes().len() as u64,
+        shown: bench.board().len() as u64,
+        view: bench.view(),
     }
 }
 
-fn mark_of(entry: &Entry, what: What, before: Came, after: Came) -> Mark {
+/// Has a bench do an entry of its actor, and appends the mark of that entry.
+fn push_mark(
+    marks: &mut Vec<Mark>,
+    role: Role,
+    bench: &mut Bench,
+    entry: &Entry,
+) -> Result<(), Want>
+    requires fits { (setup_in bench.old).fits bench.old.actor (event_of entry.now.event) ≡ true }
+    requires later { list_all (λ e. nat_lt e.stamp entry.now.stamp) bench.old.list ≡ true }
+    requires taken { TakesWell (setup_in bench.old) entry.now.stamp (event_of entry.now.event) }
+    requires short { length bench.old.list < 2 ^ 32 }
+    requires works { bench.old.is_spent ≡ false }
+    ensures bench { OnOk result (bench.new ≡ with_entry bench.old entry.now.stamp (event_of entry.now.event)) }
+    ensures marks { OnOk result (marks.new.items ≡ marks.old.items ++ mark_at role bench.old bench.new (entry_of entry.now) ∷ []) }
+{
+    let since = last_stamp(bench.list());
+    let before = far(bench);
+    let event = entry.event.copy()?;
+    bench.act(entry.stamp, event)?;
+    marks.push(mark_by(entry, role, since, before, far(bench)))?;
+    Ok(())
+}
+
+/// The mark of an entry, by how far its actor came before it and after it.
+fn mark_by(entry: &Entry, role: Role, since: Option<u64>, before: Came, after: Came) -> Mark
+    ensures { result ≡ mark_by role since before after (entry_of entry.now) }
+{
     Mark {
         stamp: entry.stamp,
         actor: entry.actor,
-        what,
+        role,
+        since,
+        what: what_of(&entry.event),
         said: entry.said.len() as u64,
         executed: after.executed.saturating_sub(before.executed),
         written: after.written.saturating_sub(before.written),
         shown: after.shown.saturating_sub(before.shown),
+        was: before.view,
         view: after.view,
     }
 }
 
-fn what_of(entries: &[Entry], event: &Event) -> What {
+/// The stamp of the last of an actor's entries.
+fn last_stamp(list: &[Entry]) -> Option<u64>
+    ensures { result ≡ last_stamp (map entry_of list.now) }
+{
+    match list.last() {
+        Some(entry) => Some(entry.stamp),
+        None => None,
+    }
+}
+
+fn what_of(event: &Event) -> What
+    ensures { result ≡ what_of (event_of event.now) }
+{
     match event {
         Event::Took {
             stamp,
@@ -78,11 +137,8 @@ fn what_of(entries: &[Entry], event: &Event) -> What {
             frame,
         } => What::Took {
             kind: kind_of(&frame.frame().body),
-            said_at: if was_said(entries, *stamp, *place, frame) {
-                Some(*stamp)
-            } else {
-                None
-            },
+            by: frame.frame().signer,
+            said_at: said_at(*stamp, *place),
         },
         Event::Tick => What::Tick,
         Event::Command { op: _ } => What::Command,
@@ -98,19 +154,47 @@ fn what_of(entries: &[Entry], event: &Event) -> What {
     }
 }
 
-/// Whether the frame's signer said its body at this stamp and place. What a cry said isn't looked at but for its actor.
-fn was_said(entries: &[Entry], stamp: u64, place: u32, frame: &Checked) -> bool {
-    let Some(entry) = entries.get(stamp as usize) else {
-        return false;
-    };
-    if entry.actor != frame.frame().signer {
-        return false;
+/// Where a frame was said. One that a printed run tells by its bytes, which nobody said, has a place that no body has.
+fn said_at(stamp: u64, place: u32) -> Option<u64>
+    ensures { result ≡ said_at stamp place }
+{
+    if place == u32::MAX { None } else { Some(stamp) }
+}
+
+/// What an actor is.
+fn role_of(scenario: &Scenario, actor: u32) -> Role
+    requires { IsScenario (contents scenario.now) }
+    ensures { result ≡ role_in (contents scenario.now) actor }
+{
+    if actor >= scenario.cast().masters {
+        Role::Client
+    } else if scenario.intruded.has(actor) {
+        Role::Intruded
+    } else {
+        Role::Master
     }
-    match &entry.event {
-        Event::Cry { bytes: _ } => place == 0,
-        _ => match entry.said.get(place as usize) {
-            Some(body) => body.is_same(&frame.frame().body),
-            None => false,
-        },
+}
+
+/// One lane for each bench's actor, in their order.
+fn lanes_of(alloc: Global, scenario: &Scenario, benches: &[Bench]) -> Result<Vec<Lane>, Want>
+    requires { IsScenario (contents scenario.now) }
+    ensures { IfOk result (λ lanes. lanes.items ≡ map (lane_of (contents scenario.now)) benches.now) }
+{
+    let mut lanes = Vec::new(alloc);
+    for bench in benches {
+        lanes.push(lane_of(scenario, bench))?;
+    }
+    Ok(lanes)
+}
+
+fn lane_of(scenario: &Scenario, bench: &Bench) -> Lane
+    requires { IsScenario (contents scenario.now) }
+    ensures { result ≡ lane_of (contents scenario.now) bench.now }
+{
+    let actor = bench.actor();
+    Lane {
+        actor,
+        role: role_of(scenario, actor),
+        is_halted: is_halted(scenario, actor, bench.list()),
     }
 }

@@ -1,16 +1,27 @@
 //! What a picture of a history shows, before it is drawn.
 ghost use Rattle.std.specs.Prelude.{◌≡◌};
-ghost use Rattle.history_picture.specs.Drawing.{has};
+ghost use Rattle.history_picture.specs.Drawing.{has, is_master};
 
 use script_grammar::Kind;
 
 /// What an actor is.
-#[derive(Clone, Copy, PartialEq, Eq)]
+#[derive(Clone, Copy)]
 pub enum Role {
     Master,
     Intruded,
-    Proxy,
-    Screen,
+    Client,
+}
+
+impl Role {
+    /// Whether it is a correct master.
+    pub(crate) fn is_master(self) -> bool
+        ensures { result ≡ is_master self }
+    {
+        match self {
+            Role::Master => true,
+            Role::Intruded | Role::Client => false,
+        }
+    }
 }
 
 /// The lane of an actor.
@@ -25,8 +36,12 @@ pub struct Lane {
 /// What came to an actor at an entry.
 #[derive(Clone, Copy)]
 pub enum What {
-    /// A frame of this kind, which was said at that stamp; None where nobody said it there.
-    Took { kind: Kind, said_at: Option<u64> },
+    /// A frame of this kind and signer, which was said at that stamp; None where nobody said it.
+    Took {
+        kind: Kind,
+        by: u32,
+        said_at: Option<u64>,
+    },
     Tick,
     Command,
     Field,
@@ -41,6 +56,9 @@ pub enum What {
 pub struct Mark {
     pub stamp: u64,
     pub actor: u32,
+    pub role: Role,
+    /// The stamp of the actor's entry before.
+    pub since: Option<u64>,
     pub what: What,
     /// How many words were said there, how many updates a master executed, how many values a proxy wrote, and how many
     /// notices a screen showed.
@@ -48,21 +66,9 @@ pub struct Mark {
     pub executed: u64,
     pub written: u64,
     pub shown: u64,
-    /// A master's view after the entry.
+    /// A correct master's view before the entry, and after it.
+    pub was: u64,
     pub view: u64,
-}
-
-/// A whole history: one lane for each actor in the order of their numbers, and one mark for each entry in order.
-pub struct Picture {
-    pub lanes: Vec<Lane>,
-    pub marks: Vec<Mark>,
-}
-
-// Taken apart here once, so that no function proves it again.
-impl Drop for Picture {
-    fn drop(self) {
-        let Picture { lanes: _, marks: _ } = self;
-    }
 }
 
 /// The entries from one stamp to another, both of them among these.
@@ -74,7 +80,7 @@ pub struct Range {
 
 impl Range {
     /// Whether a stamp is among these.
-    pub fn has(self, stamp: u64) -> bool
+    pub(crate) fn has(self, stamp: u64) -> bool
         ensures { result ≡ has self stamp }
     {
         self.first <= stamp && stamp <= self.last

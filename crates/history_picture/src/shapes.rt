@@ -1,51 +1,32 @@
-//! Where things stand, and the shapes that SVG has. Lengths are in pixels.
-ghost use Rattle.std.specs.Prelude.{◌≡◌, ◌++◌, OnOk, codes, string_bytes};
-ghost use Rattle.history_picture.specs.Shapes.{across, down, box_text, dot_text, line_text, number_text, ring_text, words_text};
+//! The shapes that SVG has. Lengths are in pixels.
+ghost use Rattle.std.specs.Prelude.{◌≡◌, ◌++◌, OnOk, string_bytes};
+ghost use Rattle.history_picture.specs.Shapes.{box_text, closing_text, dashes_text, dot_text, head_text, line_text, number_text, ring_text, size_text};
 
 use plain_lists::Want;
 
-/// The room left of the first entry, and above the first lane.
-pub(crate) const LEFT: u64 = 70;
-
-pub(crate) const TOP: u64 = 40;
-/// From one entry to the next, and from one lane to the next.
-const STEP: u64 = 14;
-
-const LANE: u64 = 46;
-/// Half the height of a lane's band.
-pub(crate) const HALF: u64 = 20;
-
-/// Where a stamp stands behind another. What is too far for a number stands at the greatest one.
-#[tactic(auto, unfolding(crate::specs::Shapes::across))]
-pub(crate) fn across(stamp: u64, first: u64) -> u64
-    ensures { result ≡ across stamp first }
-{
-    stamp
-        .saturating_sub(first)
-        .saturating_mul(STEP)
-        .saturating_add(LEFT)
-}
-
-/// Where the lane of that number stands.
-#[tactic(auto, unfolding(crate::specs::Shapes::down))]
-pub(crate) fn down(lane: u64) -> u64
-    ensures { result ≡ down lane }
-{
-    lane.saturating_mul(LANE).saturating_add(TOP + HALF)
-}
-
 /// Appends what a document begins with.
-pub(crate) fn put_opening(text: &mut String, width: u64, height: u64) -> Result<(), Want> {
+#[tactic(auto, unfolding(crate::specs::Shapes::head_text))]
+pub(crate) fn put_head(text: &mut String, width: u64, height: u64) -> Result<(), Want>
+    ensures { OnOk result (string_bytes text.new ≡ string_bytes text.old ++ head_text width height) }
+{
+    put_size(text, width, height)?;
+    text.push_str("font-family=\"sans-serif\" font-size=\"12\">\n")?;
+    put_box(text, 0, 0, width, height, "#ffffff")
+}
+
+#[tactic(auto, unfolding(crate::specs::Shapes::size_text))]
+fn put_size(text: &mut String, width: u64, height: u64) -> Result<(), Want>
+    ensures { OnOk result (string_bytes text.new ≡ string_bytes text.old ++ size_text width height) }
+{
     write!(
         text,
         "<svg xmlns=\"http://www.w3.org/2000/svg\" width=\"{width}\" height=\"{height}\" viewBox=\"0 0 {width} {height}\" "
     )?;
-    text.push_str("font-family=\"sans-serif\" font-size=\"11\">\n")?;
-    put_box(text, 0, 0, width, height, "#ffffff")
+    Ok(())
 }
 
 pub(crate) fn put_closing(text: &mut String) -> Result<(), Want>
-    ensures { OnOk result (string_bytes text.new ≡ string_bytes text.old ++ codes "</svg>\n") }
+    ensures { OnOk result (string_bytes text.new ≡ string_bytes text.old ++ closing_text) }
 {
     text.push_str("</svg>\n")?;
     Ok(())
@@ -89,6 +70,25 @@ pub(crate) fn put_line(
     Ok(())
 }
 
+/// Appends a broken line from one place to another.
+#[tactic(auto, unfolding(crate::specs::Shapes::dashes_text))]
+pub(crate) fn put_dashes(
+    text: &mut String,
+    from: (u64, u64),
+    to: (u64, u64),
+    colour: &str,
+) -> Result<(), Want>
+    ensures { OnOk result (string_bytes text.new ≡ string_bytes text.old ++ dashes_text from to colour.now) }
+{
+    let (x1, y1) = from;
+    let (x2, y2) = to;
+    write!(
+        text,
+        "<line x1=\"{x1}\" y1=\"{y1}\" x2=\"{x2}\" y2=\"{y2}\" stroke-dasharray=\"6 4\" stroke=\"{colour}\"/>\n"
+    )?;
+    Ok(())
+}
+
 /// Appends a filled dot.
 #[tactic(auto, unfolding(crate::specs::Shapes::dot_text))]
 pub(crate) fn put_dot(
@@ -121,24 +121,6 @@ pub(crate) fn put_ring(
     write!(
         text,
         "<circle cx=\"{x}\" cy=\"{y}\" r=\"{radius}\" fill=\"#ffffff\" stroke=\"{colour}\" stroke-width=\"2\"/>\n"
-    )?;
-    Ok(())
-}
-
-/// Appends words. They hold no sign that SVG has another use for.
-#[tactic(auto, unfolding(crate::specs::Shapes::words_text))]
-pub(crate) fn put_words(
-    text: &mut String,
-    x: u64,
-    y: u64,
-    colour: &str,
-    words: &str,
-) -> Result<(), Want>
-    ensures { OnOk result (string_bytes text.new ≡ string_bytes text.old ++ words_text x y colour.now words.now) }
-{
-    write!(
-        text,
-        "<text x=\"{x}\" y=\"{y}\" fill=\"{colour}\">{words}</text>\n"
     )?;
     Ok(())
 }

@@ -1,7 +1,8 @@
 //! Families of words, each with a colour of its own.
 ghost use Rattle.std.specs.Prelude.{◌≡◌};
-ghost use Rattle.history_picture.specs.Drawing.{colour_of, family_of};
+ghost use Rattle.history_picture.specs.Drawing.{colour_of, family_of, lane_colour, shade_of};
 
+use crate::picture::Role;
 use script_grammar::Kind;
 
 /// What words are about.
@@ -21,16 +22,6 @@ pub enum Family {
     Lacks,
     Marks,
 }
-
-pub(crate) const FAMILIES: [Family; 7] = [
-    Family::Requests,
-    Family::Order,
-    Family::Vouchers,
-    Family::Views,
-    Family::Measures,
-    Family::Lacks,
-    Family::Marks,
-];
 
 /// What a kind of word is about.
 pub fn family_of(kind: Kind) -> Family
@@ -62,30 +53,29 @@ impl Family {
             Family::Marks => "#008b8b",
         }
     }
-
-    /// Its words, for the legend.
-    pub(crate) fn words(self) -> &'static str {
-        match self {
-            Family::Requests => "update, porequest, poack, posummary",
-            Family::Order => "preprepare, prepare, commit",
-            Family::Vouchers => "voucher",
-            Family::Views => "suspect, report, newview",
-            Family::Measures => "ping, pong, rtt, tatreport, tatbound",
-            Family::Lacks => "askupdate, give, askorder, giveordered",
-            Family::Marks => "mark",
-        }
-    }
 }
 
 /// The colour of what is wrong: intruded masters, and frames that nobody said.
 pub(crate) const WRONG: &str = "#c00020";
 
 /// The band of a view. Four shades are enough to tell neighbours apart.
-pub(crate) fn shade_of(view: u64) -> &'static str {
+pub(crate) fn shade_of(view: u64) -> &'static str
+    ensures { result.now ≡ shade_of view }
+{
     match view % 4 {
-        0 => "#eef4fa",
-        1 => "#fdf3dc",
-        2 => "#eaf6ea",
-        _ => "#f7e9f3",
+        0 => "#e3eefa",
+        1 => "#fdf0d2",
+        2 => "#e2f4e2",
+        _ => "#f7e3f1",
+    }
+}
+
+/// The colour of an actor's lane.
+pub(crate) fn lane_colour(role: Role) -> &'static str
+    ensures { result.now ≡ lane_colour role }
+{
+    match role {
+        Role::Intruded => WRONG,
+        Role::Master | Role::Client => "#404040",
     }
 }

@@ -18,12 +18,12 @@ function table(caption, heads, rows) {
     return element("table", {}, element("caption", {}, caption), element("thead", {}, head), element("tbody", {}, ...body));
 }
 
-// A table that shows its first rows, and all on demand.
-function longTable(caption, heads, rows, most) {
-    if (rows.length <= most) return table(caption, heads, rows);
-    const box = element("div", {}, table(caption, heads, rows.slice(0, most)));
-    box.append(element("button", { type: "button", onclick: () => box.replaceChildren(table(caption, heads, rows)) },
-        `all ${rows.length} rows`));
+// A table that shows the rows of the first items, and of all on demand.
+function longTable(caption, heads, items, most, rowOf) {
+    if (items.length <= most) return table(caption, heads, items.map(rowOf));
+    const box = element("div", {}, table(caption, heads, items.slice(0, most).map(rowOf)));
+    box.append(element("button", { type: "button", onclick: () => box.replaceChildren(table(caption, heads, items.map(rowOf))) },
+        `all ${items.length} rows`));
     return box;
 }
 
@@ -62,6 +62,12 @@ function agreeWords(run) {
     return `The correct masters do not agree: ${one.name} and ${other.name} executed different updates as number ${at}.`;
 }
 
+// What the audit counts, and how many masters may be intruded.
+function auditWords(run) {
+    const { forged, alike, intruded, limit } = run.audit;
+    return `The audit counts ${counted(forged, "forged word", "forged words")}, ${counted(alike, "pair of texts", "pairs of texts")} with one digest, and ${counted(intruded, "intruded master", "intruded masters")}, where ${limit} may be.`;
+}
+
 function castWords(run) {
     const intruded = run.masters.filter((actor) => actor.intruded);
     const halted = run.actors.filter((actor) => actor.halted);
@@ -78,6 +84,7 @@ function showHead(run) {
     box.append(element("h2", {}, "What became of it"),
         element("p", { class: promise.holds ? "holds" : "fails", id: "promise" }, promise.text),
         element("p", { class: run.agree ? "holds" : "fails", id: "agree" }, agreeWords(run)),
+        element("p", { id: "audit" }, auditWords(run)),
         element("p", {}, castWords(run)));
     const row = element("div", { class: "tables" });
     row.append(mastersTable(run), ...clientTables(run));
@@ -90,20 +97,26 @@ function mastersTable(run) {
     return table("Masters", ["master", "is", "in view", "executed"], rows);
 }
 
+// A button to the entry at which an actor did a thing of this number.
+function toDeed(run, actor, what, number) {
+    const stamp = deedAt(run, run.lane.get(actor.name), what, number);
+    return stamp < 0 ? "" : toEntry(stamp);
+}
+
 function clientTables(run) {
     const tables = [];
     for (const { actor, with: all } of run.longest) {
-        const rows = actor.list.map((u, at) => [String(at + 1), u.client, String(u.t), opWords(run, u.op)]);
+        const rows = (u, at) => [String(at + 1), u.client, String(u.t), opWords(run, u.op), toDeed(run, actor, "executes", at + 1)];
         const others = all.length > 1 ? ` (and ${names(all.slice(1))}, as far as they came)` : "";
-        tables.push(longTable(`Executed by ${actor.name}${others}`, ["", "of", "its", "update"], rows, 8));
+        tables.push(longTable(`Executed by ${actor.name}${others}`, ["", "of", "its", "update", "entry"], actor.list, 8, rows));
     }
     for (const actor of run.actors) {
         if (actor.role === "proxy") {
-            const rows = actor.list.map((it, at) => [String(at + 1), pointName(run, it.point), String(it.raw), it.answer]);
-            tables.push(longTable(`Written by ${actor.name}`, ["", "point", "raw", "answer"], rows, 8));
+            const rows = (it, at) => [String(at + 1), pointName(run, it.point), String(it.raw), it.answer, toDeed(run, actor, "writes", at + 1)];
+            tables.push(longTable(`Written by ${actor.name}`, ["", "point", "raw", "answer", "entry"], actor.list, 8, rows));
         } else if (actor.role === "screen") {
-            const rows = actor.list.map((it, at) => [String(at + 1), it.t ? String(it.t) : "", noticeWords(run, it)]);
-            tables.push(longTable(`Shown by ${actor.name}`, ["", "command", "notice"], rows, 8));
+            const rows = (it, at) => [String(at + 1), it.t ? String(it.t) : "", noticeWords(run, it), toDeed(run, actor, "shows", at + 1)];
+            tables.push(longTable(`Shown by ${actor.name}`, ["", "command", "notice", "entry"], actor.list, 8, rows));
         }
     }
     return tables;
@@ -120,6 +133,22 @@ function delayOf(run, from, to) {
     return [String(to - from), String(most)];
 }
 
+function answerNotice(command) {
+    const at = noticeOf(command);
+    return at < 0 ? null : command.actor.list[at];
+}
+
+function commandRow(run, command, at) {
+    const notice = noticeOf(command);
+    const shown = notice < 0 ? -1 : deedAt(run, run.lane.get(command.screen), "shows", notice + 1);
+    const answer = command.t === 0 ? "not said: no key was left" : notice < 0 ? "no notice yet" : noticeWords(run, command.actor.list[notice]);
+    const mark = element("span", { class: notice >= 0 && command.actor.list[notice].what === "done" ? "holds" : "fails" }, answer);
+    const [entries, ticks] = delayOf(run, command.stamp, shown);
+    return [`${command.screen} ${command.t || ""}`, opWords(run, command.op), mark, toEntry(command.stamp),
+        shown < 0 ? "" : toEntry(shown), entries, ticks,
+        element("button", { type: "button", onclick: () => startWalk(at) }, "walk")];
+}
+
 function showCommands(run) {
     const box = document.getElementById("commands");
     box.append(element("h2", {}, "Commands"));
@@ -127,24 +156,53 @@ function showCommands(run) {
         box.append(element("p", {}, "No command was given."));
         return;
     }
-    const rows = run.commands.map((command, at) => {
-        const notice = noticeOf(command);
-        const shown = notice < 0 ? -1 : deedAt(run, run.lane.get(command.screen), "shows", notice + 1);
-        const answer = command.t === 0 ? "not said: no key was left" : notice < 0 ? "no notice yet" : noticeWords(run, command.actor.list[notice]);
-        const mark = element("span", { class: notice >= 0 && command.actor.list[notice].what === "done" ? "holds" : "fails" }, answer);
-        const [entries, ticks] = delayOf(run, command.stamp, shown);
-        return [`${command.screen} ${command.t || ""}`, opWords(run, command.op), mark, toEntry(command.stamp),
-            shown < 0 ? "" : toEntry(shown), entries, ticks,
-            element("button", { type: "button", onclick: () => startWalk(at) }, "walk")];
-    });
-    const denied = run.commands.filter((command) => noticeOf(command) >= 0 && command.actor.list[noticeOf(command)].what === "denied");
+    const denied = run.commands.filter((command) => { const notice = answerNotice(command); return notice && notice.what === "denied"; });
     box.append(element("p", {}, `${counted(run.commands.length, "command", "commands")}, of which ${denied.length === 0 ? "none was" : counted(denied.length, "was", "were")} denied by an interlock. Ticks are the most that one correct master's clock made between.`),
-        longTable("", ["command", "what", "answer", "given at", "shown at", "entries", "ticks", ""], rows, 30));
+        longTable("", ["command", "what", "answer", "given at", "shown at", "entries", "ticks", ""], run.commands, 30, (command, at) => commandRow(run, command, at)));
+    if (denied.length) box.append(longTable("Denied", ["command", "what", "by interlock", "which guards", "alarms raised then", "values then", "execution"], denied, 30, (command) => deniedRow(run, command)));
     if (run.plant.interlocks.length) {
-        const locks = run.plant.interlocks.map((it, at) => [String(at), it.name, pointName(run, it.point),
-            it.value === null ? "any value" : String(it.value)]);
-        box.append(table("Interlocks", ["", "name", "guards", "against"], locks));
+        const locks = run.plant.interlocks.map((it, at) => [String(at), it.name, guardWords(run, it)]);
+        box.append(table("Interlocks", ["", "name", "guards"], locks),
+            element("p", { class: "quiet" }, "An interlock denies a setting while its rule holds, the first one that does. The rule itself is its deny in the scenario."));
     }
+}
+
+function guardWords(run, lock) {
+    return `${pointName(run, lock.point)} against ${lock.value === null ? "any value" : lock.value}`;
+}
+
+// A command that was denied: by which interlock, and how the plant stood where it was executed.
+function deniedRow(run, command) {
+    const lock = run.plant.interlocks[answerNotice(command).number];
+    const list = run.furthest ? run.furthest.list : [];
+    const number = list.findIndex((update) => update.client === command.screen && update.t === command.t) + 1;
+    const raised = run.alarmSpans.filter((span) => span.raised < number && (span.cleared === 0 || span.cleared >= number));
+    return [`${command.screen} ${command.t}`, opWords(run, command.op), lock ? lock.name : "", lock ? guardWords(run, lock) : "",
+        number ? listed(raised.map((span) => alarmName(run, span.alarm))) : "", number ? valuesBefore(run, number, lock) : "",
+        number ? element("span", {}, `${number} at `, toDeed(run, run.furthest, "executes", number)) : ""];
+}
+
+// The values, before an execution, of the points that have alarms, and of the one that an interlock guards.
+function valuesBefore(run, number, lock) {
+    const looked = run.plant.points.flatMap((point, at) => ((lock && lock.point === at) || run.plant.alarms.some((alarm) => alarm.point === at) ? [at] : []));
+    const told = looked.slice(0, 12).map((at) => `${pointName(run, at)} ${valueBefore(run, at, number)}`);
+    return told.join(", ") + (looked.length > 12 ? ", .." : "");
+}
+
+// The value of a point before an execution: its last reading that counts, or the one that it starts with.
+function valueBefore(run, at, number) {
+    const point = run.plant.points[at];
+    for (let before = number - 2; before >= 0; before--) {
+        const update = run.furthest.list[before];
+        if (isReadingOf(point, at, update)) return update.op.printed;
+    }
+    return String(point.start);
+}
+
+// The update is a reading of the point that counts: by its own proxy, and within its bounds.
+function isReadingOf(point, at, update) {
+    const { op } = update;
+    return op.kind === "reading" && op.point === at && update.client === point.proxy && op.value >= point.low && op.value <= point.high;
 }
 
 // What happened to the alarms, over the executions of the correct master that executed most: a reading that counts raises
@@ -156,8 +214,7 @@ function alarmsOf(run) {
     list.forEach((update, at) => {
         if (update.op.kind === "ack" && open.has(update.op.alarm)) open.get(update.op.alarm).acknowledged = at + 1;
         const point = run.plant.points[update.op.point];
-        if (update.op.kind !== "reading" || !point || point.proxy !== update.client) return;
-        if (update.op.value < point.low || update.op.value > point.high) return;
+        if (!point || !isReadingOf(point, update.op.point, update)) return;
         run.plant.alarms.forEach((alarm, number) => {
             if (alarm.point !== update.op.point) return;
             const sign = alarm.kind === "high" ? 1 : -1;
@@ -183,11 +240,11 @@ function showAlarms(run) {
         const stamp = deedAt(run, lane, "executes", number);
         return element("span", {}, `execution ${number}`, stamp < 0 ? "" : " at ", stamp < 0 ? "" : toEntry(stamp));
     };
-    const rows = run.alarmSpans.map((span) => {
+    const rows = (span) => {
         const alarm = run.plant.alarms[span.alarm];
         return [alarm.name, pointName(run, alarm.point), `${alarm.kind === "high" ? "at least" : "at most"} ${alarm.limit}`,
             String(span.value), at(span.raised), at(span.acknowledged), span.cleared ? at(span.cleared) : "still raised"];
-    });
-    box.append(element("h2", {}, "Alarms"), element("p", {}, `${counted(rows.length, "alarm was", "alarms were")} raised, by the executions of ${run.furthest ? run.furthest.name : "nobody"}.`));
-    if (rows.length) box.append(longTable("", ["alarm", "point", "limit", "value", "raised", "acknowledged", "cleared"], rows, 30));
+    };
+    box.append(element("h2", {}, "Alarms"), element("p", {}, `${counted(run.alarmSpans.length, "alarm was", "alarms were")} raised, by the executions of ${run.furthest ? run.furthest.name : "nobody"}.`));
+    if (run.alarmSpans.length) box.append(longTable("", ["alarm", "point", "limit", "value", "raised", "acknowledged", "cleared"], run.alarmSpans, 30, rows));
 }

@@ -5,9 +5,10 @@ const GUTTER = 74;
 const AXIS = 22;
 const WIDEST = 44;
 const SHADES = ["#eef4fa", "#fdf3dc", "#eaf6ea", "#f7e9f3"];
-// So many entries may be in sight for their words to be drawn as lines, and so long may a word be under way to be looked
-// for where neither of its ends is in sight.
-const MOST_LINES = 4000;
+// So many entries and so many words may be in sight for the words to be drawn as lines, and so long may a word be under way to
+// be looked for where neither of its ends is in sight. A browser takes about a tenth of a millisecond to draw a line.
+const MOST_ENTRIES = 4000;
+const MOST_LINES = 1200;
 const FAR = 3000;
 const COMMAND = EVENTS.indexOf("command");
 const CRY = EVENTS.indexOf("cry");
@@ -113,11 +114,13 @@ function drawLanes() {
     pen.beginPath();
     pen.rect(GUTTER, 0, sight.width - GUTTER, sight.height);
     pen.clip();
-    if (page.showsLines && range.to - range.from <= MOST_LINES) drawLines(pen, run, range);
+    const takes = linesIn(run, range);
+    if (takes) drawLines(pen, run, takes);
     const drawn = drawMarks(pen, run, range);
     drawChosen(pen, run);
     pen.restore();
     drawNames(pen, run);
+    if (page.showsLines && !takes) pen.fillText("+ for lines", 8, AXIS / 2);
     drawOverview(run);
     document.body.dataset.marks = String(drawn);
     document.body.dataset.drawn = (performance.now() - began).toFixed(1);
@@ -208,15 +211,21 @@ function takesAcross(run, range) {
     return found;
 }
 
+// The same where words are drawn as lines, else null.
+function linesIn(run, range) {
+    if (!page.showsLines || range.to - range.from > MOST_ENTRIES) return null;
+    const takes = takesAcross(run, range);
+    return takes.length > MOST_LINES ? null : takes;
+}
+
 function matchesWord(stamp) {
     if (page.kinds.size === 0) return true;
     const word = wordTaken(page.run, stamp);
     return word !== null && page.kinds.has(word.kind);
 }
 
-function drawLines(pen, run, range) {
+function drawLines(pen, run, takes) {
     const paths = FAMILIES.map(() => new Path2D());
-    const takes = takesAcross(run, range);
     for (const stamp of takes) {
         const word = wordTaken(run, stamp);
         if (!word) continue;
@@ -419,11 +428,10 @@ function entryNear(x, y) {
 
 // The take of the word whose line is nearest to a place, within 4 pixels, or -1.
 function lineNear(x, y) {
-    const range = inSight();
-    if (!page.showsLines || range.to - range.from > MOST_LINES || x < GUTTER) return -1;
+    if (x < GUTTER) return -1;
     let best = -1;
     let least = 4;
-    for (const stamp of takesAcross(page.run, range)) {
+    for (const stamp of linesIn(page.run, inSight()) || []) {
         const from = page.run.from[stamp];
         const ends = [atX(from), laneY(page.run.actor[from]), atX(stamp), laneY(page.run.actor[stamp])];
         const far = distanceTo(x, y, ...ends);

@@ -385,6 +385,7 @@ function open() {
     showHead(run);
     showCommands(run);
     showAlarms(run);
+    showDelays(run);
     showPoints(run);
     showLegend();
     for (const link of document.querySelectorAll("nav a")) link.hidden = document.querySelector(link.hash).childElementCount === 0;

@@ -1,7 +1,7 @@
 // The points over the executions of the correct master that executed most: readings, settings, the alarms' limits, and
 // when alarms were raised.
 
-const PLOT = { left: 62, right: 12, top: 12, bottom: 30, height: 190 };
+const PLOT = { left: 62, right: 12, top: 20, bottom: 32, height: 204 };
 
 function shape(name, attributes, ...children) {
     const made = document.createElementNS("http://www.w3.org/2000/svg", name);
@@ -10,17 +10,17 @@ function shape(name, attributes, ...children) {
     return made;
 }
 
-// The readings that count and the settings of a point, by the numbers of their executions.
-function seriesOf(run, number) {
-    const point = run.plant.points[number];
-    const series = { readings: [], settings: [] };
+// Of each point the readings that count and the settings, by the numbers of their executions.
+function seriesOfAll(run) {
+    const all = run.plant.points.map(() => ({ readings: [], settings: [] }));
     (run.furthest ? run.furthest.list : []).forEach((update, at) => {
-        if (update.op.point !== number || update.op.kind === "ack") return;
+        const series = update.op.kind === "ack" ? undefined : all[update.op.point];
+        if (!series) return;
         const it = { x: at + 1, value: update.op.value, printed: update.op.printed, update };
         if (update.op.kind === "set") series.settings.push(it);
-        else if (update.client === point.proxy && it.value >= point.low && it.value <= point.high) series.readings.push(it);
+        else if (isReadingOf(run.plant.points[update.op.point], update.op.point, update)) series.readings.push(it);
     });
-    return series;
+    return all;
 }
 
 // From the least to the greatest value that is there, with some room. A setting out of the point's range stands at its edge.
@@ -52,7 +52,7 @@ function answerOf(run, update) {
 
 function plotOf(run, number, width) {
     const point = run.plant.points[number];
-    const series = seriesOf(run, number);
+    const series = run.series[number];
     const alarms = run.plant.alarms.flatMap((alarm, at) => (alarm.point === number ? [{ at, ...alarm }] : []));
     const range = rangeOf(point, series, alarms.map((alarm) => alarm.limit));
     const count = Math.max(1, run.furthest ? run.furthest.list.length : 1);
@@ -60,7 +60,8 @@ function plotOf(run, number, width) {
     const yAt = (value) => PLOT.top + ((range.high - Math.max(range.low, Math.min(range.high, value))) / (range.high - range.low)) * (PLOT.height - PLOT.top - PLOT.bottom);
     const svg = shape("svg", { viewBox: `0 0 ${width} ${PLOT.height}`, width, height: PLOT.height, role: "img", "aria-label": `${point.name} over the executions` });
     drawGrid(svg, range, count, width, xAt, yAt);
-    drawLimits(svg, run, alarms, width, xAt, yAt);
+    drawRaised(svg, run, alarms, xAt);
+    drawLimits(svg, alarms, width, xAt, yAt);
     drawSeries(svg, run, point, series, count, xAt, yAt);
     return svg;
 }
@@ -85,17 +86,37 @@ function drawGrid(svg, range, count, width, xAt, yAt) {
         shape("text", { x: width - PLOT.right, y: PLOT.height - 2, class: "tick right" }, "number of the execution"));
 }
 
-function drawLimits(svg, run, alarms, width, xAt, yAt) {
+// A ground from where an alarm was raised to where it was cleared, with the numbers of these executions where there is room.
+function drawRaised(svg, run, alarms, xAt) {
+    let free = 0;
+    for (const span of run.alarmSpans.filter((it) => alarms.some((alarm) => alarm.at === it.alarm))) {
+        const left = xAt(span.raised);
+        const right = xAt(span.cleared || run.furthest.list.length);
+        const told = `${alarmName(run, span.alarm)}: raised at execution ${span.raised}, ${span.cleared ? `cleared at ${span.cleared}` : "still raised"}`;
+        svg.append(shape("rect", { x: left, y: PLOT.top, width: Math.max(1, right - left), height: PLOT.height - PLOT.top - PLOT.bottom, class: "raised" },
+            shape("title", {}, told)));
+        const words = span.cleared ? `raised ${span.raised} to ${span.cleared}` : `raised ${span.raised} on`;
+        const from = Math.max(PLOT.left, Math.min(left, xAt(run.furthest.list.length) - 7 * words.length));
+        if (from < free) continue;
+        svg.append(shape("text", { x: from, y: PLOT.top - 6, class: "limit" }, words));
+        free = from + 7 * words.length;
+    }
+}
+
+function drawLimits(svg, alarms, width, xAt, yAt) {
     for (const alarm of alarms) {
-        for (const span of run.alarmSpans.filter((it) => it.alarm === alarm.at)) {
-            const right = xAt(span.cleared || run.furthest.list.length);
-            svg.append(shape("rect", { x: xAt(span.raised), y: PLOT.top, width: Math.max(1, right - xAt(span.raised)),
-                height: PLOT.height - PLOT.top - PLOT.bottom, class: "raised" }, shape("title", {}, `${alarm.name} is raised`)));
-        }
         const words = `${alarm.name}: ${alarm.kind === "high" ? "at least" : "at most"} ${alarm.limit}`;
         svg.append(shape("line", { x1: PLOT.left, x2: width - PLOT.right, y1: yAt(alarm.limit), y2: yAt(alarm.limit), class: "limit" }),
             shape("text", { x: PLOT.left + 6, y: yAt(alarm.limit) - 4, class: "limit" }, words));
     }
+}
+
+// A point's place and range. A scenario names no unit, so the range, and how the raw value is read, is what there is to tell.
+function pointWords(point, number) {
+    const scale = point.scale === 1 ? "" : ` x ${point.scale}`;
+    const offset = point.offset === 0 ? "" : ` ${point.offset < 0 ? "-" : "+"} ${Math.abs(point.offset)}`;
+    const raw = scale || offset ? `, raw value${scale}${offset}` : "";
+    return `point ${number}, ${point.area} ${point.place} of ${point.proxy}; ${point.low} to ${point.high}${raw}`;
 }
 
 // A point has its value from one reading to the next.
@@ -118,17 +139,18 @@ function showPoints(run) {
     const box = document.getElementById("points");
     if (run.plant.points.length === 0) return;
     const name = run.furthest ? run.furthest.name : "nobody";
-    box.append(element("h2", {}, "Points"), element("p", {}, `Over the executions of ${name}: a line that keeps each reading until the next, a full square where a value was set, an empty one where that was refused (at the edge where it is out of range), a broken line where an alarm begins, a red ground while it is raised. Values are in the point's own unit.`));
+    box.append(element("h2", {}, "Points"), element("p", {}, `Over the executions of ${name}: a line that keeps each reading until the next, a full square where a value was set, an empty one where that was refused (at the edge where it is out of range), a broken line where an alarm begins, a red ground while it is raised. A scenario names no units, so values stand as they are, and behind a point's name its range.`));
     const grid = element("div", { class: "plots" });
     box.append(grid);
     const told = [];
+    run.series = seriesOfAll(run);
     run.plant.points.forEach((point, number) => {
-        const series = seriesOf(run, number);
+        const series = run.series[number];
         if (series.readings.length === 0 && series.settings.length === 0) {
             told.push(point.name);
             return;
         }
-        const figure = element("figure", {}, element("figcaption", {}, `${point.name} (point ${number}, ${point.area} ${point.place} of ${point.proxy})`));
+        const figure = element("figure", {}, element("figcaption", {}, element("strong", {}, point.name), ` (${pointWords(point, number)})`));
         figure.dataset.point = String(number);
         grid.append(figure);
     });

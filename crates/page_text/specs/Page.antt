@@ -10,6 +10,7 @@ use Rattle.page_text.specs.declared.script.causes.TheConstants.{CAUSES}
 use Rattle.page_text.specs.declared.script.head.TheConstants.{HEAD}
 use Rattle.page_text.specs.declared.script.line.TheConstants.{LINE}
 use Rattle.page_text.specs.declared.script.plots.TheConstants.{PLOTS}
+use Rattle.page_text.specs.declared.script.delays.TheConstants.{DELAYS}
 use Rattle.page_text.specs.declared.script.page.TheConstants.{PAGE}
 
 -- A part that is the same for every run: what stands around the texts, and the script. Only who puts a part looks into it,
@@ -25,6 +26,7 @@ part_text part.Causes = CAUSES.now
 part_text part.Head = HEAD.now
 part_text part.Line = LINE.now
 part_text part.Plots = PLOTS.now
+part_text part.Delays = DELAYS.now
 part_text part.Page = PAGE.now
 part_text part.Behind = BEHIND.now
 
@@ -32,7 +34,7 @@ part_text part.Behind = BEHIND.now
 unfoldable pub script_text : List ℕ
 script_text =
     part_text part.Read ++ part_text part.Words ++ part_text part.Causes ++ part_text part.Head ++ part_text part.Line
-    ++ part_text part.Plots ++ part_text part.Page
+    ++ part_text part.Plots ++ part_text part.Delays ++ part_text part.Page
 
 -- The page holds what the scenario says of the plant, the printed run and its details, each escaped. All else is the same
 -- for every run.

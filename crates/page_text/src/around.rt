@@ -4,7 +4,7 @@ pub(crate) const BEFORE_PLANT: &str = r##"<!DOCTYPE html>
 <html lang="en">
 <head>
 <meta charset="utf-8">
-<meta http-equiv="Content-Security-Policy" content="default-src 'none'; style-src 'sha256-sqjKSoYavpolAQ80ZJMz9bR5qOJtECpolBjWVRdskj0=' 'sha256-kLsIy7kqPHiZY9FeWE9RcRqC6SEfZ77Ab6xF1UoJiPk='; script-src 'sha256-i6BmL1D64iuy6Ef406kX0EI34Qa6TpiG4TPto+7MVPc='">
+<meta http-equiv="Content-Security-Policy" content="default-src 'none'; style-src 'sha256-zQdoNvRL5yIsB0QDcpBCJ++8RsVmPzl2GLnl/E+r1nY=' 'sha256-kLsIy7kqPHiZY9FeWE9RcRqC6SEfZ77Ab6xF1UoJiPk='; script-src 'sha256-N6gyYs/j9yBwCn0zu3BxuGLe0V0i8BwRbFawetCyZhg='">
 <meta name="viewport" content="width=device-width, initial-scale=1">
 <title>A run of spire</title>
 <style>:root { color-scheme: light; }
@@ -25,7 +25,7 @@ p.fails { border-color: #c00020; }
 span.holds { color: #1d6b3c; }
 span.fails { color: #a0001a; }
 .tables { display: flex; flex-wrap: wrap; gap: 16px 32px; align-items: flex-start; margin-top: 10px; }
-table { border-collapse: collapse; font-size: 14px; margin: 6px 0; }
+table { border-collapse: collapse; font-size: 14px; margin: 6px 0 12px; }
 caption { text-align: left; font-weight: bold; padding-bottom: 2px; white-space: nowrap; }
 th { text-align: left; font-weight: normal; color: #606060; }
 th, td { padding: 1px 12px 1px 0; border-bottom: 1px solid #e8e8e8; vertical-align: top; }
@@ -53,9 +53,19 @@ button.part.now { background: #d0a000; color: #000000; font-weight: bold; }
 .sides ul { margin: 0; padding-left: 18px; font-size: 14px; }
 .cause h4 { color: #1c5fd0; }
 .effect h4 { color: #b84e00; }
-.plots { display: grid; grid-template-columns: repeat(auto-fill, minmax(min(100%, 520px), 1fr)); gap: 8px 24px; }
-figure { margin: 0; min-height: 214px; }
-figcaption { font-weight: bold; font-size: 14px; }
+.plots { display: grid; grid-template-columns: repeat(auto-fill, minmax(min(100%, 400px), 1fr)); gap: 8px 24px; }
+figure { margin: 0; min-height: 228px; }
+figcaption { font-size: 14px; }
+#bars { width: 100%; min-height: 252px; }
+#bars svg { display: block; cursor: pointer; }
+#bar_told { min-height: 1.45em; }
+#delays p button { margin-right: 6px; }
+svg path.bar { fill: none; }
+svg path.slowest { stroke: #9dbfe0; }
+svg path.fastest { stroke: #2a6fb0; }
+svg path.missed { stroke: #c00020; }
+svg line.bound { stroke-width: 1.4; }
+svg line.pointed { stroke: #202020; stroke-opacity: 0.35; }
 svg text { font: 12px system-ui, "Liberation Sans", sans-serif; fill: #404040; }
 svg .right { text-anchor: end; }
 svg .middle { text-anchor: middle; }
@@ -76,7 +86,7 @@ svg rect.setting.done { fill: #c97800; }
 <noscript><style>main, nav { display: none } pre { display: block }</style><p>This page draws the run by its script. Without it, the run's text stands below.</p></noscript>
 <header>
 <h1>A run of spire</h1>
-<nav><a href="#what">What became of it</a> <a href="#commands">Commands</a> <a href="#alarms">Alarms</a> <a href="#time">Time line</a> <a href="#points">Points</a></nav>
+<nav><a href="#what">What became of it</a> <a href="#commands">Commands</a> <a href="#alarms">Alarms</a> <a href="#time">Time line</a> <a href="#delays">Delays</a> <a href="#points">Points</a></nav>
 </header>
 <main>
 <section id="what" aria-label="What became of it"></section>
@@ -103,6 +113,7 @@ svg rect.setting.done { fill: #c97800; }
 </details>
 <div id="chosen" aria-live="polite"></div>
 </section>
+<section id="delays" aria-label="Delays"></section>
 <section id="points" aria-label="Points"></section>
 </main>
 <pre id="plant" hidden>

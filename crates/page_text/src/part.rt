@@ -3,7 +3,7 @@ ghost use Rattle.std.specs.Prelude.{◌≡◌, ◌++◌, OnOk};
 ghost use Rattle.page_text.specs.Page.{part_text};
 
 use crate::around::{BEFORE_DETAILS, BEFORE_PLANT, BEFORE_RUN, BEFORE_SCRIPT, BEHIND};
-use crate::script::{causes, head, line, page, plots, read, words};
+use crate::script::{causes, delays, head, line, page, plots, read, words};
 use plain_lists::Want;
 
 /// What stands around the texts, and the script's parts in between.
@@ -19,6 +19,7 @@ pub(crate) enum Part {
     Head,
     Line,
     Plots,
+    Delays,
     Page,
     Behind,
 }
@@ -47,6 +48,7 @@ impl Part {
             Part::Head => head::HEAD,
             Part::Line => line::LINE,
             Part::Plots => plots::PLOTS,
+            Part::Delays => delays::DELAYS,
             Part::Page => page::PAGE,
             Part::Behind => BEHIND,
         }

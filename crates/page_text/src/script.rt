@@ -1,6 +1,7 @@
 //! The page's script, in parts.
 
 pub(crate) mod causes;
+pub(crate) mod delays;
 pub(crate) mod head;
 pub(crate) mod line;
 pub(crate) mod page;

@@ -35,5 +35,6 @@ fn put_script(made: &mut Vec<u8>) -> Result<(), Want>
     Part::Head.put(made)?;
     Part::Line.put(made)?;
     Part::Plots.put(made)?;
+    Part::Delays.put(made)?;
     Part::Page.put(made)
 }

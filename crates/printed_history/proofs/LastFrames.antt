@@ -1,5 +1,5 @@
 -- The frames of a bench's last entry.
-use Rattle.std.proofs.Common.{◌≡◌, ℕ, zero, suc, ◌+◌, ◌-◌, ◌<◌, ◌≤◌, true, List, [], ◌∷◌, ◌++◌, Option, Some, None}
+use Rattle.std.proofs.Common.{◌≡◌, ℕ, zero, suc, ◌+◌, ◌<◌, ◌≤◌, true, List, [], ◌∷◌, ◌++◌, Option, Some, None}
 use Rattle.std.proofs.Common.{Result, Ok, Err, length, map, get_or, append-nil, append_assoc, refl, sym, ◌∙◌, ap}
 use Rattle.std.proofs.Common.{subst, arith}
 use Rattle.std.proofs.lemmas.List.{length-append, length-map, get_or_push}
@@ -53,7 +53,7 @@ one_kept b grown stamp event kept is are =
     sym (length-map kept entry_of) ∙ ap length are ∙ ap (λ (x : BenchState). length x.list) is
     ∙ length-append b.list (entry_at b stamp event ∷ [])
 
-each_last : (w : Setup) (actor : ℕ) (before list : List Entry) (e : Entry) →
+pub each_last : (w : Setup) (actor : ℕ) (before list : List Entry) (e : Entry) →
     slice_get (frames_of_each w actor before (list ++ e ∷ [])) (length list) ≡ Some
     (frames_after w actor (before ++ list) e)
 each_last w actor before [] e = ap (λ (es : List Entry). Some (frames_after w actor es e)) (sym (append-nil before))

@@ -6,3 +6,5 @@ mod FirstAtHand
 mod Lines
 mod LastFrames
 mod KindsTold
+mod TakenNext
+mod LastSaid

@@ -74,6 +74,14 @@ entry_of_event w before actor kinds (Some event) =
     if w.fits actor event && are_kinds kinds (says w before actor event) then Some
     (entry_with before actor event (says w before actor event)) else None
 
+-- The entry that an actor's event makes next, whatever the actor says at it: there is one where the actor is running and
+-- the event is one of its role.
+abbrev pub entry_next : Setup → List Entry → ℕ → Option Event → Option Entry
+entry_next w before actor None = None
+entry_next w before actor (Some event) =
+    if is_running w before actor && w.fits actor event then Some
+    (entry_with before actor event (says w before actor event)) else None
+
 -- the entry that a line tells of an actor, if the scenario has it
 abbrev pub entry_by : Setup → List Entry → EntryLine → Option ℕ → Option Entry
 entry_by w before l None = None

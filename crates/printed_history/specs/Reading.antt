@@ -87,6 +87,11 @@ abbrev pub Comes : Option Entry → Bool → SoFar → SoFar → Type 0
 Comes None comes old new = comes ≡ false
 Comes (Some e) comes old new = (comes ≡ true) × HasMore old new e
 
+-- An entry that may come is added. Where there is none, all stays as it was.
+abbrev pub Takes : Option Entry → Bool → SoFar → SoFar → Type 0
+Takes None comes old new = (comes ≡ false) × (new ≡ old)
+Takes (Some e) comes old new = (comes ≡ true) × HasMore old new e
+
 -- the history of a replay, if there is one
 abbrev pub told_history : Result Replay HistoryRefusal → Reading (List Entry)
 told_history (Ok replay) = Ok replay.history

@@ -6,6 +6,7 @@ ghost use Rattle.printed_history.specs.Reading.{IsSoFar, event_found, world_in};
 
 use crate::frames::standing;
 use crate::reading::SoFar;
+use checked_frames::RingMemory;
 use plain_lists::{Copied, Want};
 use run_lines::EventLine;
 use world_entries::Event;
@@ -15,13 +16,17 @@ const NO_PLACE: u32 = 4_294_967_295;
 
 impl SoFar<'_> {
     /// The event of a line, if the frame that it takes is there and stands.
-    pub(crate) fn event(&self, line: EventLine) -> Result<Option<Event>, Want>
+    pub(crate) fn event(
+        &self,
+        memory: &mut RingMemory,
+        line: EventLine,
+    ) -> Result<Option<Event>, Want>
         requires { IsSoFar self.now }
         ensures { IfOk result (λ found. event_found found ≡ standing_event (world_in self.now) (event_from (world_in self.now) self.now.history line)) }
     {
         match line {
             EventLine::Said { stamp, place } => self.said(stamp, place),
-            EventLine::Frame { bytes } => self.told(bytes.as_slice()),
+            EventLine::Frame { bytes } => self.told(memory, bytes.as_slice()),
             EventLine::Tick => Ok(Some(Event::Tick)),
             EventLine::Command { op } => Ok(Some(Event::Command { op })),
             EventLine::Field { area, place, value } => Ok(Some(Event::Field {
@@ -56,7 +61,7 @@ impl SoFar<'_> {
     }
 
     /// The frame that bytes spell, as it is taken.
-    fn told(&self, bytes: &[u8]) -> Result<Option<Event>, Want>
+    fn told(&self, memory: &mut RingMemory, bytes: &[u8]) -> Result<Option<Event>, Want>
         requires { IsSoFar self.now }
         ensures { IfOk result (λ found. event_found found ≡ standing_event (world_in self.now) (event_from (world_in self.now) self.now.history (line.Frame bytes.now))) }
     {
@@ -64,7 +69,7 @@ impl SoFar<'_> {
         if entries == 0 {
             return Ok(None);
         }
-        let found = standing(self.alloc, &self.ring, bytes)?;
+        let found = standing(self.alloc, &self.ring, memory, bytes)?;
         let Some(frame) = found else {
             return Ok(None);
         };

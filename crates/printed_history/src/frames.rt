@@ -18,7 +18,8 @@ pub(crate) fn standing_cried(
 ) -> Result<Items<Checked>, Want>
     ensures { IfOk result (λ frames. frames ≡ filter (stands ring.now) (cried (Cry bytes.now))) }
 {
-    let found = standing(alloc, ring, bytes)?;
+    let mut memory = RingMemory::none(alloc);
+    let found = standing(alloc, ring, &mut memory, bytes)?;
     let mut frames = Items::new(alloc);
     if let Some(frame) = found {
         frames.push(frame)?;
@@ -27,15 +28,17 @@ pub(crate) fn standing_cried(
 }
 
 /// The frame that the bytes spell, if it stands.
-pub(crate) fn standing(alloc: Global, ring: &KeyRing, bytes: &[u8]) -> Result<Option<Checked>, Want>
+pub(crate) fn standing(
+    alloc: Global,
+    ring: &KeyRing,
+    memory: &mut RingMemory,
+    bytes: &[u8],
+) -> Result<Option<Checked>, Want>
     ensures { IfOk result (λ found. option_to_list found ≡ filter (stands ring.now) (cried (Cry bytes.now))) }
 {
     let found = cried(alloc, bytes)?;
     match found {
-        Some(frame) => {
-            let mut memory = RingMemory::none(alloc);
-            if_standing(alloc, ring, &mut memory, frame)
-        }
+        Some(frame) => if_standing(alloc, ring, memory, frame),
         None => Ok(None),
     }
 }

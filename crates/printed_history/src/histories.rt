@@ -10,6 +10,7 @@ ghost use Rattle.printed_history.specs.Histories.{entries_from, history_in};
 ghost use Rattle.printed_history.specs.Reading.{told_history};
 
 use crate::reading::SoFar;
+use checked_frames::RingMemory;
 use plain_lists::Items;
 use run_lines::{EntryLine, HistoryRefusal, read_run};
 use scenario_file::Scenario;
@@ -99,9 +100,10 @@ fn replay_of(
     ensures benches { IfOk result (λ replay. replay.benches.items ≡ benches_of (contents scenario.now) replay.history) }
 {
     let mut so_far = SoFar::begin(alloc, scenario)?;
+    let mut memory = RingMemory::new(alloc, &so_far.ring);
     for line in lines.into_vec() {
         let stamp = so_far.history.len() as u64;
-        let comes = so_far.add(line)?;
+        let comes = so_far.add(&mut memory, line)?;
         if !comes {
             return Err(HistoryRefusal::NotLegal { stamp });
         }

@@ -5,7 +5,9 @@ mod acting;
 mod events;
 mod frames;
 mod histories;
+mod last;
 mod reading;
 
 pub use histories::{Replay, read_history, read_replay};
+pub use reading::SoFar;
 pub use run_lines::HistoryRefusal;

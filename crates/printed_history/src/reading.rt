@@ -1,15 +1,15 @@
 //! A history that is read entry by entry: each is added where it may come after those before it.
-ghost use Rattle.std.specs.Prelude.{◌≡◌, ◌++◌, [], ◌^◌, ◌<◌, ◌&&◌, Some, length, true, nat_eq, IfOk};
+ghost use Rattle.std.specs.Prelude.{◌≡◌, ◌++◌, [], ◌^◌, ◌<◌, ◌&&◌, Some, length, true, nat_eq, IfOk, OnOk};
 ghost use Rattle.scenario_file.specs.Reading.{contents};
 ghost use Rattle.scenario_file.specs.Valid.{IsScenario};
-ghost use Rattle.history_rules.specs.Legal.{TakesWell};
+ghost use Rattle.history_rules.specs.Legal.{TakesWell, says};
 ghost use Rattle.world_entries.specs.Entries.{event_of};
-ghost use Rattle.printed_history.specs.Histories.{entry_from, entry_of_event, event_from, standing_event, is_running, are_kinds};
-ghost use Rattle.printed_history.specs.Reading.{IsSoFar, Comes, contents_in, world_in};
+ghost use Rattle.printed_history.specs.Histories.{entry_from, entry_next, entry_of_event, entry_with, event_from, standing_event, is_running, are_kinds};
+ghost use Rattle.printed_history.specs.Reading.{IsSoFar, Comes, HasMore, Takes, contents_in, world_in};
 
 use crate::acting::act_at;
 use crate::histories::Replay;
-use checked_frames::{Checked, KeyRing};
+use checked_frames::{Checked, KeyRing, RingMemory};
 use message_types::Body;
 use plain_lists::{Items, Want};
 use run_lines::{EntryLine, EventLine, kind_of};
@@ -19,7 +19,8 @@ use std::alloc::Global;
 use world_entries::{Event, History};
 use world_history::{Bench, all_benches, calls_at, fails, ring_of};
 
-/// The entries read so far, with what is at hand of them.
+/// The entries read so far, with what is at hand of them. What it is that they are a legal history of the scenario, and that
+/// benches, calls and frames are theirs, is `IsSoFar`.
 pub struct SoFar<'a> {
     pub alloc: Global,
     pub scenario: &'a Scenario,
@@ -49,7 +50,7 @@ impl Drop for SoFar<'_> {
 
 impl<'a> SoFar<'a> {
     /// Before the first entry.
-    pub(crate) fn begin(alloc: Global, scenario: &'a Scenario) -> Result<SoFar<'a>, Want>
+    pub fn begin(alloc: Global, scenario: &'a Scenario) -> Result<SoFar<'a>, Want>
         requires { IsScenario (contents scenario.now) }
         ensures { IfOk result (λ so_far. IsSoFar so_far × (contents_in so_far ≡ contents scenario.now) × (so_far.history ≡ [])) }
     {
@@ -70,7 +71,7 @@ impl<'a> SoFar<'a> {
     }
 
     /// The entries read, with their benches.
-    pub(crate) fn into_replay(self) -> Replay
+    pub fn into_replay(self) -> Replay
         ensures history { result.history ≡ self.entry.history }
         ensures benches { result.benches ≡ self.entry.benches }
     {
@@ -86,8 +87,55 @@ impl<'a> SoFar<'a> {
         Replay { history, benches }
     }
 
+    /// Adds the entry of an event that a line tells of an actor, whatever the actor says there, and tells whether it may come.
+    /// Where not, all stays as it was. After want of memory what is at hand is of no use any more. The memory is of frames that
+    /// were checked with this history's ring.
+    pub fn take(
+        &mut self,
+        memory: &mut RingMemory,
+        actor: u32,
+        line: EventLine,
+    ) -> Result<bool, Want>
+        requires at_hand { IsSoFar self.old }
+        requires short { length self.old.history < 2 ^ 32 }
+        ensures { IfOk result (λ comes. Takes (entry_next (world_in self.old) self.old.history actor (standing_event (world_in self.old) (event_from (world_in self.old) self.old.history line))) comes self.old self.new) }
+    {
+        if !self.is_running(actor) {
+            return Ok(false);
+        }
+        let found = self.event(memory, line)?;
+        let Some(event) = found else {
+            return Ok(false);
+        };
+        if !self.benches[actor as usize].fits(&event) {
+            return Ok(false);
+        }
+        self.enter(actor, event)?;
+        Ok(true)
+    }
+
+    /// Adds the entry of an event that a running actor can have, whatever it says there. After want of memory what is at hand is
+    /// of no use any more.
+    pub fn enter(&mut self, actor: u32, event: Event) -> Result<(), Want>
+        requires at_hand { IsSoFar self.old }
+        requires short { length self.old.history < 2 ^ 32 }
+        requires running { is_running (world_in self.old) self.old.history actor ≡ true }
+        requires fits { (world_in self.old).fits actor (event_of event) ≡ true }
+        requires taken { TakesWell (world_in self.old) (length self.old.history) (event_of event) }
+        ensures { OnOk result (HasMore self.old self.new (entry_with self.old.history actor (event_of event) (says (world_in self.old) self.old.history actor (event_of event)))) }
+    {
+        let place = actor as usize;
+        let stamp = self.history.len() as u64;
+        let bench = &mut self.benches[place];
+        let (entry, posted) = act_at(self.alloc, &self.ring, bench, stamp, event)?;
+        self.calls[place] += calls_at(&entry);
+        self.posted.push(posted)?;
+        self.history.push(entry)?;
+        Ok(())
+    }
+
     /// Adds the entry of a line, and tells whether it may come. Where not, what is at hand is of no use any more.
-    pub(crate) fn add(&mut self, line: EntryLine) -> Result<bool, Want>
+    pub(crate) fn add(&mut self, memory: &mut RingMemory, line: EntryLine) -> Result<bool, Want>
         requires at_hand { IsSoFar self.old }
         requires short { length self.old.history < 2 ^ 32 }
         ensures { IfOk result (λ comes. Comes (entry_from (world_in self.old) self.old.history line) comes self.old self.new) }
@@ -104,7 +152,7 @@ impl<'a> SoFar<'a> {
         if !self.is_next(stamp, actor) {
             return Ok(false);
         }
-        self.add_event(actor, event, kinds.as_slice())
+        self.add_event(memory, actor, event, kinds.as_slice())
     }
 
     /// Whether an actor's entry of this stamp is the next one, the actor being there and not halted.
@@ -127,13 +175,19 @@ impl<'a> SoFar<'a> {
     }
 
     /// Adds the entry of an event that a line tells of a running actor, and tells whether it may come with these kinds.
-    fn add_event(&mut self, actor: u32, line: EventLine, kinds: &[Kind]) -> Result<bool, Want>
+    fn add_event(
+        &mut self,
+        memory: &mut RingMemory,
+        actor: u32,
+        line: EventLine,
+        kinds: &[Kind],
+    ) -> Result<bool, Want>
         requires at_hand { IsSoFar self.old }
         requires short { length self.old.history < 2 ^ 32 }
         requires running { is_running (world_in self.old) self.old.history actor ≡ true }
         ensures { IfOk result (λ comes. Comes (entry_of_event (world_in self.old) self.old.history actor kinds.now (standing_event (world_in self.old) (event_from (world_in self.old) self.old.history line))) comes self.old self.new) }
     {
-        let found = self.event(line)?;
+        let found = self.event(memory, line)?;
         let Some(event) = found else {
             return Ok(false);
         };

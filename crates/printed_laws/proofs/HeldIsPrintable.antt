@@ -16,7 +16,8 @@ use Rattle.world_rules.specs.Scenarios.{group_in, setup_of}
 use Rattle.world_rules.proofs.Fields.{group_is}
 use Rattle.printed_run.specs.Printed.{cast_in, is_said}
 use Rattle.printed_laws.specs.Lines.{IsWritable, IsPrintable}
-use Rattle.printed_laws.specs.RunLaws.{HasBytes, IsHeld, CanBeTold}
+use Rattle.printed_run.specs.Tellable.{CanBeTold}
+use Rattle.printed_laws.specs.RunLaws.{HasBytes, IsHeld}
 
 -- what can be held can be told
 can_be_told : (told : Bool) (event : Event) → FitsEvent event → HasBytes event → CanBeTold told event

@@ -29,7 +29,7 @@ use Rattle.printed_history.specs.Histories.{told_by_bytes, said_there, event_fro
 use Rattle.printed_history.specs.Histories.{entry_from, not_legal}
 use Rattle.printed_laws.specs.Lines.{took_line, event_line, line_read}
 use Rattle.printed_laws.proofs.BareEvents.{fits_bare}
-use Rattle.printed_laws.specs.RunLaws.{CanBeTold, entry_as_told}
+use Rattle.printed_run.specs.Tellable.{CanBeTold, entry_as_told}
 use Rattle.printed_laws.proofs.ToldIsAlike.{event_as_told, plain_told, stands_told, told_comes_to_the_same}
 use Rattle.printed_laws.proofs.FramesStay.{frame_found, frames_before}
 use Rattle.printed_laws.proofs.ToldComesNext.{TellsNext, entry_comes, own_kinds}

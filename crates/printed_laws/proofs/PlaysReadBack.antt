@@ -14,7 +14,7 @@ use Rattle.script_laws.specs.Accepted.{are_lines_of, are_sayings_of}
 use Rattle.run_scripts.specs.Making.{Given, most_entries, played, beginning}
 use Rattle.run_scripts.proofs.PlayKeeps.{all_played, beginning_kept}
 use Rattle.run_scripts.proofs.PlaysAreLegal.{played_is_legal}
-use Rattle.printed_laws.specs.RunLaws.{CanBeTold, entry_as_told}
+use Rattle.printed_run.specs.Tellable.{CanBeTold, entry_as_told}
 use Rattle.printed_laws.proofs.RunsReadBack.{texts_tell_histories}
 use Rattle.printed_laws.specs.PlayLaws.{IsGiven, PlayedIsTold, PlayedTextsReadBack}
 use Rattle.printed_laws.proofs.SaidThere.{WasSaid, entry_as_it_is, given_can_be_told}

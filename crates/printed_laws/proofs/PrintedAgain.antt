@@ -20,7 +20,8 @@ use Rattle.run_lines.specs.Texts.{count_text, said_text, entry_text}
 use Rattle.printed_run.specs.Printed.{cast_in, master_lines, client_lines, actor_lines, is_frame, is_said, entry_line}
 use Rattle.printed_run.specs.Printed.{actors_text, totals_text, text_of}
 use Rattle.printed_laws.specs.AlikeLaws.{ComeToTheSame}
-use Rattle.printed_laws.specs.RunLaws.{IsHeld, entry_as_told, as_told}
+use Rattle.printed_run.specs.Tellable.{entry_as_told, as_told}
+use Rattle.printed_laws.specs.RunLaws.{IsHeld}
 use Rattle.printed_laws.proofs.ToldIsAlike.{event_as_told, text_told, told_comes_to_the_same}
 use Rattle.printed_laws.proofs.FramesStay.{none_there}
 

@@ -13,7 +13,8 @@ use Rattle.printed_run.specs.Printed.{cast_in, is_said, entry_line, actors_text,
 use Rattle.printed_history.specs.Histories.{history_of, history_in}
 use Rattle.printed_laws.specs.Lines.{line_read}
 use Rattle.printed_laws.proofs.LinesReadBack.{printed_lines_read_back}
-use Rattle.printed_laws.specs.RunLaws.{CanBeTold, PrintedRunsReadBack, TextsTellHistories}
+use Rattle.printed_run.specs.Tellable.{CanBeTold}
+use Rattle.printed_laws.specs.RunLaws.{PrintedRunsReadBack, TextsTellHistories}
 use Rattle.printed_laws.proofs.HeldIsPrintable.{few_actors, held_can_be_told, all_printable}
 use Rattle.printed_laws.proofs.HistoryHeadsPassed.{heads_are_passed}
 use Rattle.printed_laws.proofs.LinesTellEntries.{entries_told}

@@ -13,7 +13,7 @@ use Rattle.history_laws.proofs.Same.{signed_test, body_test}
 use Rattle.world_rules.specs.Frames.{frames_of, frames_at_stamp}
 use Rattle.printed_run.specs.Printed.{is_frame, is_said}
 use Rattle.printed_history.proofs.EventTold.{said_earlier}
-use Rattle.printed_laws.specs.RunLaws.{CanBeTold, told_by_bytes_at, entry_as_told}
+use Rattle.printed_run.specs.Tellable.{CanBeTold, told_by_bytes_at, entry_as_told}
 use Rattle.printed_laws.proofs.BareFrames.{frames_by}
 use Rattle.printed_laws.proofs.FramesStay.{frames_before}
 use Rattle.printed_laws.specs.PlayLaws.{IsGiven}

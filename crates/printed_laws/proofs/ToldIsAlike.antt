@@ -10,7 +10,7 @@ use Rattle.run_lines.specs.Texts.{event_text}
 use Rattle.printed_history.specs.Histories.{frame_stands}
 use Rattle.printed_laws.specs.AlikeLaws.{without_place, bare, AreAlike, ComeToTheSame}
 use Rattle.printed_laws.proofs.AlikeAreTheSame.{alike_come_to_the_same}
-use Rattle.printed_laws.specs.RunLaws.{told_by_bytes_at, entry_as_told}
+use Rattle.printed_run.specs.Tellable.{told_by_bytes_at, entry_as_told}
 
 -- an event as it is told, by whether its frame is named by where it was said
 abbrev pub event_as_told : Bool → ℕ → Event → Event

@@ -9,7 +9,7 @@ use Rattle.script_laws.specs.Accepted.{are_lines_of, are_sayings_of}
 use Rattle.run_scripts.specs.Making.{Given, played}
 use Rattle.printed_run.specs.Printed.{text_of}
 use Rattle.printed_history.specs.Histories.{history_in}
-use Rattle.printed_laws.specs.RunLaws.{as_told}
+use Rattle.printed_run.specs.Tellable.{as_told}
 
 -- The history that a script and words define is told as it is: each frame in it was said where its entry tells.
 abbrev pub PlayedIsTold : Type 0

@@ -4,3 +4,4 @@ pub mod SaidThere
 pub mod WhatIsAtHand
 pub mod ShownLines
 pub mod WholeText
+pub mod LookedAt

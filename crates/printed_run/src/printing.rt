@@ -9,7 +9,9 @@ ghost use Rattle.world_rules.specs.Scenarios.{setup_of};
 ghost use Rattle.printed_run.specs.Places.{IsAtHand};
 ghost use Rattle.world_history.specs.Benches.{AreBenches};
 ghost use Rattle.printed_run.specs.Printed.{entry_line, totals_text, text_of};
+ghost use Rattle.printed_run.specs.Tellable.{AllCanBeTold};
 
+use crate::looking::look_at;
 use crate::places::own_places;
 use crate::said::AtHand;
 use crate::states::put_states;
@@ -46,7 +48,9 @@ pub fn write_run_of(
     requires legal { IsLegal (setup_of (contents scenario.now)) history.now }
     requires short { length history.now < 2 ^ 32 }
     requires benches { AreBenches (contents scenario.now) history.now benches.now }
-    ensures { IfOk result (λ text. text.items ≡ text_of (contents scenario.now) history.now) }
+    ensures text { IfOk result (λ text. text.items ≡ text_of (contents scenario.now) history.now) }
+    // So the text is read again as the history (`printed_laws`).
+    ensures told { OnOk result (AllCanBeTold (setup_of (contents scenario.now)) history.now) }
 {
     let mut text = String::from_str(alloc, "spire 1\n")?;
     put_states(&mut text, scenario, benches)?;
@@ -93,7 +97,8 @@ fn put_entries(
     requires valid { IsScenario (contents scenario.now) }
     requires legal { IsLegal (setup_of (contents scenario.now)) history.now }
     requires benches { AreBenches (contents scenario.now) history.now benches.now }
-    ensures { OnOk result (string_bytes text.new ≡ string_bytes text.old ++ flat_map (entry_line (contents scenario.now) history.now) history.now) }
+    ensures text { OnOk result (string_bytes text.new ≡ string_bytes text.old ++ flat_map (entry_line (contents scenario.now) history.now) history.now) }
+    ensures told { OnOk result (AllCanBeTold (setup_of (contents scenario.now)) history.now) }
 {
     let cast = scenario.cast();
     let entries = history.entries();
@@ -106,6 +111,7 @@ fn put_entries(
     };
     for entry in entries {
         let is_said = hand.is_said(alloc, &entry.event)?;
+        look_at(alloc, is_said, entry)?;
         put_entry(alloc, text, cast, is_said, entry)?;
     }
     Ok(())

@@ -1,6 +1,6 @@
 -- A request of a connected master that has its turn with all of them is acknowledged by each; a round later each knows the
 -- acknowledgements of all, and has it certified. No other update can be: its master says one request for each number.
-use Rattle.std.proofs.Common.{◌≡◌, ℕ, ◌+◌, ◌<◌, ◌≤◌, Bool, true, false, cond, ◌&&◌, not, List, [], ◌∷◌, ◌++◌, ◌-◌}
+use Rattle.std.proofs.Common.{◌≡◌, ℕ, ◌<◌, ◌≤◌, Bool, true, false, cond, ◌&&◌, not, List, [], ◌∷◌, ◌++◌, ◌-◌}
 use Rattle.std.proofs.Common.{Option, Some, None, is_some, nat_eq, nat_lt, length, refl, sym, ◌∙◌, ap, subst, inl, inr, ◌⊎◌, arith}
 use Rattle.std.proofs.Common.{eqb-true, if◌then◌else◌}
 use Rattle.std.proofs.lemmas.Bool.{false≢true, and_parts, and_from, ne_eqb, eq-eqb, ltb-true, le-leb, cases_eq}

@@ -1,6 +1,6 @@
 -- What a master knows to be prepared in its present view, within the window, it has committed at its last event, with the
 -- digest of these rows: what was prepared first stays so.
-use Rattle.std.proofs.Common.{◌≡◌, ℕ, ◌+◌, ◌-◌, ◌≤◌, Bool, true, false, cond, List, [], ◌∷◌, ◌++◌, Option, Some}
+use Rattle.std.proofs.Common.{◌≡◌, ℕ, ◌+◌, ◌≤◌, Bool, true, false, cond, List, [], ◌∷◌, ◌++◌, Option, Some}
 use Rattle.std.proofs.Common.{None, filter, nat_eq, sym, ◌∙◌, ap, subst, inl, inr, arith, eqb-true}
 use Rattle.std.proofs.lemmas.Bool.{false≢true, and_parts, cases_Bool}
 use Rattle.std.proofs.lemmas.Grind.{flat_map-append}
@@ -9,7 +9,6 @@ use Rattle.plain_lists.specs.Lists.{IsIn, here, Begins}
 use Rattle.plain_lists.proofs.Members.{any_from, in_left, in_right, in_flat_map, in_filter_from, some_same, none_some}
 use Rattle.protocol_rules.proofs.FirstMet.{first_met-more}
 use Rattle.message_types.specs.declared.signed.Signed.{Signed}
-use Rattle.message_types.specs.declared.ordering.Commit.{Commit}
 use Rattle.message_types.specs.declared.body.Body.{Body}
 use Rattle.message_types.specs.declared.body.Body.TheVariants as body
 use Rattle.message_types.specs.Digests.{digest_of_rows}

@@ -1,7 +1,7 @@
 -- A door introduces each update of a client after those before it, or passes over it once as many are executed. So an update
 -- that was handed to it, its earlier ones being done with, it has introduced at its next events, if it wasn't executed
 -- meanwhile.
-use Rattle.std.proofs.Common.{◌≡◌, ℕ, ◌+◌, ◌-◌, ◌<◌, ◌≤◌, Bool, true, false, cond, List, [], ◌∷◌, ◌++◌}
+use Rattle.std.proofs.Common.{◌≡◌, ℕ, ◌+◌, ◌<◌, ◌≤◌, Bool, true, false, cond, List, [], ◌∷◌, ◌++◌}
 use Rattle.std.proofs.Common.{Option, Some, None, filter, map, max, nat_eq, nat_lt, nat_le, length, refl, sym, ◌∙◌, ap, subst}
 use Rattle.std.proofs.Common.{inl, inr, ◌⊎◌, arith, append_assoc, append-nil, eqb-true}
 use Rattle.std.proofs.lemmas.Bool.{and_from, cases_lt, cases_eq, cases_Bool, lt-ltb}

@@ -1,6 +1,5 @@
 -- Pre-ordering in rounds, put together: what a connected master requested is eligible at each of them four rounds later.
 use Rattle.std.proofs.Common.{◌≡◌, ◌+◌, ◌*◌, ◌≤◌, List, ◌++◌, arith}
-use Rattle.message_types.specs.declared.body.Body.TheVariants as body
 use Rattle.protocol_rules.specs.Group.{Group}
 use Rattle.history_rules.specs.Events.{Entry}
 use Rattle.history_rules.specs.Legal.{IsLegal}

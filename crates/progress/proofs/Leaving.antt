@@ -1,6 +1,6 @@
 -- What more than f + k connected masters voted against all vote against a round later, since each goes by how far so many voted;
 -- and what all voted against each leaves a round later, since it knows a quorum's votes.
-use Rattle.std.proofs.Common.{◌≡◌, ℕ, ◌+◌, ◌-◌, ◌<◌, ◌≤◌, zero, suc, Bool, true, false, cond, ◌&&◌, not, List, [], ◌∷◌, ◌++◌}
+use Rattle.std.proofs.Common.{◌≡◌, ℕ, ◌+◌, ◌<◌, ◌≤◌, zero, suc, Bool, true, false, cond, ◌&&◌, not, List, [], ◌∷◌, ◌++◌}
 use Rattle.std.proofs.Common.{Some, None, filter, length, map, min, reverse, nat_eq, nat_lt, nat_le, refl, sym, ◌∙◌, ap}
 use Rattle.std.proofs.Common.{subst, inl, inr, ◌⊎◌, arith, eqb-true, length-append}
 use Rattle.std.proofs.lemmas.Bool.{false≢true, and_from, or_left, cases_lt, cases_eq, cases_Bool, not_from_false, ne_eqb, eq-eqb, le-leb, leb-true}
@@ -23,7 +23,6 @@ use Rattle.protocol_rules.specs.Views.{view, view_shown, is_suspect, is_suspecte
 use Rattle.protocol_rules.specs.Master.{said_before}
 use Rattle.protocol_rules.proofs.Numbers.{from_in}
 use Rattle.history_rules.specs.Events.{Entry}
-use Rattle.history_rules.specs.Setup.{own}
 use Rattle.history_rules.specs.Legal.{IsLegal, heard}
 use Rattle.history_rules.specs.Audit.{HasSaid}
 use Rattle.agreement.specs.Laws.{known_by}
@@ -204,6 +203,26 @@ falls_at x i (z ∷ zs) h less = elim (cases_lt z x) [
         let one : length (filter (nat_le x) (z ∷ [])) ≤ 1 = most_one (nat_le x z) in
         deeper i (omega (arith, less, cons, one))
 
+-- and as many are, as a number that is at least x has places up to it
+falls_upto : (x i : ℕ) (zs : List ℕ) → Falls zs → 1 ≤ x → x ≤ slice_index zs i → i < count_from x zs
+falls_upto x zero [] h one le = absurd (omega (arith, one, le))
+falls_upto x (suc i) [] h one le = absurd (omega (arith, one, le))
+falls_upto x zero (z ∷ zs) h one le =
+    let cons : count_from x (z ∷ zs) ≡ length (filter (nat_le x) (z ∷ [])) + count_from x zs = count_cons x z zs in
+    let own : length (filter (nat_le x) (z ∷ [])) ≡ 1 = ap (λ (b : Bool). length {A = ℕ} (cond b (z ∷ []) []))
+    (le-leb x z le) in
+    omega (arith, cons, own)
+falls_upto x (suc i) (z ∷ zs) h one le =
+    let deeper : i < count_from x zs = falls_upto x i zs h.1 one le in
+    elim (cases_lt z x) [
+      | inl low ↦ let none : count_from x zs ≡ 0 = none_from x z zs low h.0 in absurd (omega (arith, none, deeper))
+      | inr high ↦
+          let cons : count_from x (z ∷ zs) ≡ length (filter (nat_le x) (z ∷ [])) + count_from x zs = count_cons x z zs in
+          let own : length (filter (nat_le x) (z ∷ [])) ≡ 1 = ap (λ (b : Bool). length {A = ℕ} (cond b (z ∷ []) []))
+          (le-leb x z high) in
+          omega (arith, cons, own, deeper)
+    ]
+
 -- where more than so many voted so far, that is reached
 voted_far : (g : Group) (known : List (Signed Body)) (count x : ℕ) (voting : ℕ → Bool) → count < length (voters voting g.n) →
     ((m : ℕ) → voting m ≡ true → x ≤ voted_to known m) → x ≤ voted_by_more g known count
@@ -220,6 +239,21 @@ voted_far g known count x voting many far =
     falls_at x count (reverse (in_order ends)) (falls_reversed (in_order ends) (rises_ordered ends))
     (omega (arith, many, more, mapped, turned, sorted))
 
+-- and where it is reached more than so many voted so far
+pub voted_many : (g : Group) (known : List (Signed Body)) (count x : ℕ) → 1 ≤ x → x ≤ voted_by_more g known count →
+    count < length (voters (λ m. nat_le x (voted_to known m)) g.n)
+voted_many g known count x one far =
+    let ends : List ℕ = map (voted_to known) (numbers_below g.n) in
+    let mapped : count_from x (map (voted_to known) (numbers_below g.n)) ≡ length (filter (λ m. nat_le x (voted_to known m))
+    (numbers_below g.n)) = count_mapped (voted_to known) (nat_le x) (numbers_below g.n) in
+    let turned : count_from x (reverse (in_order (map (voted_to known) (numbers_below g.n)))) ≡ count_from x
+    (in_order (map (voted_to known) (numbers_below g.n))) = count_reversed x (in_order ends) in
+    let sorted : count_from x (in_order (map (voted_to known) (numbers_below g.n))) ≡ count_from x
+    (map (voted_to known) (numbers_below g.n)) = count_ordered x ends in
+    let many : count < count_from x (reverse (in_order (map (voted_to known) (numbers_below g.n)))) =
+    falls_upto x count (reverse (in_order ends)) (falls_reversed (in_order ends) (rises_ordered ends)) one far in
+    omega (arith, mapped, turned, sorted, many)
+
 -- a vote that is known
 vote_known : (i v signer : ℕ) (word : Body) (sig : List ℕ) → signer ≡ i → word ≡ body.Suspect record { v = v } →
     vote_of i record { signer = signer; body = word; sig = sig } ≡ Some (v + 1)
@@ -233,7 +267,7 @@ vote_sent g m i b = elim (cases_eq m i) [
   | inr apart ↦ inr (not_from_false (nat_eq m i) (ne_eqb m i apart))
 ]
 
-suspect_from : (v : ℕ) (b : Body) → suspects_said v b ≡ true → b ≡ body.Suspect record { v = v }
+pub suspect_from : (v : ℕ) (b : Body) → suspects_said v b ≡ true → b ≡ body.Suspect record { v = v }
 suspect_from v (body.Suspect b) e = let is : b.v ≡ v = eqb-true b.v v e in λ i. body.Suspect record { v = is i }
 suspect_from v _ e = absurd (false≢true e)
 

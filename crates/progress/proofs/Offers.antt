@@ -9,7 +9,6 @@ use Rattle.std.specs.List.{filter_map}
 use Rattle.plain_lists.specs.Lists.{IsIn, here, there, Begins, Within}
 use Rattle.plain_lists.proofs.Members.{any_in, in_left, in_filter_map_from}
 use Rattle.message_types.specs.declared.signed.Signed.{Signed}
-use Rattle.message_types.specs.declared.ordering.PrePrepare.{PrePrepare}
 use Rattle.message_types.specs.declared.views.Plan.{Plan}
 use Rattle.message_types.specs.declared.body.Body.{Body}
 use Rattle.message_types.specs.declared.body.Body.TheVariants as body

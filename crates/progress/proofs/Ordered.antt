@@ -11,7 +11,6 @@ use Rattle.std.specs.Str.{bytes_eq}
 use Rattle.plain_lists.specs.Lists.{IsIn, Begins, Within}
 use Rattle.plain_lists.proofs.Members.{any_from, any_in, in_filter_map, none_some}
 use Rattle.message_types.specs.declared.signed.Signed.{Signed}
-use Rattle.message_types.specs.declared.ordering.PrePrepare.{PrePrepare}
 use Rattle.message_types.specs.declared.ordering.Commit.{Commit}
 use Rattle.message_types.specs.declared.views.Plan.{Plan}
 use Rattle.message_types.specs.declared.body.Body.{Body}
@@ -89,7 +88,7 @@ prepared_there g facts v s rows among voted alone = by (prepared g facts v s) re
         absurd (none_some (sym none ∙ some.1))
 
 -- and ordered, with a quorum of commits
-ordered_there : (g : Group) (facts : List OrderFact) (s : ℕ) (rows : List (List ℕ)) → IsIn rows (rows_known facts) →
+pub ordered_there : (g : Group) (facts : List OrderFact) (s : ℕ) (rows : List (List ℕ)) → IsIn rows (rows_known facts) →
     is_committed g facts s (digest_of_rows rows) ≡ true
     → ((x : List (List ℕ)) → ordered g facts s ≡ Some x → x ≡ rows) → ordered g facts s ≡ Some rows
 unfolding ordered
@@ -103,7 +102,7 @@ ordered_there g facts s rows among committed alone = by (ordered g facts s) refl
         let some = find_there (λ rows. is_committed g facts s (digest_of_rows rows)) among committed in
         absurd (none_some (sym none ∙ some.1))
 
-commit_view_there : (facts : List OrderFact) (f : Signed Commit) (v s : ℕ) (digest : List ℕ) →
+pub commit_view_there : (facts : List OrderFact) (f : Signed Commit) (v s : ℕ) (digest : List ℕ) →
     IsIn (fact.Commit f) facts → f.body ≡ record { v = v; s = s; digest = digest } → IsIn v (commit_views facts s digest)
 commit_view_there facts f v s digest among is = in_filter_map (λ x. elim x as (λ _. Option ℕ) [
   | fact.Commit c ↦ if nat_eq c.body.s s

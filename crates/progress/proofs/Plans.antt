@@ -1,6 +1,6 @@
 -- The plan of a view is one: each new view that a correct master knows is of the view's leader, and a correct leader opens a
 -- view once. Where a view is open its plan is known.
-use Rattle.std.proofs.Common.{◌≡◌, ℕ, ◌+◌, ◌-◌, ◌≤◌, zero, suc, Bool, true, false, cond, ◌&&◌, not, List, [], ◌∷◌, ◌++◌}
+use Rattle.std.proofs.Common.{◌≡◌, ℕ, ◌+◌, ◌≤◌, zero, suc, Bool, true, false, cond, ◌&&◌, not, List, [], ◌∷◌, ◌++◌}
 use Rattle.std.proofs.Common.{Option, Some, None, length, map, take, nat_eq, nat_lt, nat_le, refl, sym, ◌∙◌, ap, subst, inl, inr}
 use Rattle.std.proofs.Common.{arith, eqb-true}
 use Rattle.std.proofs.lemmas.Bool.{false≢true, and_parts, or_cases, cases_eq, eq-eqb, ne_eqb}

@@ -11,7 +11,6 @@ use Rattle.std.specs.List.{list_any, filter_map, flat_map}
 use Rattle.plain_lists.specs.Lists.{IsIn, here, Begins}
 use Rattle.plain_lists.proofs.Members.{any_from, in_left, in_flat_map, in_filter_from, some_same, none_some}
 use Rattle.message_types.specs.declared.signed.Signed.{Signed}
-use Rattle.message_types.specs.declared.ordering.Prepare.{Prepare}
 use Rattle.message_types.specs.declared.views.Plan.{Plan}
 use Rattle.message_types.specs.declared.body.Body.{Body}
 use Rattle.message_types.specs.declared.body.Body.TheVariants as body

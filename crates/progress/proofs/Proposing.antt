@@ -6,7 +6,7 @@ use Rattle.std.proofs.Common.{Option, Some, None, length, max, nat_eq, nat_lt, n
 use Rattle.std.proofs.Common.{arith, if◌then◌else◌, eqb-true}
 use Rattle.std.proofs.lemmas.Bool.{and_parts, cases_lt, leb-true}
 use Rattle.std.specs.List.{filter_map, flat_map, list_all}
-use Rattle.plain_lists.specs.Lists.{IsIn, here}
+use Rattle.plain_lists.specs.Lists.{IsIn}
 use Rattle.plain_lists.proofs.Members.{none_in, in_cons_cases, in_cases, in_filter, in_filter_map_from, all_at, some_same, none_some}
 use Rattle.message_types.specs.declared.signed.Signed.{Signed}
 use Rattle.message_types.specs.declared.ordering.PrePrepare.{PrePrepare}

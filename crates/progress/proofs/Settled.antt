@@ -10,9 +10,6 @@ use Rattle.std.specs.List.{flat_map, filter_map}
 use Rattle.plain_lists.specs.Lists.{IsIn, here, there, Begins, Within}
 use Rattle.plain_lists.proofs.Members.{any_from, in_flat_map, in_filter_map_from, in_left, in_right, in_map, some_same, none_some}
 use Rattle.message_types.specs.declared.signed.Signed.{Signed}
-use Rattle.message_types.specs.declared.ordering.PrePrepare.{PrePrepare}
-use Rattle.message_types.specs.declared.ordering.Prepare.{Prepare}
-use Rattle.message_types.specs.declared.ordering.Commit.{Commit}
 use Rattle.message_types.specs.declared.views.Plan.{Plan}
 use Rattle.message_types.specs.declared.body.Body.{Body}
 use Rattle.message_types.specs.declared.body.Body.TheVariants as body
@@ -30,7 +27,7 @@ use Rattle.protocol_rules.specs.Views.{view}
 use Rattle.protocol_rules.specs.Worth.{plan_end}
 use Rattle.protocol_rules.proofs.FirstMet.{first_in}
 use Rattle.history_rules.specs.Events.{Entry, is_silent}
-use Rattle.history_rules.specs.Setup.{Setup, own}
+use Rattle.history_rules.specs.Setup.{Setup}
 use Rattle.history_rules.specs.Legal.{Stands, heard}
 use Rattle.history_rules.specs.Audit.{HasSaid, bodies_of, texts_of, history_texts}
 use Rattle.agreement.specs.Laws.{IsSound, known_by}

@@ -1,6 +1,6 @@
 -- What a connected master has ordered each has ordered three rounds later: up to the base of the plan it had, and above it is
 -- what the view offers. And where it has certified all that its numbers make eligible, it has executed what the other one had.
-use Rattle.std.proofs.Common.{◌≡◌, ℕ, ◌+◌, ◌-◌, ◌<◌, ◌≤◌, zero, suc, Bool, true, List, [], ◌∷◌, ◌++◌, Option, Some, None}
+use Rattle.std.proofs.Common.{◌≡◌, ℕ, ◌+◌, ◌<◌, ◌≤◌, zero, suc, Bool, true, List, [], ◌∷◌, ◌++◌, Option, Some, None}
 use Rattle.std.proofs.Common.{refl, sym, ◌∙◌, ap, subst, inl, inr, arith, append-nil}
 use Rattle.std.proofs.lemmas.Bool.{cases_lt}
 use Rattle.std.specs.List.{filter_map}
@@ -18,7 +18,7 @@ use Rattle.protocol_rules.specs.Order.{ordered, ordered_run, gapless, stable}
 use Rattle.protocol_rules.specs.Execution.{Request, eligible_requests, certified_run, first_missing, kept_after, executed_of, waiting_of}
 use Rattle.protocol_rules.specs.Master.{said_before, certified_requests, executed, waiting_for, offered_number}
 use Rattle.history_rules.specs.Events.{Entry}
-use Rattle.history_rules.specs.Setup.{Setup, own}
+use Rattle.history_rules.specs.Setup.{Setup}
 use Rattle.history_rules.specs.Legal.{IsLegal, heard}
 use Rattle.agreement.specs.Laws.{IsSound, known_by}
 use Rattle.agreement.proofs.KnownAsItGrows.{known_of_within, said_earlier, correct_said}

@@ -1,6 +1,6 @@
 -- A correct master's requests have their turn wherever they are known: each is of a client of which it is a door, each of
 -- its lower numbers is of a request that it said before, and those of the same client bear lower updates.
-use Rattle.std.proofs.Common.{◌≡◌, ℕ, ◌+◌, ◌-◌, ◌<◌, ◌≤◌, true, ◌&&◌, List, [], ◌∷◌, ◌++◌}
+use Rattle.std.proofs.Common.{◌≡◌, ℕ, ◌+◌, ◌<◌, ◌≤◌, true, ◌&&◌, List, [], ◌∷◌, ◌++◌}
 use Rattle.std.proofs.Common.{Some, filter, map, max, nat_eq, nat_lt, refl, sym, ◌∙◌, ap, subst}
 use Rattle.std.proofs.Common.{inl, inr, arith, append_assoc, append-nil, eqb-true}
 use Rattle.std.proofs.lemmas.Bool.{and_parts, cases_lt, ltb-true, eq-eqb}

@@ -2,23 +2,20 @@
 -- view offers after six, and each connected master has ordered after nine, and so executed, as all that its numbers make
 -- eligible is certified and the client's earlier updates come before it. Or as many were executed at the door, and what is
 -- executed at one is three rounds later executed at each.
-use Rattle.std.proofs.Common.{◌≡◌, ℕ, ◌+◌, ◌-◌, ◌<◌, ◌≤◌, zero, suc, Bool, true, false, List, [], ◌∷◌, ◌++◌, Option, Some, None}
-use Rattle.std.proofs.Common.{length, refl, sym, ◌∙◌, ap, subst, inl, inr, ◌⊎◌, arith, append_assoc, append-nil}
-use Rattle.std.proofs.lemmas.Bool.{cases_lt}
+use Rattle.std.proofs.Common.{◌≡◌, ℕ, ◌+◌, ◌<◌, ◌≤◌, suc, Bool, true, false, List, [], ◌∷◌, ◌++◌, Option, Some}
+use Rattle.std.proofs.Common.{sym, ◌∙◌, ap, subst, inl, inr, ◌⊎◌, arith, append_assoc, append-nil}
 use Rattle.std.specs.List.{filter_map}
-use Rattle.plain_lists.specs.Lists.{IsIn, here, there, Begins}
-use Rattle.plain_lists.proofs.Members.{some_same}
+use Rattle.plain_lists.specs.Lists.{IsIn, Begins}
 use Rattle.message_types.specs.declared.signed.Signed.{Signed}
 use Rattle.message_types.specs.declared.updates.Update.{Update}
 use Rattle.message_types.specs.declared.preordering.PoRequest.{PoRequest}
 use Rattle.message_types.specs.declared.views.Plan.{Plan}
 use Rattle.message_types.specs.declared.body.Body.{Body}
 use Rattle.message_types.specs.declared.body.Body.TheVariants as body
-use Rattle.protocol_rules.specs.Words.{run_from}
 use Rattle.protocol_rules.specs.Group.{Group, is_live, leader_of, most_number, window}
 use Rattle.protocol_rules.specs.Facts.{facts_of}
 use Rattle.protocol_rules.specs.Matrix.{eligible, reach}
-use Rattle.protocol_rules.specs.Order.{ordered, ordered_run, gapless, stable}
+use Rattle.protocol_rules.specs.Order.{ordered, ordered_run, stable}
 use Rattle.protocol_rules.specs.Execution.{Request, eligible_requests, certified_run, updates_of, kept_after, executed_of}
 use Rattle.protocol_rules.specs.Turns.{last_request}
 use Rattle.protocol_rules.specs.Master.{said_before, certified_requests, executed}
@@ -30,7 +27,6 @@ use Rattle.agreement.specs.Laws.{IsSound, known_by}
 use Rattle.agreement.proofs.Places.{said_whole, whole_upto}
 use Rattle.agreement.proofs.KnownAsItGrows.{known_then}
 use Rattle.agreement.proofs.ExecutedInTurn.{InTurn, kept_in_turn, none_in_turn}
-use Rattle.agreement.proofs.ExecutionsAgree.{ordered_agree}
 use Rattle.agreement.proofs.UpdatesAreTaken.{executed_were_said}
 use Rattle.agreement.proofs.VouchedIsOrdered.{executions_grow}
 use Rattle.progress.specs.Rounds.{AreConnected, IsRound, AreRounds, then_rounds}
@@ -45,37 +41,13 @@ use Rattle.progress.proofs.Introduced.{introduced_in_a_round}
 use Rattle.progress.proofs.Plans.{plans_agree}
 use Rattle.progress.proofs.Proposed.{said_begun}
 use Rattle.progress.proofs.Settled.{sound_before, led_before}
-use Rattle.progress.proofs.Worthy.{reach_member, ordered_upto, runs_more, gapless_more}
-use Rattle.progress.proofs.Ordered.{begins_through, begins_append, stable_later, ordered_kept, offer_is_ordered}
-use Rattle.progress.proofs.Offers.{next_more, said_more, requested_is_offer}
-use Rattle.progress.proofs.Spreading.{below_next, none_missing, runs_spread, executions_spread}
+use Rattle.progress.proofs.Worthy.{reach_member, runs_more}
+use Rattle.progress.proofs.Ordered.{begins_through, begins_append, stable_later}
+use Rattle.progress.proofs.Offers.{said_more, requested_is_offer}
+use Rattle.progress.proofs.Spreading.{none_missing, runs_spread, executions_spread}
+use Rattle.progress.proofs.OrderedThere.{next_later, order_there, uncons, emptied}
 use Rattle.progress.proofs.InOrder.{placed, request, eligible_there, kept_count_more, one_of_each}
 use Rattle.progress.proofs.Counted.{counted, executed_as, executed_is, map_begins}
-
--- a run holds what is given of the numbers within it
-run_holds : {X : Type 0} (f : ℕ → Option X) (start most s : ℕ) (x : X) → start ≤ s → s < start + length (run_from f start most) →
-    f s ≡ Some x → IsIn x (run_from f start most)
-unfolding run_from
-run_holds f start zero s x low high e = absurd (omega arith)
-run_holds {X} f start (suc most) s x low high e = by (f start) refl high (λ above below. run_holds f (suc start) most s x above below e)
-  where
-    by : (o : Option X) → f start ≡ o
-        → s < start + length {A = X} (elim o [ None ↦ [] | Some y ↦ y ∷ run_from f (suc start) most ])
-        → (suc start ≤ s → s < suc start + length (run_from f (suc start) most) → IsIn x (run_from f (suc start) most))
-        → IsIn x (elim o as (λ _. List X) [ None ↦ [] | Some y ↦ y ∷ run_from f (suc start) most ])
-    by None is high later = absurd (omega arith)
-    by (Some y) is high later = elim (cases_lt start s) [
-      | inl above ↦ there y (run_from f (suc start) most) (later above (omega arith))
-      | inr le ↦
-          let same : start ≡ s = omega arith in
-          subst (λ (z : X). IsIn x (z ∷ run_from f (suc start) most)) (some_same (sym e ∙ ap f (sym same) ∙ is))
-          (here (run_from f (suc start) most))
-    ]
-
-ordered_among : (g : Group) (known : List (Signed Body)) (s : ℕ) (rows : List (List ℕ)) → 1 ≤ s → s ≤ gapless g (facts_of g known)
-    → ordered g (facts_of g known) s ≡ Some rows → IsIn rows (ordered_run g (facts_of g known))
-unfolding ordered_run
-ordered_among g known s rows one low e = run_holds (ordered g (facts_of g known)) 1 most_number s rows one (omega arith) e
 
 -- what is executed is in turn
 executed_in_turn : (g : Group) (known : List (Signed Body)) → InTurn (executed g known)
@@ -138,9 +110,7 @@ module _ (w : Setup) (connected : ℕ → Bool) (v : ℕ) (plan : Plan)
       (limits.leaves door h.is_connected))
 
   next_six : next_offer w six v plan ≤ next_offer w nine v plan
-  next_six = next_more v plan (said_before (heard w six (leader_of w.group v))) (said_before (heard w nine (leader_of w.group v)))
-      (λ x k. subst (λ (zs : List Entry). IsIn x (said_before (heard w zs (leader_of w.group v)))) (sym six_nine.same)
-      (said_more w six six_nine.rest (leader_of w.group v) x k))
+  next_six = next_later w v plan six nine six_nine
 
   -- the numbers offered are within each window from the beginning on
   within : (xs : List Entry) → Begins beginning xs → (i : ℕ) → connected i ≡ true →
@@ -210,30 +180,14 @@ module _ (w : Setup) (connected : ℕ → Bool) (v : ℕ) (plan : Plan)
       start_six low_six door m h.is_connected is_m))
 
   -- rows that the view offers after the sixth round, or that the leader had ordered up to the base, are ordered after the ninth
-  order_there : (s : ℕ) (rows : List (List ℕ)) → IsOffer w v plan six s rows
+  there_is : (s : ℕ) (rows : List (List ℕ)) → IsOffer w v plan six s rows
       ⊎ ((1 ≤ s) × (s ≤ plan.base) × (ordered w.group (facts_of w.group (known_by w six (leader_of w.group v))) s ≡ Some rows))
       → IsIn rows (ordered_run w.group (facts_of w.group (known_by w nine m)))
-  order_there s rows (inl offer) =
-      let below : s < next_offer w six v plan = below_next w connected v plan beginning six (sound_of six six_nine).legal are
-      led_six s rows offer in
-      let above : plan.base < s = offer.0 in
+  there_is s rows h =
       let next : next_offer w six v plan ≤ next_offer w nine v plan = next_six in
       let all : next_offer w nine v plan ≤ most_number = most in
-      let order = offer_is_ordered w connected v plan beginning six seventh eighth ninth live sound are
-      (fair_seven, (fair_eight, (fair_nine, tt))) led start_six s rows offer (λ i is_i.
-      let room_there : next_offer w six v plan ≤ stable w.group (facts_of w.group (known_by w six i)) + window = low_six i is_i in
-      omega (arith, room_there, below)) m is_m in
-      ordered_among w.group (known_by w nine m) s rows (omega (arith, above)) (order.1 (omega (arith, below, next, all))) order.0
-  order_there s rows (inr based) =
-      let base : plan.base ≤ gapless w.group (facts_of w.group (known_by w beginning m)) = led.based m is_m in
-      let low : s ≤ plan.base = based.1 in
-      let grown : gapless w.group (facts_of w.group (known_by w beginning m)) ≤ gapless w.group (facts_of w.group (known_by w nine m))
-      = gapless_more w.group (known_by w beginning m) (known_by w nine m) (known_grows w nine beginning m led.begins) in
-      let own = ordered_upto w.group (facts_of w.group (known_by w beginning m)) s based.0 (omega (arith, low, base)) in
-      let same : own.0 ≡ rows = ordered_agree w nine beginning six m (leader_of w.group v) sound led.begins six_nine
-      (are.correct m is_m) (are.correct (leader_of w.group v) led.leader) s own.0 rows own.1 based.2 in
-      ordered_among w.group (known_by w nine m) s rows based.0 (omega (arith, low, base, grown))
-      (ordered_kept w m beginning nine led.begins s rows (own.1 ∙ ap (λ (x : List (List ℕ)). Some x) same))
+      order_there w connected v plan beginning six seventh eighth ninth live sound are (fair_seven, (fair_eight, (fair_nine, tt))) led
+      start_six (omega (arith, next, all)) low_six m is_m s rows h
 
   -- a request that the door said in the first round is eligible everywhere after the ninth
   request_eligible : (r : PoRequest) → HasSaid one door (body.PoRequest r) → r.k ≤ reach w.group
@@ -248,7 +202,7 @@ module _ (w : Setup) (connected : ℕ → Bool) (v : ℕ) (plan : Plan)
       (omega (arith, all, next)) (omega (arith, high, next)) door r h.is_connected said in
       let reached : eligible w.group found.1 door ≤ reach w.group (ordered_run w.group (facts_of w.group (known_by w nine m))) door
       = reach_member w.group (ordered_run w.group (facts_of w.group (known_by w nine m))) found.1 door
-      (order_there found.0 found.1 found.3) in
+      (there_is found.0 found.1 found.3) in
       let enough : r.k ≤ eligible w.group found.1 door = found.2 in
       omega (arith, reached, enough)
 
@@ -301,17 +255,8 @@ module _ (w : Setup) (connected : ℕ → Bool) (v : ℕ) (plan : Plan)
       found.3 in
       subst (λ (x : Update). IsIn x (executions w nine m)) is found.1
 
--- a list of so many has a first
-uncons : {X : Type 0} (n : ℕ) (xs : List X) → length xs ≡ suc n → (x : X) × (rest : List X) × (xs ≡ x ∷ rest) × (length rest ≡ n)
-uncons n [] e = absurd (omega arith)
-uncons n (x ∷ rest) e = (x, rest, refl, omega arith)
-
-emptied : {X : Type 0} (xs : List X) → length xs ≡ 0 → xs ≡ []
-emptied [] e = refl
-emptied (x ∷ xs) e = absurd (omega arith)
-
 -- rounds go on, one after the other
-rounds_begin : (beginning : List Entry) (rounds : List (List Entry)) → Begins beginning (then_rounds beginning rounds)
+pub rounds_begin : (beginning : List Entry) (rounds : List (List Entry)) → Begins beginning (then_rounds beginning rounds)
 rounds_begin beginning [] = record { rest = []; same = sym (append-nil beginning) }
 rounds_begin beginning (round ∷ rounds) = begins_through (begins_append beginning round) (rounds_begin (beginning ++ round) rounds)
 

@@ -1,6 +1,6 @@
 -- What all connected masters prepared, or committed, each of them knows a round later to be prepared, or committed, by a
 -- quorum.
-use Rattle.std.proofs.Common.{◌≡◌, ℕ, ◌+◌, ◌-◌, ◌≤◌, Bool, true, cond, ◌&&◌, List, [], ◌++◌}
+use Rattle.std.proofs.Common.{◌≡◌, ℕ, ◌≤◌, Bool, true, cond, ◌&&◌, List, [], ◌++◌}
 use Rattle.std.proofs.Common.{Option, Some, None, is_some, nat_eq, length, refl, sym, ap, subst, inl, inr}
 use Rattle.std.proofs.Common.{◌⊎◌, arith}
 use Rattle.std.proofs.lemmas.Bool.{and_from, cases_eq, eq-eqb, ne_eqb, not_from_false, le-leb}
@@ -68,7 +68,7 @@ told_commit g known p b among is = in_flat_map (tells g) among (by p.signer p.bo
     by signer word sig is = subst (λ (x : Body). IsIn (fact.Commit record { signer = signer; body = b; sig = sig })
         (tells g record { signer = signer; body = x; sig = sig })) (sym is) (here [])
 
-votes_for : (signer i v s : ℕ) (digest : List ℕ) → signer ≡ i →
+pub votes_for : (signer i v s : ℕ) (digest : List ℕ) → signer ≡ i →
     (nat_eq signer i && nat_eq v v && nat_eq s s && bytes_eq digest digest) ≡ true
 votes_for signer i v s digest by =
     and_from (nat_eq signer i && nat_eq v v && nat_eq s s) (bytes_eq digest digest)
@@ -77,7 +77,7 @@ votes_for signer i v s digest by =
     (self_bytes digest)
 
 -- where each of a quorum has a vote, there is a quorum of votes
-voted_by : {X : Type 0} (g : Group) (connected : ℕ → Bool) (vote : ℕ → OrderFact → Option X) (facts : List OrderFact) →
+pub voted_by : {X : Type 0} (g : Group) (connected : ℕ → Bool) (vote : ℕ → OrderFact → Option X) (facts : List OrderFact) →
     g.q ≤ length (voters connected g.n)
     → ((i : ℕ) → connected i ≡ true → is_some (first_of_list (filter_map (vote i) facts)) ≡ true)
     → is_voted g vote facts ≡ true

@@ -3,7 +3,7 @@
 -- numbers for a follower the leader counted: up to the plan's base what is ordered, above it what the view offers.
 use Rattle.std.proofs.Common.{◌≡◌, ℕ, ◌+◌, ◌-◌, ◌<◌, ◌≤◌, zero, suc, Bool, true, false, cond, ◌||◌, List, [], ◌∷◌, ◌++◌}
 use Rattle.std.proofs.Common.{Option, Some, None, length, map, nat_eq, nat_lt, nat_le, refl, sym, ◌∙◌, ap, subst, inl, inr, ◌⊎◌}
-use Rattle.std.proofs.Common.{arith, if◌then◌else◌, eqb-true, length-append}
+use Rattle.std.proofs.Common.{arith, eqb-true, length-append}
 use Rattle.std.proofs.lemmas.Bool.{and_from, or_left, or_right, cases_lt, cases_eq, lt-ltb, ltb-true, eq-eqb, ne_eqb}
 use Rattle.std.proofs.lemmas.Bool.{not_from_false, le-leb}
 use Rattle.std.specs.List.{list_all, find, filter_map}
@@ -91,7 +91,7 @@ reach_within g (x ∷ xs) ys j within =
     let rest : reach g xs j ≤ reach g ys j = reach_within g xs ys j (λ y h. within y (there x xs h)) in
     omega arith
 
-exceeds_less : (g : Group) (rows : List (List ℕ)) (f h : ℕ → ℕ) → ((j : ℕ) → h j ≤ f j) → exceeds g rows f ≡ true →
+pub exceeds_less : (g : Group) (rows : List (List ℕ)) (f h : ℕ → ℕ) → ((j : ℕ) → h j ≤ f j) → exceeds g rows f ≡ true →
     exceeds g rows h ≡ true
 exceeds_less g rows f h less e =
     let found = any_from (λ j. nat_lt (f j) (eligible g rows j)) (numbers_below g.n) e in

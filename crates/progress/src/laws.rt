@@ -1,6 +1,10 @@
 ghost use Rattle.progress.specs.Laws.{KnownGrows, WordsArrive, AllIsSaid, RequestsOnce, TurnsInARound, CertifiedInARound, ReachedInTwoRounds, EligibleInTwoRounds, EligibleInFourRounds, LeaderOffers, OfferedIsPrepared, PreparesArrive, PreparedIsCommitted, CommitsArrive, IntroducedInARound, UnderCorrectLeader};
 ghost use Rattle.progress.specs.UnderLeader.{PlansAgree, OfferedIsOffer, OrderedIsOffer, ProposedIsWorth, OfferIsPrepared, OfferIsOrdered, RequestedIsOffer, ExecutionsSpread};
 ghost use Rattle.progress.specs.Leaving.{VotesSpread, VotedIsLeft, ViewOpens};
+ghost use Rattle.progress.specs.Asking.{WaitingAsks, AskedIsGiven, NextIsGiven};
+ghost use Rattle.progress.specs.Marking.{OrderedIsMarked, MarksArrive, OrderedIsStable, OfferIsStable};
+ghost use Rattle.progress.specs.Keeping.{CertifiedIsOrdered, ConnectedAreShown, ServedInRounds, LeaderServes, LeaderIsKept, PatienceGrows};
+ghost use Rattle.progress.specs.Serving.{ImpatientVotes, StarvedVotes, StarvedIsLeft, ServedOrGone, UnvotedIsKept, PatientIsKept, ServedArePatient, ServedIsKept, NextViewOpens, UnderServingLeader};
 
 /// What a master knows only grows, at its end.
 pub fn known_grows()
@@ -135,4 +139,119 @@ pub fn voted_is_left()
 /// A view that all connected masters came to, and that one of them leads, is open to each two rounds later.
 pub fn view_opens()
     ensures { ViewOpens }
+{}
+
+/// A correct master votes at a tick at which its patience is at its end.
+pub fn impatient_votes()
+    ensures { ImpatientVotes }
+{}
+
+/// A correct master that lacked for longer than its patience what was eligible there has voted against its view.
+pub fn starved_votes()
+    ensures { StarvedVotes }
+{}
+
+/// A view in which more than f + k connected masters lacked something for so long all have left two rounds later.
+pub fn starved_is_left()
+    ensures { StarvedIsLeft }
+{}
+
+/// All connected masters leave a view once they waited for longer than their patience, or all but f + k were served.
+pub fn served_or_gone()
+    ensures { ServedOrGone }
+{}
+
+/// Where no connected master voted against a view no correct master knows a quorum's votes against it.
+pub fn unvoted_is_kept()
+    ensures { UnvotedIsKept }
+{}
+
+/// A view in which no connected master comes to the end of its patience no correct master goes beyond.
+pub fn patient_is_kept()
+    ensures { PatientIsKept }
+{}
+
+/// Who gets in time what it waits for doesn't come to the end of its patience.
+pub fn served_are_patient()
+    ensures { ServedArePatient }
+{}
+
+/// A view that serves the connected masters is kept.
+pub fn served_is_kept()
+    ensures { ServedIsKept }
+{}
+
+/// Progress under a connected leader that serves: what was handed to a door is executed nine rounds later.
+pub fn under_serving_leader()
+    ensures { UnderServingLeader }
+{}
+
+/// Who is served within so many rounds is served in time, where patience is longer than their ticks.
+pub fn served_in_rounds()
+    ensures { ServedInRounds }
+{}
+
+/// What each connected master has certified each has ordered six rounds later, under a connected leader.
+pub fn certified_is_ordered()
+    ensures { CertifiedIsOrdered }
+{}
+
+/// A connected leader serves, where nothing eligible stays hidden and patience is longer than eight rounds and these.
+pub fn leader_serves()
+    ensures { LeaderServes }
+{}
+
+/// So a connected leader isn't voted out.
+pub fn leader_is_kept()
+    ensures { LeaderIsKept }
+{}
+
+/// Where more than f + k connected masters starved the next view, if one of them leads it, is open to each four rounds later.
+pub fn next_view_opens()
+    ensures { NextViewOpens }
+{}
+
+/// What is eligible of a connected master's requests each of them has certified two rounds later.
+pub fn connected_are_shown()
+    ensures { ConnectedAreShown }
+{}
+
+/// A number that a connected master asked for, when another had it ordered, it has ordered two rounds later.
+pub fn asked_is_given()
+    ensures { AskedIsGiven }
+{}
+
+/// At a tick at which it has waited for more than 16 ticks a master asks for the next number, where it may ask.
+pub fn waiting_asks()
+    ensures { WaitingAsks }
+{}
+
+/// One that has waited for more than 16 ticks has one number more two rounds after its tick, where a connected master had it.
+pub fn next_is_given()
+    ensures { NextIsGiven }
+{}
+
+/// Patience grows as the views go round.
+pub fn patience_grows()
+    ensures { PatienceGrows }
+{}
+
+/// A correct master has marked what it has ordered without a gap, at each number that is to be marked.
+pub fn ordered_is_marked()
+    ensures { OrderedIsMarked }
+{}
+
+/// What all connected masters marked is stable at each a round later.
+pub fn marks_arrive()
+    ensures { MarksArrive }
+{}
+
+/// So what all of them have ordered up to such a number is stable at each a round later.
+pub fn ordered_is_stable()
+    ensures { OrderedIsStable }
+{}
+
+/// What a view offers up to a number that is to be marked is stable at each connected master four rounds later.
+pub fn offer_is_stable()
+    ensures { OfferIsStable }
 {}

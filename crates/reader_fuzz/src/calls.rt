@@ -8,9 +8,9 @@ use std::alloc::Global;
 use std::sync::Wait;
 use std::thread::Threads;
 
-const COMMANDS: [&str; 11] = [
+const COMMANDS: [&str; 15] = [
     "play", "run", "replay", "make", "keys", "verify", "parts", "rebuild", "blame", "trend",
-    "delays",
+    "delays", "page", "picture", "plot", "chart",
 ];
 
 /// What a call came to.

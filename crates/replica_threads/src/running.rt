@@ -86,7 +86,7 @@ fn run_named<N: Naming + Send + Sync, R: Threads + Wait + Sync, G: Gate + Sync>(
 
 /// A run of threads: the actors of a scenario, in the order of their numbers, once each has made so many turns, or was halted.
 /// `inputs` is what each is given from outside. A master has so many hands and each other actor one; each hand is a thread of
-/// its own where one can be made, and the gate may hold it back. `Want` only where memory ran out.
+/// its own where one can be made, and the gate may hold it back. (No clause speaks of hands.) `Want` only where memory ran out.
 pub fn run<R: Threads + Wait + Sync, G: Gate + Sync>(
     alloc: Global,
     rt: &R,

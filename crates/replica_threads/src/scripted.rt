@@ -18,7 +18,7 @@ use world_history::Kept;
 
 /// A run of threads in which each actor of a scenario is given what the script's lines and the words give it: the actors, in the
 /// order of their numbers, once each has made so many turns, or was halted. A master has so many hands and each other actor one,
-/// and the gate may hold them back. `Want` only where memory ran out.
+/// and the gate may hold them back. (No clause speaks of hands.) `Want` only where memory ran out.
 pub fn run_script<R: Threads + Wait + Sync, G: Gate + Sync>(
     alloc: Global,
     rt: &R,

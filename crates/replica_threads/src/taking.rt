@@ -15,7 +15,7 @@ use plain_lists::Want;
 use station_turns::Held;
 use std::sync::Wait;
 
-/// The next frame of an inbox, as a turn can take it: none where the inbox is empty, or where the frame doesn't stand.
+/// The next frame of an inbox, as a turn can take it: none where the inbox gave none, or where the frame doesn't stand.
 fn take_held<R: Wait>(
     rt: &R,
     shared: &Shared<'_>,

@@ -10,6 +10,7 @@ use Rattle.scenario_file.specs.declared.refusal.ScenarioRefusal.{ScenarioRefusal
 use Rattle.scenario_file.specs.declared.refusal.ScenarioRefusal.TheVariants as scenario
 use Rattle.history_rules.specs.Events.{Entry}
 use Rattle.command_words.specs.Wanted.{Wanted, play, run, replay, make, keys, verify, parts, rebuild, blame, trend, delays, page}
+use Rattle.command_words.specs.Wanted.{picture, plot, chart}
 use Rattle.command_words.specs.Wanted.{is_command, wanted_in}
 use Rattle.command_ends.specs.Refusals.{status_of}
 use Rattle.command_ends.specs.Steps.{Step}
@@ -108,6 +109,12 @@ course-of r (blame scenario history) p contents step is comes =
 course-of r (delays scenario history) p contents step is comes =
     subst (λ (q : List ℕ × List ℕ × Question). QuestionCourse r q.0 q.1 q.2 contents step) (same_Some _ _ is) comes
 course-of r (page scenario history) p contents step is comes =
+    subst (λ (q : List ℕ × List ℕ × Question). QuestionCourse r q.0 q.1 q.2 contents step) (same_Some _ _ is) comes
+course-of r (picture scenario history first last width) p contents step is comes =
+    subst (λ (q : List ℕ × List ℕ × Question). QuestionCourse r q.0 q.1 q.2 contents step) (same_Some _ _ is) comes
+course-of r (plot scenario history point width) p contents step is comes =
+    subst (λ (q : List ℕ × List ℕ × Question). QuestionCourse r q.0 q.1 q.2 contents step) (same_Some _ _ is) comes
+course-of r (chart scenario history width) p contents step is comes =
     subst (λ (q : List ℕ × List ℕ × Question). QuestionCourse r q.0 q.1 q.2 contents step) (same_Some _ _ is) comes
 course-of r (trend scenario history point from to) p contents step is comes =
     subst (λ (q : List ℕ × List ℕ × Question). QuestionCourse r q.0 q.1 q.2 contents step) (same_Some _ _ is) comes

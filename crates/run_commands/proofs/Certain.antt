@@ -1,6 +1,7 @@
 -- What comes next is one step, but for the text of a run in threads, which may be one of several.
 use Rattle.std.proofs.Common.{inl, inr, ◌≡◌, ℕ, Bool, true, false, List, [], ◌∷◌, Option, None, Some, sym, ◌∙◌, true≢false}
 use Rattle.command_words.specs.Wanted.{Wanted, play, run, replay, make, keys, verify, parts, rebuild, blame, trend, delays, page}
+use Rattle.command_words.specs.Wanted.{picture, plot, chart}
 use Rattle.command_words.specs.Wanted.{is_command, wanted_in}
 use Rattle.command_ends.specs.Steps.{Step}
 use Rattle.command_ends.specs.Complete.{IsAlike}
@@ -37,6 +38,9 @@ certain-command r (rebuild scenario pieces) contents one other single a b = a �
 certain-command r (blame scenario history) contents one other single a b = a ∙ sym b
 certain-command r (delays scenario history) contents one other single a b = a ∙ sym b
 certain-command r (page scenario history) contents one other single a b = a ∙ sym b
+certain-command r (picture scenario history first last width) contents one other single a b = a ∙ sym b
+certain-command r (plot scenario history point width) contents one other single a b = a ∙ sym b
+certain-command r (chart scenario history width) contents one other single a b = a ∙ sym b
 certain-command r (trend scenario history point first last) contents one other single a b = a ∙ sym b
 
 certain-asked : (r : Readers) (is : Bool) (asked : Option Wanted) (contents : List (List ℕ)) (one other : Step) →
@@ -76,6 +80,9 @@ alike-command r (rebuild scenario pieces) contents one other a b = alike-same on
 alike-command r (blame scenario history) contents one other a b = alike-same one other (a ∙ sym b)
 alike-command r (delays scenario history) contents one other a b = alike-same one other (a ∙ sym b)
 alike-command r (page scenario history) contents one other a b = alike-same one other (a ∙ sym b)
+alike-command r (picture scenario history first last width) contents one other a b = alike-same one other (a ∙ sym b)
+alike-command r (plot scenario history point width) contents one other a b = alike-same one other (a ∙ sym b)
+alike-command r (chart scenario history width) contents one other a b = alike-same one other (a ∙ sym b)
 alike-command r (trend scenario history point first last) contents one other a b = alike-same one other (a ∙ sym b)
 
 alike-asked : (r : Readers) (is : Bool) (asked : Option Wanted) (contents : List (List ℕ)) (one other : Step) →

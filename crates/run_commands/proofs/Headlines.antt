@@ -18,6 +18,7 @@ use Rattle.script_lines.specs.Sayings.{words_in}
 use Rattle.script_lines.specs.declared.script.Line.{Line}
 use Rattle.script_lines.specs.declared.saying.Saying.{Saying}
 use Rattle.command_words.specs.Wanted.{Wanted, play, run, replay, make, keys, verify, parts, rebuild, blame, trend, delays, page}
+use Rattle.command_words.specs.Wanted.{picture, plot, chart}
 use Rattle.command_words.specs.Wanted.{is_command, wanted_in}
 use Rattle.command_ends.specs.Refusals.{status_of}
 use Rattle.command_ends.specs.Steps.{Step}
@@ -31,9 +32,12 @@ use Rattle.run_commands.specs.Readers.{Readers, KeepsRules, are_in_range}
 use Rattle.run_commands.specs.Reading.{accepted, scenario_at, scenario_refusal, script_refusal, words_refusal}
 use Rattle.run_commands.specs.Reading.{with_scenario, with_script}
 use Rattle.run_commands.specs.Course.{CommandStep, AskedStep, NextStep, play_step, replay_step}
-use Rattle.run_commands.specs.Course.{Accepted, RunCourse, RunEnds, RunStep}
+use Rattle.run_commands.specs.Course.{Accepted, ScriptedCourse, RunCourse, RunEnds, RunStep}
+use Rattle.run_commands.specs.Told.{GivesTold, PlayEnds, ReplayEnds, ReplayCourse, ToldStep, ToldAsked, ToldNext, told_runs}
 use Rattle.run_commands.specs.Headline.{IsRun, Headline, KeepsHeadline, asks_for_run}
 use Rattle.command_ends.proofs.Completes.{file_of, is_text, text_in}
+use Rattle.run_commands.proofs.Scripting.{accepted-at}
+use Rattle.run_commands.proofs.Weaker.{told-next, weaker-loaded}
 
 abbrev is_refusal : Step → Bool
 is_refusal (Refuses why) = true
@@ -77,6 +81,19 @@ next-command r words w contents step asked other next =
     as-command r (is_command words) w contents step other
     (subst (λ (o : Option Wanted). AskedStep r (is_command words) o contents step) asked next)
 
+-- the same of a step that is told
+as-told : (r : Readers) (is : Bool) (w : Wanted) (contents : List (List ℕ)) (step : Step) → is_refusal step ≡ false →
+    ToldAsked r is (Some w) contents step → ToldStep r w contents step
+as-told r false w contents step other asked = absurd (true≢false (sym (ap is_refusal asked) ∙ other))
+as-told r true w contents step other asked = asked
+
+told-command : (r : Readers) (words : List (List ℕ)) (w : Wanted) (contents : List (List ℕ)) (step : Step) →
+    wanted_in words ≡ Some w
+    → is_refusal step ≡ false → ToldNext r words contents step → ToldStep r w contents step
+told-command r words w contents step asked other next =
+    as-told r (is_command words) w contents step other
+    (subst (λ (o : Option Wanted). ToldAsked r (is_command words) o contents step) asked next)
+
 -- the content is that of the file that is due
 pub same-file : (held : List ℕ → Option (List ℕ)) (name due content : List ℕ) → Load name ≡ Load due →
     IsContent (held name) content → IsContent (held due) content
@@ -102,9 +119,10 @@ play-whole : (r : Readers) → KeepsRules r → (call : Call) (scenario script w
     → Load a ≡ play_step r scenario script words [] → Load b ≡ play_step r scenario script words (first ∷ []) →
     Load d ≡ play_step r scenario script words (first ∷ second ∷ [])
     → Gives text ≡ play_step r scenario script words (first ∷ second ∷ third ∷ [])
+    → ScriptedCourse r (PlayEnds r) scenario script words (first ∷ second ∷ third ∷ []) (Gives text)
     → call.put_after ≡ with_piece call.put_before text → Headline r call
 play-whole r laws call scenario script words text first second third asked a b d at_a at_b
-    at_d due_a due_b due_d is put =
+    at_d due_a due_b due_d is told put =
     let one = accepted-gives scenario_refusal (scenario_at first) _ text is in
     let c : Contents = one.0 in
     let two = accepted-gives script_refusal (script_in (who_of c) second) _ text one.2 in
@@ -116,6 +134,15 @@ play-whole r laws call scenario script words text first second third asked a b d
     let history : List Entry = four.0 in
     let valid : IsScenario c = scenario-valid first c one.1 in
     let legal = laws.played_legal c lines sayings history valid (second, two.1) (third, three.1) four.1 in
+    let gives : GivesTold r c history (Gives text) =
+    accepted-at (λ (e : LineFault × ℕ). refusal.Script e.0 e.1) (r.played c lines sayings) history (GivesTold r c)
+    (Gives text) four.1
+    (accepted-at words_refusal (words_in (who_of c) third) sayings (PlayEnds r c lines) (Gives text) three.1
+    (accepted-at script_refusal (script_in (who_of c) second) lines
+    (λ ls. Accepted words_refusal (words_in (who_of c) third) (PlayEnds r c ls)) (Gives text) two.1
+    (accepted-at scenario_refusal (scenario_at first) c
+    (λ d. Accepted script_refusal (script_in (who_of d) second)
+    (λ ls. Accepted words_refusal (words_in (who_of d) third) (PlayEnds r d ls))) (Gives text) one.1 told))) in
     record {
       scenario = c;
       history = history;
@@ -124,37 +151,40 @@ play-whole r laws call scenario script words text first second third asked a b d
           (same-file call.held b script second (due-second script first b c one.1 due_b) at_b)
           (same-file call.held d words third (due-third words first second d c lines one.1 two.1 due_d) at_d)
           lines sayings one.1 two.1 three.1 four.1
-          (laws.played_unforged c lines sayings history valid (second, two.1) (third, three.1) four.1);
+          (laws.played_unforged c lines sayings history valid (second, two.1) (third, three.1) four.1)
+          (laws.played_told c lines sayings history valid (second, two.1) (third, three.1) four.1);
       legal = legal;
       put = put ∙ ap (λ (s : Step). with_piece call.put_before (text_in s)) four.2;
+      told = gives.1;
       agreed = headline_of_legal c history valid legal;
     }
 
 play-run : (r : Readers) → KeepsRules r → (call : Call) (scenario script words text : List ℕ) →
     wanted_in call.words ≡ Some (play scenario script words)
     → (contents : List (List ℕ)) → Loaded (NextStep r call.words) call.held [] contents →
-    NextStep r call.words contents (Gives text)
+    NextStep r call.words contents (Gives text) → ToldNext r call.words contents (Gives text)
     → call.put_after ≡ with_piece call.put_before text → Headline r call
-play-run r laws call scenario script words text asked [] loaded next put =
+play-run r laws call scenario script words text asked [] loaded next told put =
     absurd (no-text scenario text
     (next-command r call.words (play scenario script words) [] (Gives text) asked refl next))
-play-run r laws call scenario script words text asked (first ∷ []) loaded next put =
+play-run r laws call scenario script words text asked (first ∷ []) loaded next told put =
     let one = accepted-gives scenario_refusal (scenario_at first) (λ c. Load script) text
     (next-command r call.words (play scenario script words) (first ∷ []) (Gives text) asked refl next) in
     absurd (no-text script text one.2)
-play-run r laws call scenario script words text asked (first ∷ second ∷ []) loaded next put =
+play-run r laws call scenario script words text asked (first ∷ second ∷ []) loaded next told put =
     let one = accepted-gives scenario_refusal (scenario_at first) (λ c. with_script c second (λ lines. Load words)) text
     (next-command r call.words (play scenario script words) (first ∷ second ∷ []) (Gives text) asked refl next) in
     let two = accepted-gives script_refusal (script_in (who_of one.0) second) (λ lines. Load words) text one.2 in
     absurd (no-text words text two.2)
-play-run r laws call scenario script words text asked (first ∷ second ∷ third ∷ more) loaded next put =
+play-run r laws call scenario script words text asked (first ∷ second ∷ third ∷ more) loaded next told put =
     let w : Wanted = play scenario script words in
     play-whole r laws call scenario script words text first second third asked loaded.0 loaded.4.0 loaded.4.4.0
     loaded.2 loaded.4.2 loaded.4.4.2
     (next-command r call.words w [] (Load loaded.0) asked refl loaded.1)
     (next-command r call.words w (first ∷ []) (Load loaded.4.0) asked refl loaded.4.1)
     (next-command r call.words w (first ∷ second ∷ []) (Load loaded.4.4.0) asked refl loaded.4.4.1)
-    (next-command r call.words w (first ∷ second ∷ third ∷ more) (Gives text) asked refl next) put
+    (next-command r call.words w (first ∷ second ∷ third ∷ more) (Gives text) asked refl next)
+    (told-command r call.words w (first ∷ second ∷ third ∷ more) (Gives text) asked refl told) put
 
 -- ---- A replay.
 
@@ -163,14 +193,19 @@ replay-whole : (r : Readers) → KeepsRules r → (call : Call) (scenario spelt 
     IsContent (call.held b) second
     → Load a ≡ replay_step r scenario spelt [] → Load b ≡ replay_step r scenario spelt (first ∷ [])
     → Gives text ≡ replay_step r scenario spelt (first ∷ second ∷ [])
+    → ReplayCourse r scenario spelt (first ∷ second ∷ []) (Gives text)
     → call.put_after ≡ with_piece call.put_before text → Headline r call
-replay-whole r laws call scenario spelt text first second asked a b at_a at_b due_a due_b is put =
+replay-whole r laws call scenario spelt text first second asked a b at_a at_b due_a due_b is told put =
     let one = accepted-gives scenario_refusal (scenario_at first) _ text is in
     let c : Contents = one.0 in
     let two = accepted-gives (λ (e : LineFault × ℕ). refusal.History e.0 e.1) (r.history_in c second) _ text one.2 in
     let history : List Entry = two.0 in
     let valid : IsScenario c = scenario-valid first c one.1 in
     let legal = laws.read_legal c second history valid two.1 in
+    let gives : GivesTold r c history (Gives text) =
+    accepted-at (λ (e : LineFault × ℕ). refusal.History e.0 e.1) (r.history_in c second) history (GivesTold r c)
+    (Gives text) two.1
+    (accepted-at scenario_refusal (scenario_at first) c (ReplayEnds r second) (Gives text) one.1 told) in
     record {
       scenario = c;
       history = history;
@@ -180,26 +215,28 @@ replay-whole r laws call scenario spelt text first second asked a b at_a at_b du
           one.1 two.1;
       legal = legal;
       put = put ∙ ap (λ (s : Step). with_piece call.put_before (text_in s)) two.2;
+      told = gives.1;
       agreed = headline_of_legal c history valid legal;
     }
 
 replay-run : (r : Readers) → KeepsRules r → (call : Call) (scenario spelt text : List ℕ) →
     wanted_in call.words ≡ Some (replay scenario spelt)
     → (contents : List (List ℕ)) → Loaded (NextStep r call.words) call.held [] contents →
-    NextStep r call.words contents (Gives text)
+    NextStep r call.words contents (Gives text) → ToldNext r call.words contents (Gives text)
     → call.put_after ≡ with_piece call.put_before text → Headline r call
-replay-run r laws call scenario spelt text asked [] loaded next put =
+replay-run r laws call scenario spelt text asked [] loaded next told put =
     absurd (no-text scenario text (next-command r call.words (replay scenario spelt) [] (Gives text) asked refl next))
-replay-run r laws call scenario spelt text asked (first ∷ []) loaded next put =
+replay-run r laws call scenario spelt text asked (first ∷ []) loaded next told put =
     let one = accepted-gives scenario_refusal (scenario_at first) (λ c. Load spelt) text
     (next-command r call.words (replay scenario spelt) (first ∷ []) (Gives text) asked refl next) in
     absurd (no-text spelt text one.2)
-replay-run r laws call scenario spelt text asked (first ∷ second ∷ more) loaded next put =
+replay-run r laws call scenario spelt text asked (first ∷ second ∷ more) loaded next told put =
     let w : Wanted = replay scenario spelt in
     replay-whole r laws call scenario spelt text first second asked loaded.0 loaded.4.0 loaded.2 loaded.4.2
     (next-command r call.words w [] (Load loaded.0) asked refl loaded.1)
     (next-command r call.words w (first ∷ []) (Load loaded.4.0) asked refl loaded.4.1)
-    (next-command r call.words w (first ∷ second ∷ more) (Gives text) asked refl next) put
+    (next-command r call.words w (first ∷ second ∷ more) (Gives text) asked refl next)
+    (told-command r call.words w (first ∷ second ∷ more) (Gives text) asked refl told) put
 
 -- ---- Both.
 
@@ -227,23 +264,23 @@ run-whole : (r : Readers) → KeepsRules r → (call : Call) (scenario script wo
     → RunCourse r scenario script words turns [] (Load a)
     → RunCourse r scenario script words turns (first ∷ []) (Load b)
     → RunCourse r scenario script words turns (first ∷ second ∷ []) (Load d)
-    → RunCourse r scenario script words turns (first ∷ second ∷ third ∷ []) (Gives text)
+    → RunCourse (told_runs r) scenario script words turns (first ∷ second ∷ third ∷ []) (Gives text)
     → call.put_after ≡ with_piece call.put_before text → Headline r call
 run-whole r laws call scenario script words hands turns text first second third asked a b d at_a at_b
     at_d due_a due_b due_d is put =
     let one = text-after scenario_refusal (scenario_at first)
     (λ c. Accepted script_refusal (script_in (who_of c) second)
-    (λ ls. Accepted words_refusal (words_in (who_of c) third) (RunEnds r turns c ls))) text is in
+    (λ ls. Accepted words_refusal (words_in (who_of c) third) (RunEnds (told_runs r) turns c ls))) text is in
     let c : Contents = one.0 in
     let two = text-after script_refusal (script_in (who_of c) second)
-    (λ ls. Accepted words_refusal (words_in (who_of c) third) (RunEnds r turns c ls)) text one.2 in
+    (λ ls. Accepted words_refusal (words_in (who_of c) third) (RunEnds (told_runs r) turns c ls)) text one.2 in
     let lines : List Line = two.0 in
-    let three = text-after words_refusal (words_in (who_of c) third) (RunEnds r turns c lines) text two.2 in
+    let three = text-after words_refusal (words_in (who_of c) third) (RunEnds (told_runs r) turns c lines) text two.2 in
     let sayings : List Saying = three.0 in
-    let gives : RunEnds r turns c lines sayings (Gives text) = three.2 in
+    let gives : RunEnds (told_runs r) turns c lines sayings (Gives text) = three.2 in
     let history : List Entry = gives.0 in
     let valid : IsScenario c = scenario-valid first c one.1 in
-    let legal = laws.run_legal c lines sayings turns history gives.1 in
+    let legal = laws.run_legal c lines sayings turns history gives.1.0 in
     record {
       scenario = c;
       history = history;
@@ -251,9 +288,10 @@ run-whole r laws call scenario script words hands turns text first second third 
           (same-file call.held a scenario first due_a at_a)
           (same-file call.held b script second (due-second script first b c one.1 due_b) at_b)
           (same-file call.held d words third (due-third words first second d c lines one.1 two.1 due_d) at_d)
-          lines sayings one.1 two.1 three.1 gives.1;
+          lines sayings one.1 two.1 three.1 gives.1.0;
       legal = legal;
       put = put ∙ ap (λ (s : Step). with_piece call.put_before (text_in s)) gives.2;
+      told = gives.1.1;
       agreed = headline_of_legal c history valid legal;
     }
 
@@ -264,31 +302,40 @@ next-run r words scenario script spoken hands turns contents step asked other ne
     as-run r (are_in_range hands turns) scenario script spoken turns contents step other
     (next-command r words (run scenario script spoken hands turns) contents step asked other next)
 
+told-run : (r : Readers) (words : List (List ℕ)) (scenario script spoken : List ℕ) (hands turns : ℕ)
+    (contents : List (List ℕ)) (step : Step) → wanted_in words ≡ Some (run scenario script spoken hands turns)
+    → is_refusal step ≡ false → ToldNext r words contents step →
+    RunCourse (told_runs r) scenario script spoken turns contents step
+told-run r words scenario script spoken hands turns contents step asked other next =
+    as-run (told_runs r) (are_in_range hands turns) scenario script spoken turns contents step other
+    (told-command r words (run scenario script spoken hands turns) contents step asked other next)
+
 run-run : (r : Readers) → KeepsRules r → (call : Call) (scenario script words : List ℕ) (hands turns : ℕ)
     (text : List ℕ) → wanted_in call.words ≡ Some (run scenario script words hands turns)
     → (contents : List (List ℕ)) → Loaded (NextStep r call.words) call.held [] contents →
-    NextStep r call.words contents (Gives text)
+    NextStep r call.words contents (Gives text) → ToldNext r call.words contents (Gives text)
     → call.put_after ≡ with_piece call.put_before text → Headline r call
-run-run r laws call scenario script words hands turns text asked [] loaded next put =
+run-run r laws call scenario script words hands turns text asked [] loaded next told put =
     absurd (no-text scenario text
     (next-run r call.words scenario script words hands turns [] (Gives text) asked refl next))
-run-run r laws call scenario script words hands turns text asked (first ∷ []) loaded next put =
+run-run r laws call scenario script words hands turns text asked (first ∷ []) loaded next told put =
     let one = accepted-gives scenario_refusal (scenario_at first) (λ c. Load script) text
     (next-run r call.words scenario script words hands turns (first ∷ []) (Gives text) asked refl next) in
     absurd (no-text script text one.2)
-run-run r laws call scenario script words hands turns text asked (first ∷ second ∷ []) loaded next put =
+run-run r laws call scenario script words hands turns text asked (first ∷ second ∷ []) loaded next told put =
     let one = accepted-gives scenario_refusal (scenario_at first) (λ c. with_script c second (λ lines. Load words)) text
     (next-run r call.words scenario script words hands turns (first ∷ second ∷ []) (Gives text) asked refl next) in
     let two = accepted-gives script_refusal (script_in (who_of one.0) second) (λ lines. Load words) text one.2 in
     absurd (no-text words text two.2)
-run-run r laws call scenario script words hands turns text asked (first ∷ second ∷ third ∷ more) loaded next put =
+run-run r laws call scenario script words hands turns text asked (first ∷ second ∷ third ∷ more) loaded next told put =
     let course = next-run r call.words scenario script words hands turns in
     run-whole r laws call scenario script words hands turns text first second third asked
     loaded.0 loaded.4.0 loaded.4.4.0 loaded.2 loaded.4.2 loaded.4.4.2
     (course [] (Load loaded.0) asked refl loaded.1)
     (course (first ∷ []) (Load loaded.4.0) asked refl loaded.4.1)
     (course (first ∷ second ∷ []) (Load loaded.4.4.0) asked refl loaded.4.4.1)
-    (course (first ∷ second ∷ third ∷ more) (Gives text) asked refl next) put
+    (told-run r call.words scenario script words hands turns (first ∷ second ∷ third ∷ more) (Gives text) asked refl
+    told) put
 
 -- words that ask for none of these
 not-asked : false ≡ true → {A : Type 0} → A
@@ -297,25 +344,30 @@ not-asked is = absurd (true≢false (sym is))
 by-wanted : (r : Readers) → KeepsRules r → (call : Call) (text : List ℕ) (o : Option Wanted) → wanted_in call.words ≡ o →
     asks_for_run o ≡ true
     → (contents : List (List ℕ)) → Loaded (NextStep r call.words) call.held [] contents →
-    NextStep r call.words contents (Gives text)
+    NextStep r call.words contents (Gives text) → ToldNext r call.words contents (Gives text)
     → call.put_after ≡ with_piece call.put_before text → Headline r call
-by-wanted r laws call text (Some (play scenario script words)) asked asks contents loaded next put =
-    play-run r laws call scenario script words text asked contents loaded next put
-by-wanted r laws call text (Some (replay scenario history)) asked asks contents loaded next put =
-    replay-run r laws call scenario history text asked contents loaded next put
-by-wanted r laws call text None asked asks contents loaded next put = not-asked asks
-by-wanted r laws call text (Some (make number)) asked asks contents loaded next put = not-asked asks
-by-wanted r laws call text (Some (keys scenario)) asked asks contents loaded next put = not-asked asks
-by-wanted r laws call text (Some (verify public message sig)) asked asks contents loaded next put = not-asked asks
-by-wanted r laws call text (Some (run scenario script words hands turns)) asked asks contents loaded next put =
-    run-run r laws call scenario script words hands turns text asked contents loaded next put
-by-wanted r laws call text (Some (parts scenario history originator number)) asked asks contents loaded next put =
+by-wanted r laws call text (Some (play scenario script words)) asked asks contents loaded next told put =
+    play-run r laws call scenario script words text asked contents loaded next told put
+by-wanted r laws call text (Some (replay scenario history)) asked asks contents loaded next told put =
+    replay-run r laws call scenario history text asked contents loaded next told put
+by-wanted r laws call text None asked asks contents loaded next told put = not-asked asks
+by-wanted r laws call text (Some (make number)) asked asks contents loaded next told put = not-asked asks
+by-wanted r laws call text (Some (keys scenario)) asked asks contents loaded next told put = not-asked asks
+by-wanted r laws call text (Some (verify public message sig)) asked asks contents loaded next told put = not-asked asks
+by-wanted r laws call text (Some (run scenario script words hands turns)) asked asks contents loaded next told put =
+    run-run r laws call scenario script words hands turns text asked contents loaded next told put
+by-wanted r laws call text (Some (parts scenario history originator number)) asked asks contents loaded next told put =
     not-asked asks
-by-wanted r laws call text (Some (rebuild scenario pieces)) asked asks contents loaded next put = not-asked asks
-by-wanted r laws call text (Some (blame scenario history)) asked asks contents loaded next put = not-asked asks
-by-wanted r laws call text (Some (delays scenario history)) asked asks contents loaded next put = not-asked asks
-by-wanted r laws call text (Some (page scenario history)) asked asks contents loaded next put = not-asked asks
-by-wanted r laws call text (Some (trend scenario history point first last)) asked asks contents loaded next put =
+by-wanted r laws call text (Some (rebuild scenario pieces)) asked asks contents loaded next told put = not-asked asks
+by-wanted r laws call text (Some (blame scenario history)) asked asks contents loaded next told put = not-asked asks
+by-wanted r laws call text (Some (delays scenario history)) asked asks contents loaded next told put = not-asked asks
+by-wanted r laws call text (Some (page scenario history)) asked asks contents loaded next told put = not-asked asks
+by-wanted r laws call text (Some (picture scenario history first last width)) asked asks contents loaded next told put =
+    not-asked asks
+by-wanted r laws call text (Some (plot scenario history point width)) asked asks contents loaded next told put =
+    not-asked asks
+by-wanted r laws call text (Some (chart scenario history width)) asked asks contents loaded next told put = not-asked asks
+by-wanted r laws call text (Some (trend scenario history point first last)) asked asks contents loaded next told put =
     not-asked asks
 
 status-some : (why : Refusal) → 0 < status_of why
@@ -338,12 +390,15 @@ refused-not-well why err status zero (Told.begun is risen put) = let some = stat
 refused-not-well why err status zero (Told.memory is put) = absurd (omega arith)
 
 by-result : (r : Readers) → KeepsRules r → (call : Call) (err : ErrorSink) (status : ℕ) (result : Result (Unit {0}) Refusal)
-    → CauseOf (NextStep r) call result → Finishes result err status → KeepsHeadline r call status
+    → CauseOf (ToldNext r) call result → Finishes result err status → KeepsHeadline r call status
 by-result r laws call err status (Ok done) cause finish zero asks =
-    by-wanted r laws call cause.0 (wanted_in call.words) refl asks cause.1.0 cause.1.1 cause.1.2 cause.2
+    by-wanted r laws call cause.0 (wanted_in call.words) refl asks cause.1.0
+    (weaker-loaded (ToldNext r call.words) (NextStep r call.words) (told-next r call.words) call.held [] cause.1.0
+    cause.1.1)
+    (told-next r call.words cause.1.0 (Gives cause.0) cause.1.2) cause.1.2 cause.2
 by-result r laws call err status (Err why) cause finish zero asks = absurd (refused-not-well why err status zero finish)
 
 -- The headline holds of each play, each replay and each run in threads that ends well.
 pub headline : (r : Readers) → KeepsRules r → (call : Call) (err : ErrorSink) (status : ℕ) →
-    Ends (NextStep r) call err status → KeepsHeadline r call status
+    Ends (ToldNext r) call err status → KeepsHeadline r call status
 headline r laws call err status ends = by-result r laws call err status ends.result ends.cause ends.finish

@@ -8,10 +8,12 @@ use Rattle.command_ends.specs.Ended.{ErrorSink, Ends}
 use Rattle.command_ends.proofs.Completes.{completes}
 use Rattle.run_commands.specs.Readers.{Readers, KeepsRules}
 use Rattle.run_commands.specs.Course.{NextStep}
+use Rattle.run_commands.specs.Told.{ToldNext}
 use Rattle.run_commands.specs.Keeps.{asks_for_threads, KeepsComplete, KeepsCommands}
 use Rattle.run_commands.proofs.Answered.{answers, requests}
 use Rattle.run_commands.proofs.Certain.{alike, certain}
 use Rattle.run_commands.proofs.Headlines.{headline}
+use Rattle.run_commands.proofs.Weaker.{told-next, weaker-ends}
 
 -- where only one step may come, the call ended with it
 single : (r : Readers) (call : Call) (err : ErrorSink) (status : ℕ) → Completes (NextStep r) call err status →
@@ -26,11 +28,14 @@ keeps_complete : (r : Readers) (call : Call) (err : ErrorSink) (status : ℕ) �
 keeps_complete r call err status all = record { all = all; single = single r call err status all }
 
 pub keeps_commands : (r : Readers) → KeepsRules r → (call : Call) (err : ErrorSink) (status : ℕ) →
-    Ends (NextStep r) call err status → KeepsCommands r call err status
-keeps_commands r rules call err status ends = record {
-  ends = ends;
-  complete = keeps_complete r call err status (completes (NextStep r) call (alike r call.words) err status ends);
-  headline = headline r rules call err status ends;
-  answers = answers r rules call err status ends;
-  requests = requests r call err status ends;
-}
+    Ends (ToldNext r) call err status → KeepsCommands r call err status
+keeps_commands r rules call err status told =
+    let ends : Ends (NextStep r) call err status =
+    weaker-ends (ToldNext r) (NextStep r) (told-next r) call err status told in
+    record {
+      ends = ends;
+      complete = keeps_complete r call err status (completes (NextStep r) call (alike r call.words) err status ends);
+      headline = headline r rules call err status told;
+      answers = answers r rules call err status ends;
+      requests = requests r call err status ends;
+    }

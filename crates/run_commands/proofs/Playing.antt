@@ -7,7 +7,7 @@ use Rattle.scenario_file.specs.Reading.{Contents}
 use Rattle.history_rules.specs.Events.{Entry}
 use Rattle.script_lines.specs.declared.script.Line.{Line}
 use Rattle.script_lines.specs.declared.saying.Saying.{Saying}
-use Rattle.command_words.specs.Wanted.{Wanted, play, replay, is_command, wanted_in}
+use Rattle.command_words.specs.Wanted.{Wanted, is_command, wanted_in}
 use Rattle.command_ends.specs.Steps.{Step}
 use Rattle.command_ends.specs.Steps.Step.{Load, Gives, Refuses}
 use Rattle.command_ends.specs.Calls.{TextCause}
@@ -16,134 +16,99 @@ use Rattle.command_ends.specs.declared.refusal.Refusal.{Refusal}
 use Rattle.command_ends.specs.declared.refusal.Refusal.TheVariants as refusal
 use Rattle.run_commands.specs.MadeScript.{made_script}
 use Rattle.run_commands.specs.Readers.{Readers, PlayGives, ReplayGives}
-use Rattle.run_commands.specs.Reading.{accepted, with_scenario, with_script, with_words, with_play, with_history}
-use Rattle.run_commands.specs.Course.{play_step, made_history, VerifyStep, CommandStep, AskedStep, NextStep}
+use Rattle.run_commands.specs.Reading.{accepted, scenario_at, scenario_refusal, with_scenario, with_script, with_words}
+use Rattle.run_commands.specs.Reading.{with_play}
+use Rattle.run_commands.specs.Course.{made_history, VerifyStep}
+use Rattle.run_commands.specs.Told.{GivesTold, PlayEnds, ReplayEnds, ReplayCourse, ToldStep, ToldAsked, ToldNext}
 use Rattle.run_commands.specs.Opened.{LeadsTo, Leads}
 use Rattle.run_commands.specs.Made.{Makes, MakesRun, VerifyMakes}
 use Rattle.command_ends.proofs.Courses.{comes-now}
+use Rattle.run_commands.proofs.Scripting.{accepted-value, accepted-err}
 
 -- the words are a command that asks for this
 pub asked-now : (r : Readers) (words : List (List ℕ)) (w : Wanted) (held : List ℕ → Option (List ℕ))
     (first last : List ℕ → ℕ) (result : Result (Vec ℕ Global) Refusal)
-    → is_command words ≡ true → wanted_in words ≡ Some w → TextCause (CommandStep r w) held first last [] result
-    → TextCause (NextStep r words) held first last [] result
+    → is_command words ≡ true → wanted_in words ≡ Some w → TextCause (ToldStep r w) held first last [] result
+    → TextCause (ToldNext r words) held first last [] result
 asked-now r words w held first last result is asked cause =
-    subst (λ (b : Bool). TextCause (AskedStep r b (wanted_in words)) held first last [] result) (sym is)
-    (subst (λ (o : Option Wanted). TextCause (AskedStep r true o) held first last [] result) (sym asked) cause)
+    subst (λ (b : Bool). TextCause (ToldAsked r b (wanted_in words)) held first last [] result) (sym is)
+    (subst (λ (o : Option Wanted). TextCause (ToldAsked r true o) held first last [] result) (sym asked) cause)
 
--- ---- A play, file by file.
+-- ---- A play.
 
-pub play-first : (r : Readers) (scenario script words first : List ℕ) (c : Contents) → LeadsTo with_scenario first c
-    → CommandStep r (play scenario script words) (first ∷ []) (Load script)
-play-first r scenario script words first c one = sym (one (λ d. Load script))
-
-pub play-refused : (r : Readers) (scenario script words first : List ℕ) (w : Refusal) →
-    ((onward : Contents → Step) → with_scenario first onward ≡ Refuses w)
-    → CommandStep r (play scenario script words) (first ∷ []) (Refuses w)
-play-refused r scenario script words first w one = sym (one (λ d. Load script))
-
-pub play-second : (r : Readers) (scenario script words first second : List ℕ) (c : Contents) (lines : List Line) →
-    LeadsTo with_scenario first c
-    → LeadsTo (with_script c) second lines →
-    CommandStep r (play scenario script words) (first ∷ second ∷ []) (Load words)
-play-second r scenario script words first second c lines one two =
-    sym (one (λ d. with_script d second (λ ls. Load words)) ∙ two (λ ls. Load words))
-
-pub play-second-refused : (r : Readers) (scenario script words first second : List ℕ) (c : Contents) (w : Refusal) →
-    LeadsTo with_scenario first c
-    → ((onward : List Line → Step) → with_script c second onward ≡ Refuses w) →
-    CommandStep r (play scenario script words) (first ∷ second ∷ []) (Refuses w)
-play-second-refused r scenario script words first second c w one two =
-    sym (one (λ d. with_script d second (λ ls. Load words)) ∙ two (λ ls. Load words))
-
--- the last step, where scenario and script are read
-abbrev pub last-step : Readers → Contents → List Line → List Saying → Step
-last-step r c lines sayings = with_play r c lines sayings (λ history. Gives (r.text_of c history))
-
-play-third-is : (r : Readers) (scenario script words first second third : List ℕ) (c : Contents) (lines : List Line) →
-    LeadsTo with_scenario first c
-    → LeadsTo (with_script c) second lines
-    → play_step r scenario script words (first ∷ second ∷ third ∷ []) ≡ with_words c third
-    (λ sayings. last-step r c lines sayings)
-play-third-is r scenario script words first second third c lines one two =
-    one (λ d. with_script d second (λ ls. with_words d third (λ sayings. last-step r d ls sayings)))
-    ∙ two (λ ls. with_words c third (λ sayings. last-step r c ls sayings))
-
-pub play-third-refused : (r : Readers) (scenario script words first second third : List ℕ) (c : Contents)
-    (lines : List Line) (w : Refusal)
-    → LeadsTo with_scenario first c → LeadsTo (with_script c) second lines
-    → ((onward : List Saying → Step) → with_words c third onward ≡ Refuses w) →
-    CommandStep r (play scenario script words) (first ∷ second ∷ third ∷ []) (Refuses w)
-play-third-refused r scenario script words first second third c lines w one two three =
-    sym (play-third-is r scenario script words first second third c lines one two
-    ∙ three (λ sayings. last-step r c lines sayings))
-
-pub play-third : (r : Readers) (scenario script words first second third : List ℕ) (c : Contents) (lines : List Line)
-    (sayings : List Saying)
-    → LeadsTo with_scenario first c → LeadsTo (with_script c) second lines → LeadsTo (with_words c) third sayings
-    → CommandStep r (play scenario script words) (first ∷ second ∷ third ∷ []) (last-step r c lines sayings)
-play-third r scenario script words first second third c lines sayings one two three =
-    sym (play-third-is r scenario script words first second third c lines one two ∙ three (λ s. last-step r c lines s))
-
--- a play's text is what its history gives
-pub play-makes : (r : Readers) (c : Contents) (lines : List Line) (sayings : List Saying)
-    (result : Result (Vec ℕ Global) Refusal)
-    → PlayGives r c lines sayings result → Makes (last-step r c lines sayings) result
-play-makes r c lines sayings (Ok text) (history, played, is) =
-    ap (λ p. accepted (λ (e : LineFault × ℕ). refusal.Script e.0 e.1) p (λ h. Gives (r.text_of c h))) played
-    ∙ ap Gives (sym is)
-play-makes r c lines sayings (Err (refusal.Script fault number)) played =
-    ap (λ p. accepted (λ (e : LineFault × ℕ). refusal.Script e.0 e.1) p (λ h. Gives (r.text_of c h))) played
-play-makes r c lines sayings (Err refusal.Memory) gives = tt
-play-makes r c lines sayings (Err refusal.Usage) gives = absurd gives
-play-makes r c lines sayings (Err (refusal.Fault name)) gives = absurd gives
-play-makes r c lines sayings (Err (refusal.TooLong name)) gives = absurd gives
-play-makes r c lines sayings (Err (refusal.Scenario fault)) gives = absurd gives
-play-makes r c lines sayings (Err (refusal.Words fault number)) gives = absurd gives
-play-makes r c lines sayings (Err (refusal.History fault number)) gives = absurd gives
-play-makes r c lines sayings (Err refusal.NotVerified) gives = absurd gives
-play-makes r c lines sayings (Err (refusal.NoAnswer lack)) gives = absurd gives
-play-makes r c lines sayings (Err (refusal.Pieces at)) gives = absurd gives
-play-makes r c lines sayings (Err refusal.Output) gives = absurd gives
+-- the text of a play tells its history, and is one that may come now; so is the line at which it stops
+pub play-now : (next : List (List ℕ) → Step → Type 0) (held : List ℕ → Option (List ℕ)) (first last : List ℕ → ℕ)
+    (before : List (List ℕ))
+    (r : Readers) (c : Contents) (lines : List Line) (sayings : List Saying) (result : Result (Vec ℕ Global) Refusal)
+    → ((step : Step) → PlayEnds r c lines sayings step → next before step) → PlayGives r c lines sayings result
+    → TextCause next held first last before result
+play-now next held first last before r c lines sayings (Ok text) due (history, played, is, tells) =
+    comes-now next held before (Gives text.items)
+    (due (Gives text.items)
+    (accepted-value (λ (e : LineFault × ℕ). refusal.Script e.0 e.1) (r.played c lines sayings) history (GivesTold r c)
+    (Gives text.items) played (ap Gives is, tells)))
+play-now next held first last before r c lines sayings (Err (refusal.Script fault number)) due played =
+    comes-now next held before (Refuses (refusal.Script fault number))
+    (due (Refuses (refusal.Script fault number))
+    (accepted-err (λ (e : LineFault × ℕ). refusal.Script e.0 e.1) (r.played c lines sayings) (fault, number)
+    (GivesTold r c) played))
+play-now next held first last before r c lines sayings (Err refusal.Memory) due gives = tt
+play-now next held first last before r c lines sayings (Err refusal.Usage) due gives = absurd gives
+play-now next held first last before r c lines sayings (Err (refusal.Fault name)) due gives = absurd gives
+play-now next held first last before r c lines sayings (Err (refusal.TooLong name)) due gives = absurd gives
+play-now next held first last before r c lines sayings (Err (refusal.Scenario fault)) due gives = absurd gives
+play-now next held first last before r c lines sayings (Err (refusal.Words fault number)) due gives = absurd gives
+play-now next held first last before r c lines sayings (Err (refusal.History fault number)) due gives = absurd gives
+play-now next held first last before r c lines sayings (Err (refusal.Pieces at)) due gives = absurd gives
+play-now next held first last before r c lines sayings (Err refusal.NotVerified) due gives = absurd gives
+play-now next held first last before r c lines sayings (Err (refusal.NoAnswer lack)) due gives = absurd gives
+play-now next held first last before r c lines sayings (Err refusal.Output) due gives = absurd gives
 
 -- ---- A replay.
 
-pub replay-first : (r : Readers) (scenario history first : List ℕ) (c : Contents) → LeadsTo with_scenario first c
-    → CommandStep r (replay scenario history) (first ∷ []) (Load history)
-replay-first r scenario history first c one = sym (one (λ d. Load history))
+module _ (r : Readers) (scenario history : List ℕ) where
+  pub replay-first : (first : List ℕ) (c : Contents) → scenario_at first ≡ Ok c →
+      ReplayCourse r scenario history (first ∷ []) (Load history)
+  replay-first first c one = sym (ap (λ a. accepted scenario_refusal a (λ (d : Contents). Load history)) one)
 
-pub replay-refused : (r : Readers) (scenario history first : List ℕ) (w : Refusal) →
-    ((onward : Contents → Step) → with_scenario first onward ≡ Refuses w)
-    → CommandStep r (replay scenario history) (first ∷ []) (Refuses w)
-replay-refused r scenario history first w one = sym (one (λ d. Load history))
+  pub replay-refused : (first : List ℕ) (w : Refusal) →
+      ((onward : Contents → Step) → with_scenario first onward ≡ Refuses w)
+      → ReplayCourse r scenario history (first ∷ []) (Refuses w)
+  replay-refused first w one = sym (one (λ d. Load history))
 
-abbrev pub replay-last : Readers → Contents → List ℕ → Step
-replay-last r c text = with_history r c text (λ h. Gives (r.text_of c h))
+  pub replay-second : (first second : List ℕ) (c : Contents) (step : Step) → scenario_at first ≡ Ok c →
+      ReplayEnds r second c step
+      → ReplayCourse r scenario history (first ∷ second ∷ []) step
+  replay-second first second c step one ends =
+      accepted-value scenario_refusal (scenario_at first) c (ReplayEnds r second) step one ends
 
-pub replay-second : (r : Readers) (scenario history first second : List ℕ) (c : Contents) →
-    LeadsTo with_scenario first c
-    → CommandStep r (replay scenario history) (first ∷ second ∷ []) (replay-last r c second)
-replay-second r scenario history first second c one = sym (one (λ d. replay-last r d second))
-
-pub replay-makes : (r : Readers) (c : Contents) (text : List ℕ) (result : Result (Vec ℕ Global) Refusal) →
-    ReplayGives r c text result
-    → Makes (replay-last r c text) result
-replay-makes r c text (Ok printed) (history, spelt, is) =
-    ap (λ p. accepted (λ (e : LineFault × ℕ). refusal.History e.0 e.1) p (λ h. Gives (r.text_of c h))) spelt
-    ∙ ap Gives (sym is)
-replay-makes r c text (Err (refusal.History fault number)) spelt =
-    ap (λ p. accepted (λ (e : LineFault × ℕ). refusal.History e.0 e.1) p (λ h. Gives (r.text_of c h))) spelt
-replay-makes r c text (Err refusal.Memory) gives = tt
-replay-makes r c text (Err refusal.Usage) gives = absurd gives
-replay-makes r c text (Err (refusal.Fault name)) gives = absurd gives
-replay-makes r c text (Err (refusal.TooLong name)) gives = absurd gives
-replay-makes r c text (Err (refusal.Scenario fault)) gives = absurd gives
-replay-makes r c text (Err (refusal.Script fault number)) gives = absurd gives
-replay-makes r c text (Err (refusal.Words fault number)) gives = absurd gives
-replay-makes r c text (Err refusal.NotVerified) gives = absurd gives
-replay-makes r c text (Err (refusal.NoAnswer lack)) gives = absurd gives
-replay-makes r c text (Err (refusal.Pieces at)) gives = absurd gives
-replay-makes r c text (Err refusal.Output) gives = absurd gives
+-- the text of a history that is read tells it, and is the one that may come now; so is why there is none
+pub replay-now : (next : List (List ℕ) → Step → Type 0) (held : List ℕ → Option (List ℕ)) (first last : List ℕ → ℕ)
+    (before : List (List ℕ))
+    (r : Readers) (c : Contents) (text : List ℕ) (result : Result (Vec ℕ Global) Refusal)
+    → ((step : Step) → ReplayEnds r text c step → next before step) → ReplayGives r c text result
+    → TextCause next held first last before result
+replay-now next held first last before r c text (Ok printed) due (history, spelt, is, tells) =
+    comes-now next held before (Gives printed.items)
+    (due (Gives printed.items)
+    (accepted-value (λ (e : LineFault × ℕ). refusal.History e.0 e.1) (r.history_in c text) history (GivesTold r c)
+    (Gives printed.items) spelt (ap Gives is, tells)))
+replay-now next held first last before r c text (Err (refusal.History fault number)) due spelt =
+    comes-now next held before (Refuses (refusal.History fault number))
+    (due (Refuses (refusal.History fault number))
+    (accepted-err (λ (e : LineFault × ℕ). refusal.History e.0 e.1) (r.history_in c text) (fault, number)
+    (GivesTold r c) spelt))
+replay-now next held first last before r c text (Err refusal.Memory) due gives = tt
+replay-now next held first last before r c text (Err refusal.Usage) due gives = absurd gives
+replay-now next held first last before r c text (Err (refusal.Fault name)) due gives = absurd gives
+replay-now next held first last before r c text (Err (refusal.TooLong name)) due gives = absurd gives
+replay-now next held first last before r c text (Err (refusal.Scenario fault)) due gives = absurd gives
+replay-now next held first last before r c text (Err (refusal.Script fault number)) due gives = absurd gives
+replay-now next held first last before r c text (Err (refusal.Words fault number)) due gives = absurd gives
+replay-now next held first last before r c text (Err (refusal.Pieces at)) due gives = absurd gives
+replay-now next held first last before r c text (Err refusal.NotVerified) due gives = absurd gives
+replay-now next held first last before r c text (Err (refusal.NoAnswer lack)) due gives = absurd gives
+replay-now next held first last before r c text (Err refusal.Output) due gives = absurd gives
 
 -- ---- A made run.
 
@@ -204,7 +169,7 @@ pub run-played : (r : Readers) (c : Contents) (number : ℕ) (content : List ℕ
     → content ≡ made_script number → LeadsTo (with_script c) content lines → LeadsTo (with_words c) [] sayings →
     PlayGives r c lines sayings result
     → MakesRun r c number result
-run-played r c number content lines sayings (Ok text) is two three (history, played, printed) = (
+run-played r c number content lines sayings (Ok text) is two three (history, played, printed, tells) = (
   history,
   (λ onward. made-history-is r c number content lines sayings onward is two three
       ∙ ap (λ p. accepted (λ (e : LineFault × ℕ). refusal.Script e.0 e.1) p onward) played),

@@ -5,6 +5,7 @@ use Rattle.std.specs.declared.vec.Vec.{Vec}
 use Rattle.std.specs.declared.alloc.Global.{Global}
 use Rattle.scenario_file.specs.Reading.{Contents}
 use Rattle.command_words.specs.Wanted.{Wanted, play, run, replay, make, keys, verify, parts, rebuild, blame, trend, delays, page}
+use Rattle.command_words.specs.Wanted.{picture, plot, chart}
 use Rattle.command_ends.specs.Steps.{Step}
 use Rattle.command_ends.specs.Steps.Step.{Load, Gives, Refuses}
 use Rattle.command_ends.specs.Calls.{TextCause}
@@ -16,7 +17,8 @@ use Rattle.run_commands.specs.declared.questions.Question.{Question}
 use Rattle.run_commands.specs.Posed.{posed}
 use Rattle.run_commands.specs.Readers.{Readers, NoRequest, AnswerGives, RebuildGives, request_refusal}
 use Rattle.run_commands.specs.Reading.{accepted, with_scenario, with_history, with_answer, with_pieces}
-use Rattle.run_commands.specs.Course.{QuestionCourse, RebuildCourse, CommandStep}
+use Rattle.run_commands.specs.Course.{QuestionCourse, RebuildCourse}
+use Rattle.run_commands.specs.Told.{ToldStep}
 use Rattle.run_commands.specs.Opened.{LeadsTo}
 use Rattle.run_commands.specs.Made.{Makes}
 
@@ -37,7 +39,7 @@ pub question-cause : (r : Readers) (w : Wanted) (p : List ℕ × List ℕ × Que
     (first last : List ℕ → ℕ)
     (result : Result (Vec ℕ Global) Refusal) → posed w ≡ Some p →
     TextCause (QuestionCourse r p.0 p.1 p.2) held first last [] result
-    → TextCause (CommandStep r w) held first last [] result
+    → TextCause (ToldStep r w) held first last [] result
 question-cause r (parts scenario history originator number) p held first last result is cause =
     subst (CausedBy r held first last result) (sym (same_Some _ _ is)) cause
 question-cause r (blame scenario history) p held first last result is cause =
@@ -47,6 +49,12 @@ question-cause r (trend scenario history point from to) p held first last result
 question-cause r (delays scenario history) p held first last result is cause =
     subst (CausedBy r held first last result) (sym (same_Some _ _ is)) cause
 question-cause r (page scenario history) p held first last result is cause =
+    subst (CausedBy r held first last result) (sym (same_Some _ _ is)) cause
+question-cause r (picture scenario history from to width) p held first last result is cause =
+    subst (CausedBy r held first last result) (sym (same_Some _ _ is)) cause
+question-cause r (plot scenario history point width) p held first last result is cause =
+    subst (CausedBy r held first last result) (sym (same_Some _ _ is)) cause
+question-cause r (chart scenario history width) p held first last result is cause =
     subst (CausedBy r held first last result) (sym (same_Some _ _ is)) cause
 question-cause r (play scenario script words) p held first last result is cause = none p is
 question-cause r (run scenario script words hands turns) p held first last result is cause = none p is

@@ -1,7 +1,6 @@
--- The steps of a run in threads, file by file: which one comes next is that of a play, up to the last, where the text is
--- that of one of the histories that the run may make. So of two last steps both are texts.
+-- The last step of a run in threads: the text is that of one of the histories that the run may make. So of two last steps
+-- both are texts.
 use Rattle.std.proofs.Common.{◌≡◌, ℕ, Bool, true, false, List, [], ◌∷◌, Option, Result, Ok, Err, refl, sym, ◌∙◌, ap, subst}
-use Rattle.std.proofs.Common.{true≢false}
 use Rattle.std.specs.declared.vec.Vec.{Vec}
 use Rattle.std.specs.declared.alloc.Global.{Global}
 use Rattle.scenario_file.specs.Reading.{Contents}
@@ -11,91 +10,27 @@ use Rattle.script_lines.specs.Sayings.{words_in}
 use Rattle.script_lines.specs.declared.script.Line.{Line}
 use Rattle.script_lines.specs.declared.saying.Saying.{Saying}
 use Rattle.command_ends.specs.Steps.{Step}
-use Rattle.command_ends.specs.Steps.Step.{Load, Gives, Refuses}
+use Rattle.command_ends.specs.Steps.Step.{Gives, Refuses}
 use Rattle.command_ends.specs.Calls.{TextCause, CountsStay, FaultsOfFiles}
 use Rattle.command_ends.specs.Complete.{IsAlike}
 use Rattle.command_ends.specs.declared.refusal.Refusal.{Refusal}
 use Rattle.command_ends.specs.declared.refusal.Refusal.TheVariants as refusal
-use Rattle.command_ends.proofs.Completes.{is_load, alike-same}
+use Rattle.command_ends.proofs.Completes.{alike-same}
 use Rattle.command_ends.proofs.Courses.{comes-now}
 use Rattle.run_commands.specs.Readers.{Readers, RunGives}
-use Rattle.run_commands.specs.Reading.{accepted, scenario_at, scenario_refusal, script_refusal, words_refusal}
-use Rattle.run_commands.specs.Reading.{with_scenario, with_script, with_words}
+use Rattle.run_commands.specs.Reading.{scenario_at, scenario_refusal, script_refusal, words_refusal}
 use Rattle.run_commands.specs.Course.{Accepted, RunCourse, RunEnds, RunStep}
+use Rattle.run_commands.specs.Told.{told_runs}
 
--- what comes of a value that is accepted, and of one that isn't
-accepted-value : {A E : Type 0} (refuse : E → Refusal) (answer : Result A E) (value : A) (After : A → Step → Type 0)
-    (step : Step) → answer ≡ Ok value
-    → After value step → Accepted refuse answer After step
-accepted-value refuse answer value After step is after = subst (λ a. Accepted refuse a After step) (sym is) after
-
-accepted-fault : {A E : Type 0} (refuse : E → Refusal) (answer : Result A E) (After : A → Step → Type 0) (w : Refusal)
-    → ((onward : A → Step) → accepted refuse answer onward ≡ Refuses w) → Accepted refuse answer After (Refuses w)
-accepted-fault refuse (Ok value) After w refused = absurd (true≢false (ap is_load (refused (λ v. Load []))))
-accepted-fault refuse (Err e) After w refused = sym (refused (λ v. Load []))
-
-module _ (r : Readers) (scenario script words : List ℕ) (turns : ℕ) where
-  pub run-first : (first : List ℕ) (c : Contents) → scenario_at first ≡ Ok c →
-      RunCourse r scenario script words turns (first ∷ []) (Load script)
-  run-first first c one = sym (ap (λ a. accepted scenario_refusal a (λ (d : Contents). Load script)) one)
-
-  pub run-refused : (first : List ℕ) (w : Refusal) →
-      ((onward : Contents → Step) → with_scenario first onward ≡ Refuses w)
-      → RunCourse r scenario script words turns (first ∷ []) (Refuses w)
-  run-refused first w one = sym (one (λ d. Load script))
-
-  pub run-second : (first second : List ℕ) (c : Contents) (lines : List Line) →
-      scenario_at first ≡ Ok c
-      → script_in (who_of c) second ≡ Ok lines →
-      RunCourse r scenario script words turns (first ∷ second ∷ []) (Load words)
-  run-second first second c lines one two =
-      sym (ap (λ a. accepted scenario_refusal a (λ (d : Contents). with_script d second (λ ls. Load words))) one
-      ∙ ap (λ a. accepted script_refusal a (λ (ls : List Line). Load words)) two)
-
-  pub run-second-refused : (first second : List ℕ) (c : Contents) (w : Refusal) →
-      scenario_at first ≡ Ok c
-      → ((onward : List Line → Step) → with_script c second onward ≡ Refuses w) →
-      RunCourse r scenario script words turns (first ∷ second ∷ []) (Refuses w)
-  run-second-refused first second c w one two =
-      sym (ap (λ a. accepted scenario_refusal a (λ (d : Contents). with_script d second (λ ls. Load words))) one
-      ∙ two (λ ls. Load words))
-
-  pub run-third : (first second third : List ℕ) (c : Contents) (lines : List Line)
-      (sayings : List Saying) (step : Step)
-      → scenario_at first ≡ Ok c → script_in (who_of c) second ≡ Ok lines → words_in (who_of c) third ≡ Ok sayings
-      → RunEnds r turns c lines sayings step →
-      RunCourse r scenario script words turns (first ∷ second ∷ third ∷ []) step
-  run-third first second third c lines sayings step one two three gives =
-      accepted-value scenario_refusal (scenario_at first) c
-      (λ d. Accepted script_refusal (script_in (who_of d) second)
-      (λ ls. Accepted words_refusal (words_in (who_of d) third) (RunEnds r turns d ls)))
-      step one
-      (accepted-value script_refusal (script_in (who_of c) second) lines
-      (λ ls. Accepted words_refusal (words_in (who_of c) third) (RunEnds r turns c ls)) step two
-      (accepted-value words_refusal (words_in (who_of c) third) sayings (RunEnds r turns c lines) step three gives))
-
-  pub run-third-refused : (first second third : List ℕ) (c : Contents) (lines : List Line) (w : Refusal)
-      → scenario_at first ≡ Ok c → script_in (who_of c) second ≡ Ok lines
-      → ((onward : List Saying → Step) → with_words c third onward ≡ Refuses w) →
-      RunCourse r scenario script words turns (first ∷ second ∷ third ∷ []) (Refuses w)
-  run-third-refused first second third c lines w one two three =
-      accepted-value scenario_refusal (scenario_at first) c
-      (λ d. Accepted script_refusal (script_in (who_of d) second)
-      (λ ls. Accepted words_refusal (words_in (who_of d) third) (RunEnds r turns d ls)))
-      (Refuses w) one
-      (accepted-value script_refusal (script_in (who_of c) second) lines
-      (λ ls. Accepted words_refusal (words_in (who_of c) third) (RunEnds r turns c ls)) (Refuses w) two
-      (accepted-fault words_refusal (words_in (who_of c) third) (RunEnds r turns c lines) w three))
-
--- the text that was made is one that may come now
+-- the text that was made is one that may come now, and tells its history
 pub run-now : (next : List (List ℕ) → Step → Type 0) (held : List ℕ → Option (List ℕ)) (first last : List ℕ → ℕ)
     (before : List (List ℕ))
     (r : Readers) (turns : ℕ) (c : Contents) (lines : List Line) (sayings : List Saying)
     (result : Result (Vec ℕ Global) Refusal)
-    → ((step : Step) → RunEnds r turns c lines sayings step → next before step) → RunGives r c lines sayings turns result
+    → ((step : Step) → RunEnds (told_runs r) turns c lines sayings step → next before step) → RunGives r c lines sayings turns result
     → TextCause next held first last before result
-run-now next held first last before r turns c lines sayings (Ok text) due makes =
-    comes-now next held before (Gives text.items) (due (Gives text.items) (makes.0, makes.1, ap Gives makes.2))
+run-now next held first last before r turns c lines sayings (Ok text) due (history, may, is, tells) =
+    comes-now next held before (Gives text.items) (due (Gives text.items) (history, (may, tells), ap Gives is))
 run-now next held first last before r turns c lines sayings (Err refusal.Usage) due makes = absurd makes
 run-now next held first last before r turns c lines sayings (Err (refusal.Fault name)) due makes = absurd makes
 run-now next held first last before r turns c lines sayings (Err (refusal.TooLong name)) due makes = absurd makes

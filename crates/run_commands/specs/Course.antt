@@ -1,5 +1,6 @@
 -- What each command does, step by step. (This project's own.)
 use Rattle.std.specs.Prelude.{◌≡◌, ◌⊎◌, ℕ, Bool, true, false, List, [], ◌∷◌, Option, None, Some, Result, Ok, Err}
+use Rattle.std.specs.Prelude.{unwrap_or}
 use Rattle.scenario_file.specs.Reading.{Contents}
 use Rattle.history_rules.specs.Events.{Entry}
 use Rattle.script_grammar.specs.Names.{who_of}
@@ -9,6 +10,7 @@ use Rattle.script_lines.specs.declared.script.Line.{Line}
 use Rattle.script_lines.specs.declared.saying.Saying.{Saying}
 use Rattle.hash_signatures.specs.Verification.{Verifies}
 use Rattle.command_words.specs.Wanted.{Wanted, play, run, replay, make, keys, verify, parts, rebuild, blame, trend, delays, page}
+use Rattle.command_words.specs.Wanted.{picture, plot, chart}
 use Rattle.command_words.specs.Wanted.{is_command, wanted_in}
 use Rattle.run_commands.specs.MadeScenario.{made_scenario}
 use Rattle.run_commands.specs.MadeScript.{made_script}
@@ -45,13 +47,19 @@ abbrev pub RunEnds : Readers → ℕ → Contents → List Line → List Saying 
 RunEnds r turns c lines sayings step =
     (history : List Entry) × r.may_run c lines sayings turns history × (step ≡ Gives (r.text_of c history))
 
--- The files of a run in threads are loaded and refused as those of a play are. What comes of them is the text of a run.
-abbrev pub RunCourse : Readers → List ℕ → List ℕ → List ℕ → ℕ → List (List ℕ) → Step → Type 0
-RunCourse r scenario script words turns (a ∷ b ∷ d ∷ more) step =
+-- Files are loaded and refused as those of a play are. What comes of all three is told apart.
+abbrev pub ScriptedCourse : Readers → (Contents → List Line → List Saying → Step → Type 0) → List ℕ → List ℕ → List ℕ →
+    List (List ℕ) → Step → Type 0
+ScriptedCourse r EndsIn scenario script words (a ∷ b ∷ d ∷ more) step =
     Accepted scenario_refusal (scenario_at a)
     (λ c. Accepted script_refusal (script_in (who_of c) b)
-    (λ lines. Accepted words_refusal (words_in (who_of c) d) (RunEnds r turns c lines))) step
-RunCourse r scenario script words turns contents step = step ≡ play_step r scenario script words contents
+    (λ lines. Accepted words_refusal (words_in (who_of c) d) (EndsIn c lines))) step
+ScriptedCourse r EndsIn scenario script words contents step = step ≡ play_step r scenario script words contents
+
+-- those of a run in threads, of which the text of a run comes
+abbrev pub RunCourse : Readers → List ℕ → List ℕ → List ℕ → ℕ → List (List ℕ) → Step → Type 0
+RunCourse r scenario script words turns contents step =
+    ScriptedCourse r (RunEnds r turns) scenario script words contents step
 
 -- other numbers of hands or turns are no command
 abbrev pub RunStep : Readers → Bool → List ℕ → List ℕ → List ℕ → ℕ → List (List ℕ) → Step → Type 0
@@ -132,6 +140,12 @@ CommandStep r (trend scenario history point first last) contents step =
     QuestionCourse r scenario history (question.Trend point first last) contents step
 CommandStep r (delays scenario history) contents step = QuestionCourse r scenario history question.Delays contents step
 CommandStep r (page scenario history) contents step = QuestionCourse r scenario history question.Page contents step
+CommandStep r (picture scenario history first last width) contents step =
+    QuestionCourse r scenario history (question.Picture first last (unwrap_or width 900)) contents step
+CommandStep r (plot scenario history point width) contents step =
+    QuestionCourse r scenario history (question.Plot point (unwrap_or width 900)) contents step
+CommandStep r (chart scenario history width) contents step =
+    QuestionCourse r scenario history (question.Chart (unwrap_or width 900)) contents step
 
 -- The same of words: those that aren't a command are refused at once.
 abbrev pub AskedStep : Readers → Bool → Option Wanted → List (List ℕ) → Step → Type 0

@@ -1,5 +1,5 @@
 -- THE HEADLINE, as a clause of the program. Whatever the scenario, the words and the schedule of plays and of threads:
--- the text that is put is that of one legal history, one that the files define; and where at most f masters are
+-- the text that is put is that of one legal history, one that the files define, and is read again as it; and where at most f masters are
 -- intruded and the printed audit shows no forged word and no shared digest, what is printed is agreed on, as `Agreed`
 -- of `world_rules` has it: of any two correct masters' executions one begins the other, no update stands there twice or
 -- was never said by its client, and each proxy's writes begin a correct master's orders.
@@ -18,10 +18,10 @@ use Rattle.script_lines.specs.declared.script.Line.{Line}
 use Rattle.script_lines.specs.declared.saying.Saying.{Saying}
 use Rattle.command_words.specs.Wanted.{Wanted, play, run, replay, wanted_in}
 use Rattle.command_ends.specs.Calls.{Call, IsContent}
-use Rattle.run_commands.specs.Readers.{Readers, AreNotRaw}
+use Rattle.run_commands.specs.Readers.{Readers, AreNotRaw, Tells}
 use Rattle.run_commands.specs.Reading.{scenario_at}
 
--- The history of a call: the one that a play's script and words define, the one that a replay's file spells, or one that
+-- The history of a call: the one that a play's script and words define, which is told as it is, the one that a replay's file spells, or one that
 -- a run in threads of a script and words may make, for as many turns as the call's words say.
 pub data IsRun (r : Readers) (call : Call) (c : Contents) (history : List Entry) : Type 0 where
   plays : (scenario script words : List ℕ) → wanted_in call.words ≡ Some (play scenario script words)
@@ -31,6 +31,7 @@ pub data IsRun (r : Readers) (call : Call) (c : Contents) (history : List Entry)
       → scenario_at a ≡ Ok c → script_in (who_of c) b ≡ Ok lines → words_in (who_of c) d ≡ Ok sayings →
       r.played c lines sayings ≡ Ok history
       → (AreNotRaw sayings → forged (setup_of c) history ≡ 0)
+      → r.as_told c history ≡ history
       → IsRun r call c history
   replays : (scenario text : List ℕ) → wanted_in call.words ≡ Some (replay scenario text)
       → (a b : List ℕ) → IsContent (call.held scenario) a → IsContent (call.held text) b
@@ -51,6 +52,7 @@ pub record Headline (r : Readers) (call : Call) : Type 0 where
   pub run : IsRun r call scenario history
   pub legal : IsLegal (setup_of scenario) history
   pub put : call.put_after ≡ with_piece call.put_before (r.text_of scenario history)
+  pub told : Tells r scenario history
   pub agreed : Premises (setup_of scenario) history → Agreed scenario history
 
 -- words that ask for a play, a replay or a run in threads

@@ -7,6 +7,7 @@ pub mod Posed
 pub mod Readers
 pub mod Reading
 pub mod Course
+pub mod Told
 pub mod Opened
 pub mod Made
 pub mod Headline

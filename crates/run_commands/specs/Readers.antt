@@ -29,13 +29,14 @@ pub data NoRequest : Type 0 where
   NoText : NoRequest
 
 -- The one history of a script and words, the history that a text spells, and the text of a history; or the first fault
--- with its number. Which histories a run in threads of a script and words may make, for so many turns. Then what a
--- question over a history is answered with, and the request that lines of parts rebuild, as text; or why there is none.
+-- with its number. Which histories a run in threads of a script and words may make, for so many turns, and the history
+-- as its text tells it. Then what a question over a history is answered with, and the request that lines of parts rebuild, as text; or why there is none.
 pub record Readers : Type 1 where
   pub played : Contents → List Line → List Saying → Result (List Entry) (LineFault × ℕ)
   pub may_run : Contents → List Line → List Saying → ℕ → List Entry → Type 0
   pub history_in : Contents → List ℕ → Result (List Entry) (LineFault × ℕ)
   pub text_of : Contents → List Entry → List ℕ
+  pub as_told : Contents → List Entry → List Entry
   pub answered : Contents → List Entry → Question → Result (List ℕ) NoAnswer
   pub rebuilt : Contents → List ℕ → Result (List ℕ) NoRequest
 
@@ -54,8 +55,12 @@ AreWordsOf c sayings = (bytes : List ℕ) × (words_in (who_of c) bytes ≡ Ok s
 abbrev pub are_in_range : ℕ → ℕ → Bool
 are_in_range hands turns = (nat_le 1 hands && nat_le hands 4) && (nat_le 1 turns && nat_le turns 4000)
 
--- What holds of these: a history played from files is legal, and without raw words nothing in it is forged; a history of
--- a run in threads is legal, and so is one that a text spells.
+-- the text of a history is read again as that history, as its text tells it
+abbrev pub Tells : Readers → Contents → List Entry → Type 0
+Tells r c history = r.history_in c (r.text_of c history) ≡ Ok (r.as_told c history)
+
+-- What holds of these: a history played from files is legal and told as it is, and without raw words nothing in it is
+-- forged; a history of a run in threads is legal, and so is one that a text spells.
 pub record KeepsRules (r : Readers) : Type 0 where
   pub played_legal : (c : Contents) (lines : List Line) (sayings : List Saying) (history : List Entry) → IsScenario c
       → IsScriptOf c lines → AreWordsOf c sayings → r.played c lines sayings ≡ Ok history
@@ -63,31 +68,34 @@ pub record KeepsRules (r : Readers) : Type 0 where
   pub played_unforged : (c : Contents) (lines : List Line) (sayings : List Saying) (history : List Entry) → IsScenario c
       → IsScriptOf c lines → AreWordsOf c sayings → r.played c lines sayings ≡ Ok history
       → AreNotRaw sayings → forged (setup_of c) history ≡ 0
+  pub played_told : (c : Contents) (lines : List Line) (sayings : List Saying) (history : List Entry) → IsScenario c
+      → IsScriptOf c lines → AreWordsOf c sayings → r.played c lines sayings ≡ Ok history
+      → r.as_told c history ≡ history
   pub run_legal : (c : Contents) (lines : List Line) (sayings : List Saying) (turns : ℕ) (history : List Entry) →
       r.may_run c lines sayings turns history → IsLegal (setup_of c) history
   pub read_legal : (c : Contents) (text : List ℕ) (history : List Entry) → IsScenario c →
       r.history_in c text ≡ Ok history
       → IsLegal (setup_of c) history
 
--- the text of a play, or the line at which it stops
+-- the text of a play, which tells its history, or the line at which it stops
 abbrev pub PlayGives : Readers → Contents → List Line → List Saying → Result (Vec ℕ Global) Refusal → Type 0
 PlayGives r c lines sayings (Ok text) = (history : List Entry) × (r.played c lines sayings ≡ Ok history)
-    × (text.items ≡ r.text_of c history)
+    × (text.items ≡ r.text_of c history) × Tells r c history
 PlayGives r c lines sayings (Err (refusal.Script fault line)) = r.played c lines sayings ≡ Err (fault, line)
 PlayGives r c lines sayings (Err refusal.Memory) = Unit {0}
 PlayGives r c lines sayings (Err _) = ⊥
 
--- the text of one of the histories that a run in threads may make, unless memory ran out
+-- the text of one of the histories that a run in threads may make, which tells it, unless memory ran out
 abbrev pub RunGives : Readers → Contents → List Line → List Saying → ℕ → Result (Vec ℕ Global) Refusal → Type 0
 RunGives r c lines sayings turns (Ok text) = (history : List Entry) × r.may_run c lines sayings turns history
-    × (text.items ≡ r.text_of c history)
+    × (text.items ≡ r.text_of c history) × Tells r c history
 RunGives r c lines sayings turns (Err refusal.Memory) = Unit {0}
 RunGives r c lines sayings turns (Err _) = ⊥
 
--- the text of a history that is read, or why it isn't one
+-- the text of a history that is read, which tells it, or why it isn't one
 abbrev pub ReplayGives : Readers → Contents → List ℕ → Result (Vec ℕ Global) Refusal → Type 0
 ReplayGives r c bytes (Ok text) = (history : List Entry) × (r.history_in c bytes ≡ Ok history)
-    × (text.items ≡ r.text_of c history)
+    × (text.items ≡ r.text_of c history) × Tells r c history
 ReplayGives r c bytes (Err (refusal.History fault number)) = r.history_in c bytes ≡ Err (fault, number)
 ReplayGives r c bytes (Err refusal.Memory) = Unit {0}
 ReplayGives r c bytes (Err _) = ⊥

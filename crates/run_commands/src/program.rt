@@ -1,8 +1,8 @@
 ghost use Rattle.std.specs.Prelude.{◌≡◌, ℕ, List, [], None};
 ghost use Rattle.command_words.specs.Wanted.{wanted};
 ghost use Rattle.command_ends.specs.Calls.{TextCause, FaultsOfFiles};
-ghost use Rattle.run_commands.specs.Course.{CommandStep, NextStep};
 ghost use Rattle.run_commands.specs.Posed.{posed};
+ghost use Rattle.run_commands.specs.Told.{ToldStep, ToldNext};
 
 use crate::answering::{answer, rebuild};
 use crate::made::make;
@@ -24,7 +24,7 @@ pub struct Program<R: Runs + Drop> {
 }
 
 impl<R: Runs + Drop> Commands for Program<R> {
-    ghost next = { NextStep R.readers };
+    ghost next = { ToldNext R.readers };
 
     ghost ready = { λ program. R.ready program.runs };
 
@@ -51,7 +51,7 @@ fn command_text<R: Runs, F: Files>(
 ) -> Result<Vec<u8>, Refusal>
     requires { R.ready runs.now }
     ensures file_faults { FaultsOfFiles result (F.faults files.old) (F.faults files.new) }
-    ensures cause { TextCause (CommandStep R.readers (wanted asked.entry)) (F.held files.old) (F.faults files.old) (F.faults files.new) [] result }
+    ensures cause { TextCause (ToldStep R.readers (wanted asked.entry)) (F.held files.old) (F.faults files.old) (F.faults files.new) [] result }
 {
     match posed(asked) {
         Some((scenario, history, question)) => {
@@ -71,7 +71,7 @@ fn unposed_text<R: Runs, F: Files>(
     requires ready { R.ready runs.now }
     requires none { posed (wanted asked) ≡ None }
     ensures file_faults { FaultsOfFiles result (F.faults files.old) (F.faults files.new) }
-    ensures cause { TextCause (CommandStep R.readers (wanted asked.entry)) (F.held files.old) (F.faults files.old) (F.faults files.new) [] result }
+    ensures cause { TextCause (ToldStep R.readers (wanted asked.entry)) (F.held files.old) (F.faults files.old) (F.faults files.new) [] result }
 {
     match asked {
         Asked::Play {

@@ -1,14 +1,15 @@
-ghost use Rattle.std.specs.Prelude.{◌≡◌, ℕ, List, [], ◌∷◌};
+ghost use Rattle.std.specs.Prelude.{◌≡◌, ℕ, List, [], ◌∷◌, Ok};
 ghost use Rattle.scenario_file.specs.Reading.{contents};
 ghost use Rattle.scenario_file.specs.Valid.{IsScenario};
-ghost use Rattle.command_words.specs.Wanted.{play, replay};
 ghost use Rattle.command_ends.specs.Steps.Step.{Gives};
 ghost use Rattle.command_ends.specs.Calls.{TextCause, FaultsOfFiles};
+ghost use Rattle.script_grammar.specs.Names.{who_of};
+ghost use Rattle.script_lines.specs.Scripts.{script_in};
 ghost use Rattle.run_commands.specs.Keys.{keys_text};
 ghost use Rattle.run_commands.specs.Readers.{IsScriptOf};
-ghost use Rattle.run_commands.specs.Reading.{with_scenario, with_script};
-ghost use Rattle.run_commands.specs.Course.{CommandStep, KeysCourse};
-ghost use Rattle.run_commands.specs.Opened.{LeadsTo};
+ghost use Rattle.run_commands.specs.Reading.{scenario_at};
+ghost use Rattle.run_commands.specs.Course.{KeysCourse, ScriptedCourse};
+ghost use Rattle.run_commands.specs.Told.{PlayEnds, ReplayCourse};
 ghost use Rattle.run_commands.specs.Made.{Makes};
 
 use crate::actor_lines::keys_text;
@@ -30,7 +31,7 @@ pub fn play<R: Runs, F: Files>(
     files: &mut F,
 ) -> Result<Vec<u8>, Refusal>
     ensures file_faults { FaultsOfFiles result (F.faults files.old) (F.faults files.new) }
-    ensures cause { TextCause (CommandStep R.readers (play scenario.now script.now words.now)) (F.held files.old) (F.faults files.old) (F.faults files.new) [] result }
+    ensures cause { TextCause (ScriptedCourse R.readers (PlayEnds R.readers) scenario.now script.now words.now) (F.held files.old) (F.faults files.old) (F.faults files.new) [] result }
 {
     match open_scenario(alloc, scenario, files) {
         Ok(scenario) => play_script(alloc, runs, &scenario, script, words, files),
@@ -49,8 +50,8 @@ fn play_script<R: Runs, F: Files>(
 ) -> Result<Vec<u8>, Refusal>
     requires { IsScenario (contents scenario.now) }
     ensures file_faults { FaultsOfFiles result (F.faults files.old) (F.faults files.new) }
-    ensures cause { (name first : List ℕ) → LeadsTo with_scenario first (contents scenario.now)
-        → TextCause (CommandStep R.readers (play name script.now words.now)) (F.held files.old) (F.faults files.old) (F.faults files.new) (first ∷ []) result }
+    ensures cause { (name first : List ℕ) → scenario_at first ≡ Ok (contents scenario.now)
+        → TextCause (ScriptedCourse R.readers (PlayEnds R.readers) name script.now words.now) (F.held files.old) (F.faults files.old) (F.faults files.new) (first ∷ []) result }
 {
     match open_script(alloc, scenario, script, files) {
         Ok(script) => play_words(alloc, runs, scenario, &script, words, files),
@@ -70,9 +71,9 @@ fn play_words<R: Runs, F: Files>(
     requires valid { IsScenario (contents scenario.now) }
     requires script { IsScriptOf (contents scenario.now) script.now }
     ensures file_faults { FaultsOfFiles result (F.faults files.old) (F.faults files.new) }
-    ensures cause { (name named first second : List ℕ) → LeadsTo with_scenario first (contents scenario.now)
-        → LeadsTo (with_script (contents scenario.now)) second script.now
-        → TextCause (CommandStep R.readers (play name named words.now)) (F.held files.old) (F.faults files.old) (F.faults files.new) (first ∷ second ∷ []) result }
+    ensures cause { (name named first second : List ℕ) → scenario_at first ≡ Ok (contents scenario.now)
+        → script_in (who_of (contents scenario.now)) second ≡ Ok script.now
+        → TextCause (ScriptedCourse R.readers (PlayEnds R.readers) name named words.now) (F.held files.old) (F.faults files.old) (F.faults files.new) (first ∷ second ∷ []) result }
 {
     match open_words(alloc, scenario, words, files) {
         Ok(words) => runs.play_text(alloc, scenario, script, &words),
@@ -89,7 +90,7 @@ pub fn replay<R: Runs, F: Files>(
     files: &mut F,
 ) -> Result<Vec<u8>, Refusal>
     ensures file_faults { FaultsOfFiles result (F.faults files.old) (F.faults files.new) }
-    ensures cause { TextCause (CommandStep R.readers (replay scenario.now history.now)) (F.held files.old) (F.faults files.old) (F.faults files.new) [] result }
+    ensures cause { TextCause (ReplayCourse R.readers scenario.now history.now) (F.held files.old) (F.faults files.old) (F.faults files.new) [] result }
 {
     match open_scenario(alloc, scenario, files) {
         Ok(scenario) => replay_history(alloc, runs, &scenario, history, files),
@@ -107,8 +108,8 @@ fn replay_history<R: Runs, F: Files>(
 ) -> Result<Vec<u8>, Refusal>
     requires { IsScenario (contents scenario.now) }
     ensures file_faults { FaultsOfFiles result (F.faults files.old) (F.faults files.new) }
-    ensures cause { (name first : List ℕ) → LeadsTo with_scenario first (contents scenario.now)
-        → TextCause (CommandStep R.readers (replay name history.now)) (F.held files.old) (F.faults files.old) (F.faults files.new) (first ∷ []) result }
+    ensures cause { (name first : List ℕ) → scenario_at first ≡ Ok (contents scenario.now)
+        → TextCause (ReplayCourse R.readers name history.now) (F.held files.old) (F.faults files.old) (F.faults files.new) (first ∷ []) result }
 {
     match load(alloc, history, files) {
         Ok(text) => runs.replay_text(alloc, scenario, text.as_slice()),

@@ -8,6 +8,7 @@ ghost use Rattle.command_ends.specs.Calls.{TextCause, FaultsOfFiles};
 ghost use Rattle.run_commands.specs.Readers.{IsScriptOf, are_in_range};
 ghost use Rattle.run_commands.specs.Reading.{scenario_at};
 ghost use Rattle.run_commands.specs.Course.{RunCourse, RunStep};
+ghost use Rattle.run_commands.specs.Told.{told_runs};
 
 use crate::opening::{open_scenario, open_script, open_words};
 use crate::runs::Runs;
@@ -44,7 +45,7 @@ pub(crate) fn run<R: Runs, F: Files>(
 ) -> Result<Vec<u8>, Refusal>
     requires { R.ready runs.now }
     ensures file_faults { FaultsOfFiles result (F.faults files.old) (F.faults files.new) }
-    ensures cause { TextCause (RunStep R.readers (are_in_range asked.entry.hands asked.entry.turns) asked.entry.scenario.now asked.entry.script.now asked.entry.words.now asked.entry.turns) (F.held files.old) (F.faults files.old) (F.faults files.new) [] result }
+    ensures cause { TextCause (RunStep (told_runs R.readers) (are_in_range asked.entry.hands asked.entry.turns) asked.entry.scenario.now asked.entry.script.now asked.entry.words.now asked.entry.turns) (F.held files.old) (F.faults files.old) (F.faults files.new) [] result }
 {
     // The command line refuses other numbers too, but its contract doesn't say so.
     if are_in_range(asked.hands, asked.turns) {
@@ -64,7 +65,7 @@ fn run_in_range<R: Runs, F: Files>(
     requires ready { R.ready runs.now }
     requires range { are_in_range asked.hands asked.turns ≡ true }
     ensures file_faults { FaultsOfFiles result (F.faults files.old) (F.faults files.new) }
-    ensures cause { TextCause (RunCourse R.readers asked.entry.scenario.now asked.entry.script.now asked.entry.words.now asked.entry.turns) (F.held files.old) (F.faults files.old) (F.faults files.new) [] result }
+    ensures cause { TextCause (RunCourse (told_runs R.readers) asked.entry.scenario.now asked.entry.script.now asked.entry.words.now asked.entry.turns) (F.held files.old) (F.faults files.old) (F.faults files.new) [] result }
 {
     match open_scenario(alloc, asked.scenario, files) {
         Ok(scenario) => run_script(alloc, runs, &scenario, asked, files),
@@ -85,7 +86,7 @@ fn run_script<R: Runs, F: Files>(
     requires range { are_in_range asked.hands asked.turns ≡ true }
     ensures file_faults { FaultsOfFiles result (F.faults files.old) (F.faults files.new) }
     ensures cause { (first : List ℕ) → scenario_at first ≡ Ok (contents scenario.now)
-        → TextCause (RunCourse R.readers asked.entry.scenario.now asked.entry.script.now asked.entry.words.now asked.entry.turns) (F.held files.old) (F.faults files.old) (F.faults files.new) (first ∷ []) result }
+        → TextCause (RunCourse (told_runs R.readers) asked.entry.scenario.now asked.entry.script.now asked.entry.words.now asked.entry.turns) (F.held files.old) (F.faults files.old) (F.faults files.new) (first ∷ []) result }
 {
     match open_script(alloc, scenario, asked.script, files) {
         Ok(script) => run_words(alloc, runs, scenario, &script, asked, files),
@@ -109,7 +110,7 @@ fn run_words<R: Runs, F: Files>(
     ensures file_faults { FaultsOfFiles result (F.faults files.old) (F.faults files.new) }
     ensures cause { (first second : List ℕ) → scenario_at first ≡ Ok (contents scenario.now)
         → script_in (who_of (contents scenario.now)) second ≡ Ok script.now
-        → TextCause (RunCourse R.readers asked.entry.scenario.now asked.entry.script.now asked.entry.words.now asked.entry.turns) (F.held files.old) (F.faults files.old) (F.faults files.new) (first ∷ second ∷ []) result }
+        → TextCause (RunCourse (told_runs R.readers) asked.entry.scenario.now asked.entry.script.now asked.entry.words.now asked.entry.turns) (F.held files.old) (F.faults files.old) (F.faults files.new) (first ∷ second ∷ []) result }
 {
     match open_words(alloc, scenario, asked.words, files) {
         Ok(words) => runs.run_text(alloc, scenario, script, &words, asked.hands, asked.turns),

@@ -7,10 +7,6 @@ use Rattle.history_rules.specs.Events.{Entry}
 use Rattle.part_lines.specs.declared.fault.RebuildRefusal.{RebuildRefusal}
 use Rattle.part_lines.specs.declared.fault.RebuildRefusal.TheVariants as rebuild
 use Rattle.part_lines.specs.Rebuilding.{rebuilt_in, RefusesText}
-use Rattle.run_questions.specs.declared.parts.text.PartsRefusal.{PartsRefusal}
-use Rattle.run_questions.specs.declared.parts.text.PartsRefusal.TheVariants as parts
-use Rattle.run_questions.specs.declared.trend.fault.TrendRefusal.{TrendRefusal}
-use Rattle.run_questions.specs.declared.trend.fault.TrendRefusal.TheVariants as trend
 use Rattle.command_ends.specs.declared.refusal.Refusal.{Refusal}
 use Rattle.command_ends.specs.declared.refusal.Refusal.TheVariants as refusal
 use Rattle.run_lines.specs.declared.refusal.HistoryRefusal.{HistoryRefusal}
@@ -18,7 +14,6 @@ use Rattle.run_lines.specs.declared.refusal.HistoryRefusal.TheVariants as histor
 use Rattle.run_lines.specs.Runs.{ReadsRun}
 use Rattle.printed_history.specs.Histories.{history_in}
 use Rattle.run_commands.specs.declared.questions.Question.{Question}
-use Rattle.run_commands.specs.declared.questions.Question.TheVariants as question
 use Rattle.run_commands.specs.Readers.{NoRequest, AnswerGives, RebuildGives}
 use Rattle.run_program.specs.Asked.{Answers}
 use Rattle.run_program.specs.Asked.{request_or_lack, request_refusal}

@@ -18,14 +18,13 @@ use Rattle.protocol_rules.specs.Group.{Group}
 use Rattle.world_rules.specs.Scenarios.{setup_of, actors_in}
 use Rattle.world_rules.proofs.Fields.{group_is}
 use Rattle.world_history.specs.State.{BenchState}
-use Rattle.printed_run.specs.Printed.{text_of}
 use Rattle.world_history.specs.Benches.{bench_in, unsigned, AreBenches, AreOfAll, lists_of}
 use Rattle.world_history.specs.KeptState.{KeptState}
 use Rattle.script_lines.specs.declared.saying.Saying.{Saying}
 use Rattle.run_scripts.specs.Making.{bench_at, most_entries}
 use Rattle.run_scripts.specs.Playing.{ArePlayed}
 use Rattle.run_scripts.specs.Laws.{IsPlayed}
-use Rattle.run_program.specs.Whole.{AreAfter, CanBePrinted}
+use Rattle.run_program.specs.Whole.{AreAfter, CanBePrinted, IsTextOf}
 use Rattle.run_program.proofs.Stamps.{each_stamp_once}
 use Rattle.plain_lists.proofs.Lists.{map_map}
 
@@ -102,15 +101,15 @@ short_merged : (history made : List Entry) → made ≡ history → length histo
 short_merged history made same few = subst (λ (h : List Entry). length h < 2 ^ 32) (sym same) few
 
 abbrev IsTextAfter : Contents → List BenchState → Vec ℕ Global → Type 0
-IsTextAfter c benches text = (history : List Entry) → AreAfter c history benches → text.items ≡ text_of c history
+IsTextAfter c benches text = (history : List Entry) → AreAfter c history benches → IsTextOf c history text.items
 
 -- The text of what the benches merge to is that of their history.
 pub text_after : (c : Contents) (benches now : List BenchState) (result : Result (Vec ℕ Global) Want) → now ≡ benches
-    → IfOk result (λ text. text.items ≡ text_of c (merged (lists_of now))) → IfOk result (IsTextAfter c benches)
+    → IfOk result (λ text. IsTextOf c (merged (lists_of now)) text.items) → IfOk result (IsTextAfter c benches)
 text_after c benches now result same told =
-    IfOk-weaker result (λ text. text.items ≡ text_of c (merged (lists_of now))) (IsTextAfter c benches)
-    (λ text is history after. is ∙ ap (λ (bs : List BenchState). text_of c (merged (lists_of bs))) same
-    ∙ ap (text_of c) (merged_after c history benches after)) told
+    IfOk-weaker result (λ text. IsTextOf c (merged (lists_of now)) text.items) (IsTextAfter c benches)
+    (λ text is history after. subst (λ (h : List Entry). IsTextOf c h text.items)
+    (ap (λ (bs : List BenchState). merged (lists_of bs)) same ∙ merged_after c history benches after) is) told
 
 -- benches after a history can be printed, in other words too
 pub prints_after : (c : Contents) (history : List Entry) (benches now : List BenchState) → now ≡ benches →
@@ -145,7 +144,7 @@ printed_after c made benches is joined (CanBePrinted.alone all once short) = rec
 -- and their text is that of the history
 pub merged_text : (c : Contents) (made : List Entry) (benches : List BenchState)
     (result : Result (Vec ℕ Global) Want) → made ≡ merged (lists_of benches)
-    → IfOk result (λ text. text.items ≡ text_of c made) →
-    IfOk result (λ text. text.items ≡ text_of c (merged (lists_of benches)))
+    → IfOk result (λ text. IsTextOf c made text.items) →
+    IfOk result (λ text. IsTextOf c (merged (lists_of benches)) text.items)
 merged_text c made benches result is told =
-    subst (λ (h : List Entry). IfOk result (λ text. text.items ≡ text_of c h)) is told
+    subst (λ (h : List Entry). IfOk result (λ text. IsTextOf c h text.items)) is told

@@ -7,7 +7,6 @@ use Rattle.history_rules.specs.Events.{Entry}
 use Rattle.script_lines.specs.declared.saying.Saying.{Saying}
 use Rattle.script_lines.specs.declared.script.Line.{Line}
 use Rattle.command_ends.specs.declared.refusal.Refusal.{Refusal}
-use Rattle.command_ends.specs.declared.refusal.Refusal.TheVariants as refusal
 use Rattle.run_scripts.specs.declared.answer.PlayAnswer.{PlayAnswer}
 use Rattle.run_scripts.specs.declared.answer.PlayAnswer.TheVariants as answer
 use Rattle.run_scripts.specs.Making.{played}
@@ -16,16 +15,15 @@ use Rattle.run_lines.specs.declared.refusal.HistoryRefusal.{HistoryRefusal}
 use Rattle.run_lines.specs.declared.refusal.HistoryRefusal.TheVariants as history
 use Rattle.run_lines.specs.Runs.{ReadsRun}
 use Rattle.printed_history.specs.Histories.{history_in}
-use Rattle.printed_run.specs.Printed.{text_of}
 use Rattle.run_commands.specs.Readers.{PlayGives, ReplayGives}
 use Rattle.run_program.specs.Faults.{play_refusal, history_refusal, played_or_fault, history_or_fault}
-use Rattle.run_program.specs.Whole.{program_readers}
+use Rattle.run_program.specs.Whole.{program_readers, IsTextOf}
 
 -- the text of a play that ends
 pub gives_play : (c : Contents) (lines : List Line) (sayings : List Saying) (text : Vec ℕ Global) (history : List Entry)
-    → played (record { scenario = c; sayings = sayings }) lines ≡ Ok history → text.items ≡ text_of c history →
+    → played (record { scenario = c; sayings = sayings }) lines ≡ Ok history → IsTextOf c history text.items →
     PlayGives program_readers c lines sayings (Ok text)
-gives_play c lines sayings text history is same = (history, ap played_or_fault is, same)
+gives_play c lines sayings text history is same = (history, ap played_or_fault is, same.0, same.1)
 
 -- a play that stops
 pub gives_stop : {A : Type 0} (Shows : A → List Entry → Type 0) (c : Contents) (lines : List Line)
@@ -47,9 +45,9 @@ gives_refused Shows c lines sayings answered told same stops =
 
 -- the text of a history that is read
 pub gives_replay : (c : Contents) (bytes : List ℕ) (text : Vec ℕ Global) (told : List Entry) →
-    history_in c bytes ≡ Ok told → text.items ≡ text_of c told
+    history_in c bytes ≡ Ok told → IsTextOf c told text.items
     → ReplayGives program_readers c bytes (Ok text)
-gives_replay c bytes text told is same = (told, ap history_or_fault is, same)
+gives_replay c bytes text told is same = (told, ap history_or_fault is, same.0, same.1)
 
 -- a text that tells none
 pub gives_none : (c : Contents) (bytes : List ℕ) (why : HistoryRefusal) →

@@ -1,4 +1,5 @@
 mod Stamps
+mod Telling
 mod Benches
 mod RunTexts
 mod Legality
@@ -8,4 +9,5 @@ mod Answered
 mod Worth
 mod Requested
 mod Shown
+mod Drawn
 mod Keeping

@@ -8,7 +8,7 @@ use Rattle.part_lines.specs.Rebuilding.{told_for, rebuilt_in}
 use Rattle.part_lines.specs.Texts.{rebuilt_lines}
 use Rattle.part_lines.specs.declared.fault.RebuildRefusal.{RebuildRefusal}
 use Rattle.part_lines.specs.declared.told.Told.{Told}
-use Rattle.run_questions.specs.PartsLaws.{PartsArePrinted, PrintedLinesRebuild}
+use Rattle.run_questions.specs.PartsLaws.{CertifiedHaveOwnDigests, PartsArePrinted, PrintedLinesRebuild}
 use Rattle.run_questions.specs.PartsText.{parts_in}
 use Rattle.command_ends.specs.Calls.{Call}
 use Rattle.command_ends.specs.Ended.{ErrorSink}
@@ -25,9 +25,9 @@ certified_of : (told : Option (List ℕ)) (text : List ℕ) → certified_or_lac
 certified_of (Some made) text is = let same : made ≡ text = cc in ap Some same
 certified_of None text is = absurd (cc)
 
-prints : PartsArePrinted → PrintedLinesRebuild → (call : Call) (j k : ℕ) →
+prints : PartsArePrinted → PrintedLinesRebuild → CertifiedHaveOwnDigests → (call : Call) (j k : ℕ) →
     Answered program_readers call (question.Parts j k) → PrintsParts call j k
-prints law from_lines call j k a =
+prints law from_lines own call j k a =
     let defined = certified_of (parts_in a.scenario a.history j k) a.text a.answered in
     record {
       scenario = a.scenario;
@@ -37,15 +37,16 @@ prints law from_lines call j k a =
       put = a.put;
       defined = defined;
       are_parts = law a.scenario a.history j k a.text a.spells.valid.group defined;
-      rebuild = λ premises bytes told tells has. from_lines a.scenario a.history j k a.text bytes told a.spells.valid
-          a.spells.legal premises defined tells has;
+      rebuild = λ unlike bytes told tells has. from_lines a.scenario a.history j k a.text bytes told a.spells.valid
+          unlike defined tells has;
+      own_digests = own a.scenario a.history j k a.spells.valid a.spells.legal;
     }
 
 -- which parts each call of `parts` puts that ends well
-pub keeps_parts : PartsArePrinted → PrintedLinesRebuild → (call : Call) (err : ErrorSink) (status : ℕ) →
-    KeepsAnswers program_readers call err status → KeepsParts call status
-keeps_parts law from_lines call err status keeps zero j k asked =
-    prints law from_lines call j k (keeps.answers zero (question.Parts j k) asked)
+pub keeps_parts : PartsArePrinted → PrintedLinesRebuild → CertifiedHaveOwnDigests → (call : Call) (err : ErrorSink)
+    (status : ℕ) → KeepsAnswers program_readers call err status → KeepsParts call status
+keeps_parts law from_lines own call err status keeps zero j k asked =
+    prints law from_lines own call j k (keeps.answers zero (question.Parts j k) asked)
 
 -- ---- A request from its parts.
 

@@ -8,6 +8,7 @@ use Rattle.run_lines.specs.declared.refusal.HistoryRefusal.{HistoryRefusal}
 use Rattle.printed_history.specs.Histories.{history_in}
 use Rattle.replica_threads.specs.Courses.{inputs_given}
 use Rattle.replica_threads.specs.Ended.{HistoriesAreLegal}
+use Rattle.printed_laws.specs.PlayLaws.{PlayedIsTold}
 use Rattle.run_commands.specs.Readers.{KeepsRules}
 use Rattle.run_program.specs.Faults.{played_or_fault, history_or_fault}
 use Rattle.run_program.specs.Whole.{program_readers}
@@ -25,8 +26,8 @@ read_of (Ok made) history is = let same : made ≡ history = cc in ap Ok same
 read_of (Err why) history is = absurd (cc)
 
 pub keeps : ReadLinesAreOfScenario → ReadWordsAreOfScenario → plays.PlayedIsLegal →
-    plays.PlayedIsUnforged → HistoriesAreLegal → KeepsRules program_readers
-keeps lines_read words_read legal unforged runs = record {
+    plays.PlayedIsUnforged → PlayedIsTold → HistoriesAreLegal → KeepsRules program_readers
+keeps lines_read words_read legal unforged told runs = record {
   played_legal = λ c lines sayings history valid script words is.
       (legal (record { scenario = c; sayings = sayings }) lines history valid
       (lines_read c script.0 lines valid script.1) (words_read c words.0 sayings valid words.1)
@@ -35,6 +36,10 @@ keeps lines_read words_read legal unforged runs = record {
       unforged (record { scenario = c; sayings = sayings }) lines history valid
       (lines_read c script.0 lines valid script.1) (words_read c words.0 sayings valid words.1)
       raw (played_of _ history is);
+  played_told = λ c lines sayings history valid script words is.
+      told (record { scenario = c; sayings = sayings }) lines history valid
+      (lines_read c script.0 lines valid script.1) (words_read c words.0 sayings valid words.1)
+      (played_of _ history is);
   run_legal = λ c lines sayings turns history run. runs c (inputs_given c lines sayings) turns history run;
   read_legal = λ c text history valid is. read_is_legal c text history (read_of (history_in c text) history is);
 }

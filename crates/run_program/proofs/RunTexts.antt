@@ -13,10 +13,9 @@ use Rattle.history_rules.specs.Events.{Entry}
 use Rattle.history_rules.specs.Counts.{merged}
 use Rattle.world_history.specs.State.{BenchState}
 use Rattle.world_history.specs.Benches.{lists_of}
-use Rattle.printed_run.specs.Printed.{text_of}
 use Rattle.replica_threads.specs.Ended.{IsRun, IsHistoryOf, RunsStampOnce}
 use Rattle.replica_threads.proofs.Lengths.{run_is_short}
-use Rattle.run_program.specs.Whole.{CanBePrinted}
+use Rattle.run_program.specs.Whole.{CanBePrinted, IsTextOf}
 
 module _ (c : Contents) (inputs : List (List Input)) (turns : ℕ) (benches now : List BenchState)
     (same : now ≡ benches) (run : IsRun c inputs turns benches) where
@@ -29,12 +28,12 @@ module _ (c : Contents) (inputs : List (List Input)) (turns : ℕ) (benches now 
 
   -- and what is printed is its text
   pub run_printed : (result : Result (Vec ℕ Global) Want) →
-      IfOk result (λ text. text.items ≡ text_of c (merged (lists_of now)))
+      IfOk result (λ text. IsTextOf c (merged (lists_of now)) text.items)
       → IfOk result (λ text. (history : List Entry) × IsHistoryOf c inputs turns history
-      × (text.items ≡ text_of c history))
+      × IsTextOf c history text.items)
   run_printed result told =
-      IfOk-weaker result (λ text. text.items ≡ text_of c (merged (lists_of now)))
-      (λ text. (history : List Entry) × IsHistoryOf c inputs turns history × (text.items ≡ text_of c history))
+      IfOk-weaker result (λ text. IsTextOf c (merged (lists_of now)) text.items)
+      (λ text. (history : List Entry) × IsHistoryOf c inputs turns history × IsTextOf c history text.items)
       (λ text is. (
         merged (lists_of now),
         record {

@@ -11,6 +11,9 @@ use Rattle.part_lines.specs.declared.fault.RebuildRefusal.TheVariants as rebuild
 use Rattle.part_lines.specs.Rebuilding.{rebuilt_in}
 use Rattle.run_questions.specs.DelaysText.{delays_in}
 use Rattle.run_page.specs.Page.{page_in}
+use Rattle.history_picture.specs.Pictures.{chart_in, picture_in, plot_in}
+use Rattle.history_picture.specs.declared.fault.PictureRefusal.{PictureRefusal}
+use Rattle.history_picture.specs.declared.fault.PictureRefusal.TheVariants as fault
 use Rattle.run_questions.specs.PartsText.{parts_in}
 use Rattle.run_questions.specs.declared.parts.text.PartsRefusal.{PartsRefusal}
 use Rattle.run_questions.specs.declared.parts.text.PartsRefusal.TheVariants as parts
@@ -37,6 +40,17 @@ abbrev pub trend_or_lack : Result (List ℕ) TrendRefusal → Result (List ℕ) 
 trend_or_lack (Ok text) = Ok text
 trend_or_lack (Err why) = Err (trend_lack why)
 
+-- Why there is no picture. None is defined to want memory, so that case may be told as any.
+abbrev pub picture_lack : PictureRefusal → NoAnswer
+picture_lack fault.BadRange = none.BadPart
+picture_lack (fault.NotReached last) = none.NoSuchEntry last
+picture_lack fault.NoPoint = none.NoPlot
+picture_lack fault.Want = none.NoPlot
+
+abbrev pub picture_or_lack : Result (List ℕ) PictureRefusal → Result (List ℕ) NoAnswer
+picture_or_lack (Ok text) = Ok text
+picture_or_lack (Err why) = Err (picture_lack why)
+
 abbrev pub certified_or_lack : Option (List ℕ) → Result (List ℕ) NoAnswer
 certified_or_lack (Some text) = Ok text
 certified_or_lack None = Err none.NotCertified
@@ -48,6 +62,9 @@ answered c history question.Blame = Ok (blame_text c history)
 answered c history (question.Trend point first last) = trend_or_lack (trend_in c history point first last)
 answered c history question.Delays = Ok (delays_in c history)
 answered c history question.Page = Ok (page_in c history)
+answered c history (question.Picture first last width) = picture_or_lack (picture_in c history first last width)
+answered c history (question.Plot point width) = picture_or_lack (plot_in c history point width)
+answered c history (question.Chart width) = Ok (chart_in c history width)
 
 -- Why parts rebuild no request. None is defined to want memory, so that case may be told as either.
 abbrev pub no_request : RebuildRefusal → NoRequest
@@ -70,10 +87,14 @@ Answers c history asked (Err (refusal.NoAnswer why)) = answered c history asked 
 Answers c history asked (Err refusal.Memory) = Unit {0}
 Answers c history asked (Err _) = ⊥
 
--- what a trend, parts or a rebuilt request answer that there are none of, as a refusal
+-- what a trend, a picture, parts or a rebuilt request answer that there are none of, as a refusal
 abbrev pub trend_refusal : TrendRefusal → Refusal
 trend_refusal trend.Want = refusal.Memory
 trend_refusal other = refusal.NoAnswer (trend_lack other)
+
+abbrev pub picture_refusal : PictureRefusal → Refusal
+picture_refusal fault.Want = refusal.Memory
+picture_refusal other = refusal.NoAnswer (picture_lack other)
 
 abbrev pub parts_refusal : PartsRefusal → Refusal
 parts_refusal parts.NotCertified = refusal.NoAnswer none.NotCertified

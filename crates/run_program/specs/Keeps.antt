@@ -8,6 +8,7 @@ use Rattle.run_commands.specs.Keeps.{KeepsComplete}
 use Rattle.run_program.specs.Blame.{KeepsBlame}
 use Rattle.run_program.specs.Delays.{KeepsDelays}
 use Rattle.run_program.specs.Pages.{KeepsPage}
+use Rattle.run_program.specs.Pictures.{KeepsPictures}
 use Rattle.run_program.specs.Requests.{KeepsParts, KeepsRebuild}
 use Rattle.run_program.specs.Trends.{KeepsTrend}
 use Rattle.run_program.specs.Whole.{program_readers}
@@ -23,5 +24,6 @@ pub record Keeps (call : Call) (err : ErrorSink) (status : ℕ) : Type 0 where
   pub trend : KeepsTrend call err status
   pub delays : KeepsDelays call status
   pub page : KeepsPage call status
+  pub pictures : KeepsPictures call status
   pub parts : KeepsParts call status
   pub rebuild : KeepsRebuild call status

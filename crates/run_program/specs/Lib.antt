@@ -6,4 +6,5 @@ pub mod Trends
 pub mod Requests
 pub mod Delays
 pub mod Pages
+pub mod Pictures
 pub mod Keeps

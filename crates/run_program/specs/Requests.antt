@@ -1,6 +1,7 @@
 -- What a call of `parts` puts that ends well: the digest of an update that a correct master has certified in one legal
--- history, and masters' parts of texts of that digest, in the form that `rebuild` reads. Where the headline's premises
--- hold, any f + 1 of these lines rebuild a text of the digest, whatever the other lines are. Of lines with parts of one
+-- history, and masters' parts of texts of that digest, in the form that `rebuild` reads. Where no two updates certified
+-- as that request have one digest, any f + 1 of these lines rebuild a text of the digest, whatever the other lines are;
+-- so it is where the headline's premises hold. Of lines with parts of one
 -- text of the digest, f + 1 suffice for a call of `rebuild` without any premise: it puts a text of the digest and names
 -- exactly the masters whose parts aren't that text's, and never ends for want of one.
 use Rattle.std.specs.Prelude.{◌≡◌, ◌≤◌, ℕ, List, Some, Ok, length}
@@ -17,7 +18,7 @@ use Rattle.part_lines.specs.Laws.{HasEnoughLines, IsRebuilt}
 use Rattle.part_lines.specs.Rebuilding.{told_for}
 use Rattle.part_lines.specs.Texts.{rebuilt_lines}
 use Rattle.part_lines.specs.declared.told.Told.{Told}
-use Rattle.run_questions.specs.PartsLaws.{ArePrinted, HasPrintedLines}
+use Rattle.run_questions.specs.PartsLaws.{ArePrinted, HasPrintedLines, HaveOwnDigests}
 use Rattle.run_questions.specs.PartsText.{parts_in}
 use Rattle.command_words.specs.Wanted.{rebuild, wanted_in}
 use Rattle.command_ends.specs.Calls.{Call}
@@ -33,9 +34,11 @@ pub record PrintsParts (call : Call) (originator number : ℕ) : Type 0 where
   pub put : call.put_after ≡ with_piece call.put_before printed
   pub defined : parts_in scenario history originator number ≡ Some printed
   pub are_parts : ArePrinted scenario printed
-  pub rebuild : Premises (setup_of scenario) history → (bytes : List ℕ) (told : Told) →
+  pub rebuild : HaveOwnDigests (setup_of scenario) history originator number → (bytes : List ℕ) (told : Told) →
       told_for scenario bytes ≡ Ok told
       → HasPrintedLines scenario printed bytes → IsRebuilt scenario bytes told
+  pub own_digests : Premises (setup_of scenario) history →
+      HaveOwnDigests (setup_of scenario) history originator number
 
 -- Each call of `parts` that ends well.
 abbrev pub KeepsParts : Call → ℕ → Type 0

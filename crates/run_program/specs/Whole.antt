@@ -1,6 +1,8 @@
 -- The definitions that the program goes by: the one history of a script and words, the histories that a run in threads of
--- them may make, in which each actor's list goes turn by turn for what they give it, the history that a printed text tells, the text of a history, what is answered over one, and the request that parts rebuild. (This project's own.)
-use Rattle.std.specs.Prelude.{◌<◌, ◌^◌, List, length}
+-- them may make, in which each actor's list goes turn by turn for what they give it, the history that a printed text
+-- tells, the text of a history and the history as that tells it, what is answered over one, and the request that parts
+-- rebuild. (This project's own.)
+use Rattle.std.specs.Prelude.{◌≡◌, ◌<◌, ◌^◌, ℕ, List, length}
 use Rattle.scenario_file.specs.Reading.{Contents}
 use Rattle.history_rules.specs.Events.{Entry}
 use Rattle.history_rules.specs.Legal.{IsLegal}
@@ -14,7 +16,8 @@ use Rattle.replica_threads.specs.Courses.{inputs_given}
 use Rattle.replica_threads.specs.Ended.{IsHistoryOf}
 use Rattle.printed_history.specs.Histories.{history_in}
 use Rattle.printed_run.specs.Printed.{text_of}
-use Rattle.run_commands.specs.Readers.{Readers}
+use Rattle.printed_run.specs.Tellable.{as_told}
+use Rattle.run_commands.specs.Readers.{Readers, Tells}
 use Rattle.run_program.specs.Asked.{answered, requested}
 use Rattle.run_program.specs.Faults.{played_or_fault, history_or_fault}
 
@@ -25,9 +28,14 @@ program_readers = record {
   may_run = λ c lines sayings turns history. IsHistoryOf c (inputs_given c lines sayings) turns history;
   history_in = λ c text. history_or_fault (history_in c text);
   text_of = text_of;
+  as_told = as_told;
   answered = answered;
   rebuilt = requested;
 }
+
+-- the text of the history, which is read again as it
+abbrev pub IsTextOf : Contents → List Entry → List ℕ → Type 0
+IsTextOf c history text = (text ≡ text_of c history) × Tells program_readers c history
 
 -- the benches of all actors as they are after a legal history
 pub record AreAfter (c : Contents) (history : List Entry) (benches : List BenchState) : Type 0 where

@@ -9,8 +9,11 @@ ghost use Rattle.run_program.specs.Asked.{Answers};
 ghost use Rattle.run_program.specs.Whole.{program_readers};
 ghost use Rattle.world_rules.specs.Scenarios.{setup_of};
 
-use crate::faults::{history_refusal, parts_refusal, request_refusal, trend_refusal};
+use crate::faults::{
+    history_refusal, parts_refusal, picture_refusal, request_refusal, trend_refusal,
+};
 use command_ends::Refusal;
+use history_picture::{delays_chart, history_picture, point_plot};
 use part_lines::rebuilt_text;
 use plain_lists::Want;
 use printed_history::{Replay, read_replay};
@@ -71,6 +74,24 @@ fn answer(
             Ok(page) => Ok(page),
             Err(Want) => Err(Refusal::Memory),
         },
+        Question::Picture { first, last, width } => {
+            match history_picture(alloc, scenario, &replay.history, first, last, width) {
+                Ok(text) => Ok(text),
+                Err(fault) => Err(picture_refusal(fault)),
+            }
+        }
+        Question::Plot { point, width } => {
+            match point_plot(alloc, scenario, benches, point, width) {
+                Ok(text) => Ok(text),
+                Err(fault) => Err(picture_refusal(fault)),
+            }
+        }
+        Question::Chart { width } => {
+            match delays_chart(alloc, scenario, &replay.history, width) {
+                Ok(text) => Ok(text),
+                Err(Want) => Err(Refusal::Memory),
+            }
+        }
         Question::Trend { point, first, last } => {
             match trend_text(
                 alloc,

@@ -13,7 +13,9 @@ use part_lines::laws::enough_lines_rebuild;
 use run_commands::Program;
 use run_commands::call::run_command;
 use run_questions::blame::laws::{blamed_are_proved, correct_are_not_blamed, quorums_are_blamed};
-use run_questions::parts::laws::{parts_are_printed, printed_lines_rebuild};
+use run_questions::parts::laws::{
+    certified_have_own_digests, parts_are_printed, printed_lines_rebuild,
+};
 use run_questions::trend::laws::{
     always_matches, prints_the_changes_of_all, prints_the_changes_of_one,
 };
@@ -49,6 +51,7 @@ pub fn spire<R: Threads + Wait + Sync, F: Files, O: Sink, E: Sink>(
     always_matches();
     parts_are_printed();
     printed_lines_rebuild();
+    certified_have_own_digests();
     enough_lines_rebuild();
     escaped_is_plain();
     let program = Program {

@@ -1,9 +1,10 @@
 //! Why there is no run, or no answer over one, as the program tells it.
 ghost use Rattle.std.specs.Prelude.{◌≡◌};
-ghost use Rattle.run_program.specs.Asked.{parts_refusal, request_refusal, trend_refusal};
+ghost use Rattle.run_program.specs.Asked.{parts_refusal, picture_refusal, request_refusal, trend_refusal};
 ghost use Rattle.run_program.specs.Faults.{play_refusal, history_refusal};
 
 use command_ends::{LineFault, NoAnswer, Refusal};
+use history_picture::PictureRefusal;
 use part_lines::RebuildRefusal;
 use printed_history::HistoryRefusal;
 use run_questions::parts::PartsRefusal;
@@ -52,6 +53,18 @@ pub(crate) fn trend_refusal(fault: TrendRefusal) -> Refusal
         TrendRefusal::NotReached { executed } => NoAnswer::NotReached { executed },
         TrendRefusal::NoMatch => NoAnswer::NoMatch,
         TrendRefusal::Want => return Refusal::Memory,
+    };
+    Refusal::NoAnswer { why }
+}
+
+pub(crate) fn picture_refusal(fault: PictureRefusal) -> Refusal
+    ensures { result ≡ picture_refusal fault }
+{
+    let why = match fault {
+        PictureRefusal::BadRange => NoAnswer::BadPart,
+        PictureRefusal::NotReached { last } => NoAnswer::NoSuchEntry { last },
+        PictureRefusal::NoPoint => NoAnswer::NoPlot,
+        PictureRefusal::Want => return Refusal::Memory,
     };
     Refusal::NoAnswer { why }
 }

@@ -5,14 +5,14 @@ ghost use Rattle.scenario_file.specs.Valid.{IsScenario};
 ghost use Rattle.script_laws.specs.Accepted.{are_lines_of, are_sayings_of};
 ghost use Rattle.history_rules.specs.Counts.{merged};
 ghost use Rattle.history_rules.specs.Events.{Entry};
-ghost use Rattle.printed_run.specs.Printed.{text_of};
 ghost use Rattle.world_history.specs.Benches.{lists_of};
 ghost use Rattle.run_commands.specs.Readers.{PlayGives};
-ghost use Rattle.run_program.specs.Whole.{program_readers, AreAfter, CanBePrinted};
+ghost use Rattle.run_program.specs.Whole.{program_readers, AreAfter, CanBePrinted, IsTextOf};
 
 use crate::faults::play_refusal;
 use command_ends::Refusal;
 use plain_lists::Want;
+use printed_laws::texts_tell_histories;
 use printed_run::write_run_of;
 use run_scripts::laws::played_is_legal;
 use run_scripts::play;
@@ -48,7 +48,7 @@ fn text_of_kept(alloc: Global, scenario: &Scenario, kept: Vec<Kept>) -> Result<V
     requires valid { IsScenario (contents scenario.now) }
     requires kept { (history : List Entry) × AreAfter (contents scenario.now) history (map (λ k. k.bench) kept.items) }
     ensures { IfOk result (λ text. (history : List Entry) → AreAfter (contents scenario.now) history (map (λ k. k.bench) kept.items)
-        → text.items ≡ text_of (contents scenario.now) history) }
+        → IsTextOf (contents scenario.now) history text.items) }
 {
     let benches = benches_of(alloc, kept)?;
     text_of_benches(alloc, scenario, benches.as_slice())
@@ -62,8 +62,9 @@ pub(crate) fn text_of_benches(
 ) -> Result<Vec<u8>, Want>
     requires valid { IsScenario (contents scenario.now) }
     requires benches { CanBePrinted (contents scenario.now) benches.now }
-    ensures { IfOk result (λ text. text.items ≡ text_of (contents scenario.now) (merged (lists_of benches.now))) }
+    ensures { IfOk result (λ text. IsTextOf (contents scenario.now) (merged (lists_of benches.now)) text.items) }
 {
+    texts_tell_histories();
     let history = merge(alloc, benches)?;
     write_run_of(alloc, scenario, &history, benches)
 }

@@ -8,6 +8,7 @@ use crate::faults::history_refusal;
 use command_ends::Refusal;
 use plain_lists::Want;
 use printed_history::read_replay;
+use printed_laws::texts_tell_histories;
 use printed_run::write_run_of;
 use scenario_file::Scenario;
 use std::alloc::Global;
@@ -21,6 +22,7 @@ pub(crate) fn replayed_text(
     requires { IsScenario (contents scenario.now) }
     ensures { ReplayGives program_readers (contents scenario.now) text.now result }
 {
+    texts_tell_histories();
     match read_replay(alloc, scenario, text) {
         Ok(replay) => match write_run_of(alloc, scenario, &replay.history, &replay.benches) {
             Ok(text) => Ok(text),

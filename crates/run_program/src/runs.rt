@@ -4,6 +4,7 @@ use crate::replayed::replayed_text;
 use crate::threaded::run_text;
 use command_ends::Refusal;
 use plain_lists::Want;
+use printed_laws::played_is_told;
 use replica_threads::laws::runs_are_legal;
 use run_commands::{Question, Runs};
 use run_scripts::laws::{played_is_legal, played_is_unforged};
@@ -98,6 +99,7 @@ impl<R: Threads + Wait + Sync> Runs for ProgramRuns<'_, R> {
         read_words_are_of_scenario();
         played_is_legal();
         played_is_unforged();
+        played_is_told();
         runs_are_legal();
     }
 }

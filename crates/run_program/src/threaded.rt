@@ -4,9 +4,9 @@ ghost use Rattle.scenario_file.specs.Reading.{contents};
 ghost use Rattle.scenario_file.specs.Valid.{IsScenario};
 ghost use Rattle.script_laws.specs.Accepted.{are_lines_of, are_sayings_of};
 ghost use Rattle.history_rules.specs.Events.{Entry};
-ghost use Rattle.printed_run.specs.Printed.{text_of};
 ghost use Rattle.replica_threads.specs.Ended.{IsHistoryOf};
 ghost use Rattle.replica_threads.specs.Courses.{inputs_given};
+ghost use Rattle.run_program.specs.Whole.{IsTextOf};
 
 use crate::played::text_of_benches;
 use plain_lists::Want;
@@ -35,7 +35,7 @@ pub(crate) fn run_text<R: Threads + Wait + Sync>(
     requires lines { are_lines_of (contents scenario.now) script.now ≡ true }
     requires words { are_sayings_of (contents scenario.now) words.now ≡ true }
     requires turns { turns ≤ 4000 }
-    ensures { IfOk result (λ text. (history : List Entry) × IsHistoryOf (contents scenario.now) (inputs_given (contents scenario.now) script.now words.now) turns history × (text.items ≡ text_of (contents scenario.now) history)) }
+    ensures { IfOk result (λ text. (history : List Entry) × IsHistoryOf (contents scenario.now) (inputs_given (contents scenario.now) script.now words.now) turns history × IsTextOf (contents scenario.now) history text.items) }
 {
     runs_are_legal();
     let gate = PaceGate::make(alloc, scenario.cast().actors())?;

@@ -1,11 +1,12 @@
--- In a sound history the correct masters have certified one update as a request, so the lines that are printed for it
--- are those of the parts of one text.
+-- Where no two updates certified as a request have one digest, the lines that are printed for it are those of the parts
+-- of one text. In a sound history it is so: the correct masters have certified one update.
 use Rattle.std.proofs.Common.{◌≡◌, ℕ, zero, suc, ◌+◌, ◌^◌, ◌<◌, ◌≤◌, Bool, true, false, not, cond, if◌then◌else◌}
 use Rattle.std.proofs.Common.{◌||◌, List, [], ◌∷◌, ◌++◌, Option, Some, None, Ok, length, map, filter, take, drop}
 use Rattle.std.proofs.Common.{append-nil, refl, sym, ◌∙◌, ap, subst, arith}
 use Rattle.std.specs.List.{AllByRecursion, list_any, filter_map, flat_map, cons_option}
 use Rattle.std.specs.Option.{option_map}
 use Rattle.std.specs.Str.{bytes_eq}
+use Rattle.std.proofs.lemmas.Slice.Eq.{bytes_eq-Decides}
 use Rattle.std.proofs.lemmas.List.Concat.{flat_map-append}
 use Rattle.plain_lists.specs.Lists.{Begins}
 use Rattle.sha2.specs.Sha256.{sha256}
@@ -43,7 +44,7 @@ use Rattle.part_lines.proofs.Own.{enough_lines_rebuild}
 use Rattle.part_lines.proofs.ReadBack.{digest_line_back, line_first, lines_of, part_bytes_line}
 use Rattle.part_lines.proofs.Spelled.{line_bytes, digest_is_words}
 use Rattle.part_lines.proofs.Steps.{is_told}
-use Rattle.run_questions.specs.PartsLaws.{lines_behind, HasPrintedLines}
+use Rattle.run_questions.specs.PartsLaws.{lines_behind, HasPrintedLines, HaveOwnDigests}
 use Rattle.run_questions.specs.PartsText.{certified_by, first_certified, part_if, parts_by, parts_in}
 use Rattle.run_questions.proofs.PrintedAreParts.{all_more, are_of, digest_are_bytes, update_bytes, written}
 use Rattle.run_questions.proofs.PartsInOrder.{update_some}
@@ -99,20 +100,22 @@ own_higher n f text (p ∷ parts) own = let low = own.0.0 in
     ((omega (arith, low), own.0.1), own_higher n f text parts own.1)
 
 own_with : (f n : ℕ) (digest text : List ℕ) (parts : List Part) (found : Option Update) →
-    ((v : Update) → found ≡ Some v → update_text v ≡ text)
+    ((v : Update) → found ≡ Some v → digest_of_update v ≡ digest → update_text v ≡ text)
     → AllByRecursion (IsOwn n f text) parts → AllByRecursion (IsOwn (suc n) f text) (parts ++ part_if f digest n found)
 own_with f n digest text parts None same own = subst (AllByRecursion (IsOwn (suc n) f text)) (sym (append-nil parts))
     (own_higher n f text parts own)
-own_with f n digest text parts (Some v) same own = by (bytes_eq (digest_of_update v) digest)
+own_with f n digest text parts (Some v) same own = by (bytes_eq (digest_of_update v) digest) refl
   where
-    by : (b : Bool) → AllByRecursion (IsOwn (suc n) f text)
+    by : (b : Bool) → bytes_eq (digest_of_update v) digest ≡ b → AllByRecursion (IsOwn (suc n) f text)
         (parts ++ (if b then own_part f (update_text v) n ∷ [] else []))
-    by true = all_more (IsOwn (suc n) f text) parts (own_part f (update_text v) n) (own_higher n f text parts own)
-        (omega arith, ap (λ (t : List ℕ). own_part f t n) (same v refl))
-    by false = subst (AllByRecursion (IsOwn (suc n) f text)) (sym (append-nil parts)) (own_higher n f text parts own)
+    by true is = all_more (IsOwn (suc n) f text) parts (own_part f (update_text v) n) (own_higher n f text parts own) (
+      omega arith,
+      ap (λ (t : List ℕ). own_part f t n) (same v refl ((bytes_eq-Decides (digest_of_update v) digest).0 is)),
+    )
+    by false is = subst (AllByRecursion (IsOwn (suc n) f text)) (sym (append-nil parts)) (own_higher n f text parts own)
 
 all_own : (f n : ℕ) (digest text : List ℕ) (found : ℕ → Option Update) →
-    ((m : ℕ) (v : Update) → found m ≡ Some v → update_text v ≡ text)
+    ((m : ℕ) (v : Update) → found m ≡ Some v → digest_of_update v ≡ digest → update_text v ≡ text)
     → AllByRecursion (IsOwn n f text) (flat_map (λ master. part_if f digest master (found master)) (numbers_below n))
 unfolding numbers_below
 all_own f zero digest text found same = tt
@@ -247,18 +250,14 @@ rebuilt_from c bytes printed digest text t n f parts group size same told cut is
     (filter (is_own_line (group_size c.settings.f c.settings.k) g text) (pieces bytes))) same among)
 
 pub printed_lines_rebuild : (c : Contents) (history : List Entry) (j k : ℕ) (printed bytes : List ℕ) (t : Told) →
-    IsScenario c → IsLegal (setup_of c) history
-    → Premises (setup_of c) history → parts_in c history j k ≡ Some printed → told_for c bytes ≡ Ok t →
-    HasPrintedLines c printed bytes → IsRebuilt c bytes t
+    IsScenario c → HaveOwnDigests (setup_of c) history j k → parts_in c history j k ≡ Some printed
+    → told_for c bytes ≡ Ok t → HasPrintedLines c printed bytes → IsRebuilt c bytes t
 unfolding parts_in digest_of_update
-printed_lines_rebuild c history j k printed bytes t scenario legal premises is told given =
+printed_lines_rebuild c history j k printed bytes t scenario unlike is told given =
     by (first_certified (setup_of c) history j k) refl is
   where
     w : Setup
     w = setup_of c
-
-    sound : IsSound w history
-    sound = sound_by_counts w history legal (sizes_of_group c scenario) premises.few premises.unforged premises.unlike
 
     size : w.group.n ≡ group_size c.settings.f c.settings.k
     size = ap (λ (g : Group). g.n) (group_is c)
@@ -288,4 +287,12 @@ printed_lines_rebuild c history j k printed bytes t scenario legal premises is t
         (ap pieces (sym printed_is) ∙ cut) refl (length-sha256 text) (digest_are_bytes text) (update_bytes u)
         (update_some u) (omega (arith, within))
         (all_own w.group.f w.group.n digest text (certified_by w history j k)
-        (λ m v other. ap update_text (one_update w history j k has.master m u v sound has.has other))) given
+        (λ m v other alike. ap update_text (unlike m has.master v u other has.has alike))) given
+
+-- in a sound history all certified updates are one
+pub certified_have_own_digests : (c : Contents) (history : List Entry) (j k : ℕ) → IsScenario c →
+    IsLegal (setup_of c) history → Premises (setup_of c) history → HaveOwnDigests (setup_of c) history j k
+certified_have_own_digests c history j k scenario legal premises m n u v one other alike =
+    one_update (setup_of c) history j k n m v u
+    (sound_by_counts (setup_of c) history legal (sizes_of_group c scenario) premises.few premises.unforged
+    premises.unlike) other one

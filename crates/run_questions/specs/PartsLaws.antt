@@ -8,6 +8,9 @@ use Rattle.scenario_file.specs.Reading.{Contents}
 use Rattle.scenario_file.specs.Valid.{IsScenario}
 use Rattle.history_rules.specs.Events.{Entry}
 use Rattle.history_rules.specs.Legal.{IsLegal}
+use Rattle.message_types.specs.declared.updates.Update.{Update}
+use Rattle.message_types.specs.Digests.{digest_of_update}
+use Rattle.history_rules.specs.Setup.{Setup}
 use Rattle.world_rules.specs.Headline.{Premises}
 use Rattle.world_rules.specs.Scenarios.{setup_of}
 use Rattle.run_lines.specs.Runs.{pieces, is_empty}
@@ -18,7 +21,7 @@ use Rattle.part_lines.specs.declared.told.Told.{Told}
 use Rattle.part_lines.specs.Laws.{RiseFrom, IsRebuilt, own_part}
 use Rattle.part_lines.specs.Rebuilding.{told_for}
 use Rattle.part_lines.specs.Texts.{parts_text}
-use Rattle.run_questions.specs.PartsText.{parts_in}
+use Rattle.run_questions.specs.PartsText.{certified_by, parts_in}
 
 -- a master's part of a text of this digest
 pub record IsOfDigest (f : ℕ) (digest : List ℕ) (part : Part) : Type 0 where
@@ -54,12 +57,23 @@ pub record HasPrintedLines (c : Contents) (printed bytes : List ℕ) : Type 0 wh
   pub enough : c.settings.f < length
       (filter (λ line. list_any (bytes_eq line) (lines_behind printed)) (lines_behind bytes))
 
--- In a legal history, while at most f masters are intruded, no word is forged and no digest is shared: from any f + 1
--- of the lines that are printed for a request, whatever the other lines are, a text of the printed digest is rebuilt.
+-- Of the updates that correct masters have certified as request k of master j no two have one digest.
+abbrev pub HaveOwnDigests : Setup → List Entry → ℕ → ℕ → Type 0
+HaveOwnDigests w history j k =
+    (m n : ℕ) (u v : Update) → certified_by w history j k m ≡ Some u → certified_by w history j k n ≡ Some v
+    → digest_of_update u ≡ digest_of_update v → u ≡ v
+
+-- It is so in a legal history, while at most f masters are intruded, no word is forged and no digest is shared.
+abbrev pub CertifiedHaveOwnDigests : Type 0
+CertifiedHaveOwnDigests =
+    (c : Contents) (history : List Entry) (j k : ℕ) → IsScenario c → IsLegal (setup_of c) history
+    → Premises (setup_of c) history → HaveOwnDigests (setup_of c) history j k
+
+-- Where no two certified updates have one digest, whoever is intruded and whatever is forged: from any f + 1 of the
+-- lines that are printed for a request, whatever the other lines are, a text of the printed digest is rebuilt.
 abbrev pub PrintedLinesRebuild : Type 0
 PrintedLinesRebuild =
-    (c : Contents) (history : List Entry) (j k : ℕ) (printed bytes : List ℕ) (told : Told) → IsScenario c →
-    IsLegal (setup_of c) history
-    → Premises (setup_of c) history → parts_in c history j k ≡ Some printed → told_for c bytes ≡ Ok told →
+    (c : Contents) (history : List Entry) (j k : ℕ) (printed bytes : List ℕ) (told : Told) → IsScenario c
+    → HaveOwnDigests (setup_of c) history j k → parts_in c history j k ≡ Some printed → told_for c bytes ≡ Ok told →
     HasPrintedLines c printed bytes
     → IsRebuilt c bytes told

@@ -7,3 +7,4 @@ mod text;
 mod watching;
 
 pub use text::delays_text;
+pub use watching::watched_in;

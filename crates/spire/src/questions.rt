@@ -176,8 +176,45 @@ fn a_reading_is_shown_as_a_change_with_its_delays(rt: HostRuntime) -> Result<(),
             "trend scenario history 0 0 1",
             b"spire: trend BadRange\n".as_slice(),
         ),
+        (
+            "picture scenario history 2 1",
+            b"spire: picture BadRange\n".as_slice(),
+        ),
+        (
+            "plot scenario history 1",
+            b"spire: plot NoPoint\n".as_slice(),
+        ),
     ] {
         assert_eq!(rt; told(&rt, rt.alloc(), command, &files, line)?, 9);
     }
+    Ok(())
+}
+
+#[test]
+fn pictures_are_drawn_of_the_entries_asked_for(rt: HostRuntime) -> Result<(), Fail> {
+    let text = play(&rt, rt.alloc(), SCENARIO, SCRIPT, "")?;
+    let files = [
+        ("scenario", SCENARIO.as_bytes()),
+        ("history", text.as_slice()),
+    ];
+    let drawn = call(
+        &rt,
+        rt.alloc(),
+        "picture scenario history 1 1 --width 600",
+        &files,
+    )?;
+    assert_eq!(rt; drawn.status, 0);
+    assert!(rt; drawn.put.starts_with(b"<svg xmlns=\"http://www.w3.org/2000/svg\" width=\"600\" "));
+    let mut titles = 0;
+    for line in drawn.put.split(|byte| *byte == b'\n') {
+        if line.starts_with(b"<g><title>") {
+            assert_eq!(rt;
+                line,
+                b"<g><title>1 m0 took update of 0, says 1</title>".as_slice()
+            );
+            titles += 1;
+        }
+    }
+    assert_eq!(rt; titles, 1);
     Ok(())
 }

@@ -10,6 +10,7 @@ pub unplayed_keeps : KeepsRules unplayed
 unplayed_keeps = record {
   played_legal = λ c lines sayings history valid script words is. none _ history is;
   played_unforged = λ c lines sayings history valid script words is raw. none _ history is;
+  played_told = λ c lines sayings history valid script words is. none _ history is;
   run_legal = λ c lines sayings turns history run. absurd run;
   read_legal = λ c text history valid is. none _ history is;
 }

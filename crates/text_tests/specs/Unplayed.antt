@@ -10,6 +10,7 @@ unplayed = record {
   may_run = λ c lines sayings turns history. ⊥;
   history_in = λ c text. Err (line.BadLine, 1);
   text_of = λ c history. [];
+  as_told = λ c history. history;
   answered = λ c history question. Err none.NoMatch;
   rebuilt = λ c text. Err NoRequest.NoText;
 }

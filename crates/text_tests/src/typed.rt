@@ -56,6 +56,24 @@ fn commands_over_scripts_and_histories(rt: HostRuntime) -> Result<(), Fail> {
         scenario: "s",
         history: "h",
     };
+    let part = Asked::Picture {
+        scenario: "s",
+        history: "h",
+        first: Some(3),
+        last: None,
+        width: Some(700),
+    };
+    let plot = Asked::Plot {
+        scenario: "s",
+        history: "h",
+        point: 1,
+        width: None,
+    };
+    let chart = Asked::Chart {
+        scenario: "s",
+        history: "h",
+        width: Some(4000),
+    };
     for (line, asked) in [
         ("play s p w", play),
         ("run s --turns 009 p --hands=+2 w", run),
@@ -64,6 +82,9 @@ fn commands_over_scripts_and_histories(rt: HostRuntime) -> Result<(), Fail> {
         ("trend s h 1 0 4294967295", trend),
         ("delays s h", delays),
         ("page s h", page),
+        ("picture s --width=700 h 3", part),
+        ("plot s h 1", plot),
+        ("chart s h --width 4000", chart),
     ] {
         asks(&rt, rt.alloc(), line, asked)?;
     }
@@ -120,6 +141,9 @@ fn other_words_are_refused(rt: HostRuntime) -> Result<(), Fail> {
         "run s p w --hands 2",
         "run s p w --hands 2 --hands 2 --turns 9",
         "play -x s p w",
+        "plot s h",
+        "picture s h --width 599",
+        "chart s h --width 4001",
     ];
     for line in lines {
         let words = words_of(rt.alloc(), line)?;

@@ -19,13 +19,9 @@ use std::alloc::Global;
 use world_entries::{Entry, History};
 use world_history::{Bench, all_benches};
 
-/// A legal history as far as delays go by it.
+/// A legal history as far as delays go by it. It is acted once more.
 #[tactic(auto, unfolding(crate::specs::DelaysText::watched_in))]
-pub(crate) fn watched_in(
-    alloc: Global,
-    scenario: &Scenario,
-    history: &History,
-) -> Result<Watched, Want>
+pub fn watched_in(alloc: Global, scenario: &Scenario, history: &History) -> Result<Watched, Want>
     requires valid { IsScenario (contents scenario.now) }
     requires legal { IsLegal (setup_of (contents scenario.now)) history.now }
     requires short { length history.now < 2 ^ 32 }

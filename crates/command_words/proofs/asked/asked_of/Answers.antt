@@ -59,6 +59,18 @@ pub returns-in-page : goal.returns-in-page
 returns-in-page c =
     named (goal.at.returns-in-page c).In_ok-name (codes "page") _ c.in-page.is c.page.ensures
 
+pub returns-in-picture : goal.returns-in-picture
+returns-in-picture c =
+    named (goal.at.returns-in-picture c).In_ok-name (codes "picture") _ c.in-picture.is c.picture.ensures
+
+pub returns-in-plot : goal.returns-in-plot
+returns-in-plot c =
+    named (goal.at.returns-in-plot c).In_ok-name (codes "plot") _ c.in-plot.is c.plot.ensures
+
+pub returns-in-chart : goal.returns-in-chart
+returns-in-chart c =
+    named (goal.at.returns-in-chart c).In_ok-name (codes "chart") _ c.in-chart.is c.chart.ensures
+
 pub returns-in_default : goal.returns-in_default
 returns-in_default c =
     let other : command_in c.in_ok-name.name.now (rows_of (found_of c.in_ok-name.found.now)) ≡ None =
@@ -75,5 +87,8 @@ returns-in_default c =
       other_name _ _ c.in_default.not-trend,
       other_name _ _ c.in_default.not-delays,
       other_name _ _ c.in_default.not-page,
+      other_name _ _ c.in_default.not-picture,
+      other_name _ _ c.in_default.not-plot,
+      other_name _ _ c.in_default.not-chart,
     ) refl in
     named (goal.at.returns-in_default c).In_ok-name c.in_ok-name.name.now _ refl (sym other)

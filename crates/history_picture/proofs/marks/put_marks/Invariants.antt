@@ -6,5 +6,6 @@ use Rattle.history_picture.proofs.marks.put_marks.Given as goal
 
 -- the entries so far are shown
 abbrev pub invariant-loop-mark : goal.invariant-loop-mark
-invariant-loop-mark l = string_bytes l.text ≡ string_bytes l.initial.text ++ flat_map (shown_text l.cast l.range)
-    (take l.mark-index l.marks)
+invariant-loop-mark l =
+    string_bytes l.text
+    ≡ string_bytes l.initial.text ++ flat_map (shown_text l.cast l.sheet l.range) (take l.mark-index l.marks)

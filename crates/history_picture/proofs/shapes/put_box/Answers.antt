@@ -2,7 +2,7 @@
 use Rattle.std.proofs.Common.{◌++◌, ◌∙◌, List, ℕ, ap, codes, decimal}
 use Rattle.std.specs.Prelude.{string_bytes}
 use Rattle.history_picture.specs.Shapes.{box_text}
-use Rattle.history_picture.proofs.DrawnInTurn.{eleven-parts}
+use Rattle.history_picture.proofs.Joined.{eleven-parts}
 use Rattle.history_picture.proofs.shapes.put_box.Goals as goal
 
 pub returns : goal.returns

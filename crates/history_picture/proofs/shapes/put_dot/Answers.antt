@@ -2,7 +2,7 @@
 use Rattle.std.proofs.Common.{◌++◌, ◌∙◌, List, ℕ, ap, codes, decimal}
 use Rattle.std.specs.Prelude.{string_bytes}
 use Rattle.history_picture.specs.Shapes.{dot_text}
-use Rattle.history_picture.proofs.DrawnInTurn.{nine-parts}
+use Rattle.history_picture.proofs.Joined.{nine-parts}
 use Rattle.history_picture.proofs.shapes.put_dot.Goals as goal
 
 pub returns : goal.returns

@@ -11,12 +11,12 @@ pub put_states-requires-clause-benches : goal.put_states-requires-clause-benches
 put_states-requires-clause-benches c =
     all_are (contents c.args.scenario.now) c.args.history.now c.args.benches.now c.requires.benches
 
-pub returns : goal.returns
-returns c =
+pub returns-clause-text : goal.returns-clause-text
+returns-clause-text c =
     ap (λ v. v.items) c.into_bytes.ensures.value
     ∙ text_put (contents c.args.scenario.now) c.args.history.now (string_bytes c.in_ok-text.text)
     (string_bytes c.put_states.new.text) (string_bytes c.put_totals.new.text)
     (string_bytes c.put_count.new.text) (string_bytes c.put_entries.new.text) c.len.result c.in_ok-text.ensures.ok
     (c.in_ok-put_states.ensures ∙ ap (λ (t : List ℕ). string_bytes c.in_ok-text.text ++ t)
     (states_text (contents c.args.scenario.now) c.args.history.now c.args.benches.now c.requires.benches))
-    c.in_ok-put_totals.ensures c.in_ok-put_count.ensures c.len.ensures c.in_ok-put_entries.ensures
+    c.in_ok-put_totals.ensures c.in_ok-put_count.ensures c.len.ensures c.in_ok-put_entries.ensures.text

@@ -6,17 +6,17 @@ use Rattle.std.specs.declared.alloc.Global.{Global}
 use Rattle.command_words.specs.Wanted.{Wanted, wanted}
 use Rattle.command_ends.specs.Calls.{TextCause}
 use Rattle.command_ends.specs.declared.refusal.Refusal.{Refusal}
-use Rattle.run_commands.specs.Course.{CommandStep}
 use Rattle.run_commands.specs.Readers.{Readers}
+use Rattle.run_commands.specs.Told.{ToldStep}
 use Rattle.run_commands.proofs.program.unposed_text.Goals as goal
 
 -- the course of the words is that of what they name
 of-words : (r : Readers) (words named : Wanted) (held : List ℕ → Option (List ℕ)) (first last : List ℕ → ℕ)
     (result : Result (Vec ℕ Global) Refusal) → words ≡ named
-    → TextCause (CommandStep r named) held first last [] result
-    → TextCause (CommandStep r words) held first last [] result
+    → TextCause (ToldStep r named) held first last [] result
+    → TextCause (ToldStep r words) held first last [] result
 of-words r words named held first last result are cause =
-    subst (λ w. TextCause (CommandStep r w) held first last [] result) (sym are) cause
+    subst (λ w. TextCause (ToldStep r w) held first last [] result) (sym are) cause
 
 pub returns-in-Play-clause-cause : goal.returns-in-Play-clause-cause
 returns-in-Play-clause-cause g c =

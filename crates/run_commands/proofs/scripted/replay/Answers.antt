@@ -1,23 +1,24 @@
 -- The course of a replay begins with the scenario's file. Where it is refused the course ends there, and
--- otherwise the history goes on from the scenario that it leads to.
+-- otherwise the history goes on from the scenario that the file holds.
 use Rattle.std.proofs.Common.{[], refl}
 use Rattle.scenario_file.specs.Reading.{contents}
-use Rattle.command_words.specs.Wanted.{replay}
+use Rattle.command_ends.proofs.Courses.{after-load}
 use Rattle.run_commands.specs.Reading.{with_scenario}
-use Rattle.run_commands.specs.Course.{CommandStep}
-use Rattle.run_commands.proofs.Openings.{after-open, open-refused}
+use Rattle.run_commands.specs.Told.{ReplayCourse}
+use Rattle.run_commands.proofs.Openings.{open-refused}
 use Rattle.run_commands.proofs.Playing.{replay-refused}
 use Rattle.run_commands.proofs.scripted.replay.Goals as goal
 
 pub returns-in-Ok-clause-cause : goal.returns-in-Ok-clause-cause
 returns-in-Ok-clause-cause g c =
-    after-open (CommandStep g.R.Runs.readers (replay c.args.scenario.now c.args.history.now)) _ _ _ _ _ []
-    c.args.scenario.now with_scenario contents c.in-Ok.scenario c.replay_history.result
-    refl c.in-Ok.ensures.cause c.open_scenario.ensures.kept c.in-Ok.ensures.file_faults
-    (λ first one. c.replay_history.ensures.cause c.args.scenario.now first one)
+    let found = c.in-Ok.ensures.found in
+    after-load (ReplayCourse g.R.Runs.readers c.args.scenario.now c.args.history.now) _ _ _ _ _ []
+    c.args.scenario.now found.0 c.replay_history.result
+    refl found.1 found.2 c.open_scenario.ensures.kept c.in-Ok.ensures.file_faults
+    (c.replay_history.ensures.cause c.args.scenario.now found.0 found.3)
 
 pub returns-in-Err-clause-cause : goal.returns-in-Err-clause-cause
 returns-in-Err-clause-cause g c =
-    open-refused (CommandStep g.R.Runs.readers (replay c.args.scenario.now c.args.history.now)) _ _ _ []
+    open-refused (ReplayCourse g.R.Runs.readers c.args.scenario.now c.args.history.now) _ _ _ []
     c.args.scenario.now with_scenario contents c.in-Err.refusal refl c.in-Err.ensures.cause
     (λ first w one. replay-refused g.R.Runs.readers c.args.scenario.now c.args.history.now first w one)

@@ -14,6 +14,7 @@ returns-clause-keeps g c =
       matches = c.always_matches.ensures;
       printed = c.parts_are_printed.ensures;
       rebuild = c.printed_lines_rebuild.ensures;
+      own = c.certified_have_own_digests.ensures;
       enough = c.enough_lines_rebuild.ensures;
       plain = c.escaped_is_plain.ensures;
     } in

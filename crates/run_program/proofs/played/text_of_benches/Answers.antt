@@ -1,7 +1,8 @@
 -- The benches have each entry of their history once, so they merge to that history. It is legal and they are its
--- benches, so its text is written with nothing replayed.
+-- benches, so its text is written with nothing replayed, and tells it.
 use Rattle.scenario_file.specs.Reading.{contents}
 use Rattle.run_program.proofs.Benches.{printed_once, printed_after, merged_text}
+use Rattle.run_program.proofs.Telling.{told_text}
 use Rattle.run_program.proofs.played.text_of_benches.Goals as goal
 
 pub merge-requires : goal.merge-requires
@@ -26,5 +27,11 @@ write_run_of-requires-clause-benches c =
     c.requires.benches).are_benches
 
 pub returns : goal.returns
-returns c = merged_text (contents c.args.scenario.now) c.in_ok-history.history c.args.benches.now
-    c.write_run_of.result c.in_ok-history.ensures.merged c.write_run_of.ensures
+returns c =
+    let made = c.in_ok-history.history in
+    let scenario = contents c.args.scenario.now in
+    let after = printed_after scenario made c.args.benches.now c.in_ok-history.ensures.merged
+    (c.in_ok-history.ensures.legal scenario) c.requires.benches in
+    merged_text scenario made c.args.benches.now c.write_run_of.result c.in_ok-history.ensures.merged
+    (told_text c.texts_tell_histories.ensures scenario made c.write_run_of.result c.requires.valid
+    after.legal after.short c.write_run_of.ensures.text c.write_run_of.ensures.told)

@@ -4,6 +4,7 @@ use Rattle.std.proofs.Common.{◌∙◌}
 use Rattle.scenario_file.specs.Reading.{contents}
 use Rattle.run_program.proofs.Giving.{gives_replay, gives_no_history}
 use Rattle.world_history.proofs.AuditAsks.{all_unsigned}
+use Rattle.run_program.proofs.Telling.{is_told}
 use Rattle.run_program.proofs.replayed.replayed_text.Goals as goal
 
 pub write_run_of-requires-clause-benches : goal.write_run_of-requires-clause-benches
@@ -14,7 +15,10 @@ write_run_of-requires-clause-benches c =
 pub returns-in-Ok-write_run_of : goal.returns-in-Ok-write_run_of
 returns-in-Ok-write_run_of c =
     gives_replay (contents c.args.scenario.now) c.args.text.now c.in-Ok-write_run_of.text c.in-Ok.replay.history
-    c.in-Ok.ensures.history c.in-Ok-write_run_of.ensures
+    c.in-Ok.ensures.history
+    (is_told c.texts_tell_histories.ensures (contents c.args.scenario.now) c.in-Ok.replay.history
+    c.in-Ok-write_run_of.text c.requires c.in-Ok.ensures.legal c.in-Ok.ensures.short
+    c.in-Ok-write_run_of.ensures.text c.in-Ok-write_run_of.ensures.told)
 
 pub returns : goal.returns
 returns c =

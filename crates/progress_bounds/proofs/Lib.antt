@@ -1,0 +1,9 @@
+pub mod Events
+pub mod Counting
+pub mod Rates
+pub mod Once
+pub mod Again
+pub mod ATick
+pub mod Shares
+pub mod InTurn
+pub mod Acked

@@ -1,0 +1,4 @@
+pub mod NineRounds
+pub mod ChangeOfView
+pub mod VoteSplit
+pub mod Examples

@@ -1,0 +1,5 @@
+pub mod WholeLines
+pub mod Held
+pub mod Sheet
+pub mod Input
+pub mod Batch

@@ -1,0 +1,3 @@
+mod Beginnings
+pub mod Saying
+mod Living
