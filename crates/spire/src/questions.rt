@@ -205,14 +205,14 @@ fn pictures_are_drawn_of_the_entries_asked_for(rt: HostRuntime) -> Result<(), Fa
     )?;
     assert_eq!(rt; drawn.status, 0);
     assert!(rt; drawn.put.starts_with(b"<svg xmlns=\"http://www.w3.org/2000/svg\" width=\"600\" "));
-    let mut titles = 0;
+    let mut titles = 0u32;
     for line in drawn.put.split(|byte| *byte == b'\n') {
         if line.starts_with(b"<g><title>") {
             assert_eq!(rt;
                 line,
                 b"<g><title>1 m0 took update of 0, says 1</title>".as_slice()
             );
-            titles += 1;
+            titles = titles.saturating_add(1);
         }
     }
     assert_eq!(rt; titles, 1);
