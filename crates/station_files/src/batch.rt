@@ -75,7 +75,8 @@ impl Batch {
     }
 
     /// Keeps what is to be kept, and then puts out what is to be put out. Entries that came together are settled together, and
-    /// where they say nothing they wait for a later word. After a refusal all is as it was here.
+    /// where they say nothing they wait for a later word. After a refusal all is as it was here, and the file may have the lines
+    /// already: so it isn't released again, but made anew from what the file has.
     pub fn release<F: KeptFile, S: Sink>(
         &mut self,
         file: &mut F,
