@@ -1,6 +1,6 @@
 -- What is kept of the words taken: each master's first word for each kind and numbers, and who is named. (This
 -- project's own.)
-use Rattle.std.specs.Prelude.{◌≡◌, ℕ, Bool, false, List, Option, Some, None}
+use Rattle.std.specs.Prelude.{◌≡◌, ◌<◌, ◌++◌, ℕ, Bool, false, List, length, take, Option, Some, None}
 use Rattle.std.specs.List.{find}
 use Rattle.std.specs.Option.{option_map_or}
 use Rattle.indexmap.specs.IndexMap.{get}
@@ -35,3 +35,9 @@ pub record HasTaken (n : ℕ) (words : List (Signed Body)) (blame : Blame) : Typ
   pub masters : blame.masters ≡ n
   pub firsts : (key : Key) → get same_key blame.firsts key ≡ find (fills key) words
   pub pairs : blame.pairs.items ≡ named n words
+
+-- of n masters these words were taken, and then a beginning of these parts, but not all of them
+pub record HasBegun (n : ℕ) (words parts : List (Signed Body)) (blame : Blame) : Type 0 where
+  pub count : ℕ
+  pub some : count < length parts
+  pub taken : HasTaken n (words ++ take count parts) blame

@@ -1,11 +1,11 @@
-ghost use Rattle.std.specs.Prelude.{◌≡◌, ◌++◌, ◌∷◌, ℕ, List, [], nat_eq, OnOk};
+ghost use Rattle.std.specs.Prelude.{◌≡◌, ◌<◌, ◌++◌, ◌∷◌, ℕ, List, [], length, nat_eq, OnOk, OnErr};
 ghost use Rattle.std.specs.List.{list_any};
 ghost use Rattle.message_types.specs.declared.signed.Signed.{Signed as SignedWord};
 ghost use Rattle.message_types.specs.declared.body.Body.{Body as Word};
 ghost use Rattle.message_types.specs.Parts.{parts as parts_of_frame};
 ghost use Rattle.history_rules.specs.Sameness.{is_same_body};
 ghost use Rattle.blame_check.specs.Contradictions.{named};
-ghost use Rattle.blame_check.specs.Slots.{HasTaken};
+ghost use Rattle.blame_check.specs.Slots.{HasTaken, HasBegun};
 
 use crate::pairs::{Named, is_named, name};
 use crate::slots::{Firsts, slot_of};
@@ -47,18 +47,23 @@ impl Blame {
         }
     }
 
-    /// Takes the next frame, with all frames inside it. After want of memory the blame is spent.
+    /// Takes the next frame, with all frames inside it. After want of memory a beginning of these was taken, in their order, and
+    /// the blame goes by that.
     pub fn take(&mut self, alloc: Global, checked: &Checked) -> Result<(), Want>
-        ensures { OnOk result ((n : ℕ) (words : List (SignedWord Word)) → HasTaken n words self.old
+        ensures taken { OnOk result ((n : ℕ) (words : List (SignedWord Word)) → HasTaken n words self.old
             → HasTaken n (words ++ parts_of_frame checked.now) self.new) }
+        ensures begun { OnErr result ((n : ℕ) (words : List (SignedWord Word)) → HasTaken n words self.old
+            → HasBegun n words (parts_of_frame checked.now) self.new) }
     {
         let parts = parts_of(alloc, checked.frame())?;
         self.take_parts(parts)
     }
 
     fn take_parts(&mut self, parts: Vec<Frame>) -> Result<(), Want>
-        ensures { OnOk result ((n : ℕ) (words : List (SignedWord Word)) → HasTaken n words self.old
+        ensures taken { OnOk result ((n : ℕ) (words : List (SignedWord Word)) → HasTaken n words self.old
             → HasTaken n (words ++ parts.items) self.new) }
+        ensures begun { OnErr result ((n : ℕ) (words : List (SignedWord Word)) → HasTaken n words self.old
+            → HasBegun n words parts.items self.new) }
     {
         for part in parts {
             self.take_part(part)?;
@@ -67,8 +72,10 @@ impl Blame {
     }
 
     fn take_part(&mut self, part: Frame) -> Result<(), Want>
-        ensures { OnOk result ((n : ℕ) (words : List (SignedWord Word)) → HasTaken n words self.old
+        ensures taken { OnOk result ((n : ℕ) (words : List (SignedWord Word)) → HasTaken n words self.old
             → HasTaken n (words ++ part ∷ []) self.new) }
+        ensures stays { OnErr result ((n : ℕ) (words : List (SignedWord Word)) → HasTaken n words self.old
+            → HasTaken n words self.new) }
     {
         let Some((kind, first, second)) = slot_of(&part.body) else {
             return Ok(());

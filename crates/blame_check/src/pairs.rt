@@ -1,4 +1,4 @@
-ghost use Rattle.std.specs.Prelude.{◌≡◌, ◌≤◌, ℕ, length, Option, Some, None, if◌then◌else◌, nat_eq, nat_lt, ◌&&◌, not, OnOk};
+ghost use Rattle.std.specs.Prelude.{◌≡◌, ◌≤◌, ℕ, length, Option, Some, None, if◌then◌else◌, nat_eq, nat_lt, ◌&&◌, not, OnOk, OnErr};
 ghost use Rattle.std.specs.List.{list_any, position_or_len};
 ghost use Rattle.std.specs.Option.{option_or};
 ghost use Rattle.blame_check.specs.declared.pairs.Named.{Named as Pair};
@@ -59,8 +59,9 @@ fn place_of(pairs: &[Named], master: u32) -> usize
 
 /// Names the signer of the second word, unless it is named already or isn't one of so many masters.
 pub fn name(pairs: &mut Vec<Named>, masters: u32, first: &Frame, second: Frame) -> Result<(), Want>
-    ensures { OnOk result ((pair : ℕ → Option Pair) → ((m : ℕ) → IsOwnPair m (pair m)) → pairs.old.items ≡ rising pair masters
+    ensures named { OnOk result ((pair : ℕ → Option Pair) → ((m : ℕ) → IsOwnPair m (pair m)) → pairs.old.items ≡ rising pair masters
         → pairs.new.items ≡ rising (λ m. option_or (pair m) (if nat_eq second.signer m then Some (pair_of first.now second) else None)) masters) }
+    ensures stays { OnErr result (pairs.new.items ≡ pairs.old.items) }
 {
     let master = second.signer;
     if !is_new(pairs.as_slice(), masters, master) {

@@ -49,7 +49,7 @@ pub(crate) fn put_op(text: &mut String, op: &Op) -> Result<(), Want>
 }
 
 /// Appends two digits for each byte, and a dash for no bytes.
-pub(crate) fn put_hex(alloc: Global, text: &mut String, bytes: &[u8]) -> Result<(), Want>
+pub fn put_hex(alloc: Global, text: &mut String, bytes: &[u8]) -> Result<(), Want>
     ensures { OnOk result (string_bytes text.new ≡ string_bytes text.old ++ hex_text bytes.now) }
 {
     if bytes.is_empty() {

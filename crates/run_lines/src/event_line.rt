@@ -188,7 +188,7 @@ fn named(alloc: Global, what: &str, fields: &[&str]) -> Result<EventLine, LineRe
 
 /// What an event's words say.
 #[tactic(auto, unfolding(crate::specs::Reading::event_in))]
-pub(crate) fn read_event(alloc: Global, words: &[&str]) -> Result<EventLine, LineRefusal>
+pub fn read_event(alloc: Global, words: &[&str]) -> Result<EventLine, LineRefusal>
     ensures { Answers result (event_in (texts words.now)) }
 {
     match words {

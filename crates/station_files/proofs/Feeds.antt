@@ -56,20 +56,40 @@ feed_ahead (x ∷ xs) ys is = by (x == 10) refl is (feed_ahead xs ys)
     by true e found later = ap (λ t. not t && has_no_feed (xs ++ ys)) e
     by false e found later = ap (λ t. not t && has_no_feed (xs ++ ys)) e ∙ later found
 
--- and so of what waits, where that is told: the bytes from a place to another were read ahead
+-- what was read ahead are the bytes from a place to another
+read_ahead : (items given : List ℕ) (from to : ℕ) → from ≤ to → given ≡ items →
+    drop from (take to items) ≡ take (to - from) (drop from given)
+read_ahead items given from to within same =
+    let whole : from + (to - from) ≡ to = omega arith in
+    ap (λ k. drop from (take k items)) (sym whole) ∙ drop-take from (to - from) items
+    ∙ ap (λ xs. take (to - from) (drop from xs)) (sym same)
+
+-- some byte is a line feed where not all are others
+some_feed : (xs : List ℕ) → list_any (λ y. y == 10) xs ≡ not (has_no_feed xs)
+some_feed [] = refl
+some_feed (x ∷ xs) = by (x == 10) refl (some_feed xs)
+  where
+    by : (t : Bool) → (x == 10) ≡ t → list_any (λ y. y == 10) xs ≡ not (has_no_feed xs) →
+        ((x == 10) || list_any (λ y. y == 10) xs) ≡ not (not (x == 10) && has_no_feed xs)
+    by true e later =
+        ap (λ t. t || list_any (λ y. y == 10) xs) e ∙ sym (ap (λ t. not (not t && has_no_feed xs)) e)
+    by false e later =
+        ap (λ t. t || list_any (λ y. y == 10) xs) e ∙ later ∙ sym (ap (λ t. not (not t && has_no_feed xs)) e)
+
+pub feed_among : (items given : List ℕ) (from to : ℕ) → from ≤ to → given ≡ items →
+    list_any (λ y. y == 10) (take (to - from) (drop from given)) ≡ not (has_no_feed (drop from (take to items)))
+feed_among items given from to within same =
+    ap (λ xs. list_any (λ y. y == 10) xs) (sym (read_ahead items given from to within same))
+    ∙ some_feed (drop from (take to items))
+
+-- and so of what waits, where that is told
 pub line_ahead : (items given : List ℕ) (from to : ℕ) (rest : Option (List ℕ)) (found : Bool) → from ≤ to →
     given ≡ items → found ≡ list_any (λ y. y == 10) (take (to - from) (drop from given)) → found ≡ true →
     IfSome (prepend_known (drop from (take to items)) rest) (λ bytes. has_no_feed bytes ≡ false)
 line_ahead items given from to rest found within same is came = at rest
   where
-    ahead : drop from (take to items) ≡ take (to - from) (drop from given)
-    ahead =
-        let whole : from + (to - from) ≡ to = omega arith in
-        ap (λ k. drop from (take k items)) (sym whole) ∙ drop-take from (to - from) items
-        ∙ ap (λ xs. take (to - from) (drop from xs)) (sym same)
-
     one : list_any (λ y. y == 10) (drop from (take to items)) ≡ true
-    one = ap (λ xs. list_any (λ y. y == 10) xs) ahead ∙ sym is ∙ came
+    one = ap (λ xs. list_any (λ y. y == 10) xs) (read_ahead items given from to within same) ∙ sym is ∙ came
 
     at : (o : Option (List ℕ)) →
         IfSome (prepend_known (drop from (take to items)) o) (λ bytes. has_no_feed bytes ≡ false)

@@ -1,3 +1,4 @@
+mod Begun
 mod Feeds
 mod Ahead
 mod LinesRead

@@ -1,7 +1,7 @@
 ghost use Rattle.std.specs.Prelude.{◌≡◌, ◌≤◌, ◌++◌, true, OnOk, OnErr, IsErrOf};
 ghost use Rattle.outside.specs.Faults.{HasRisen};
 ghost use Rattle.outside.specs.Keepers.{KeepCounts};
-ghost use Rattle.station_files.specs.Batch.{Waiting, none_waits, kept_with, Releases, ReleaseCounts};
+ghost use Rattle.station_files.specs.Batch.{Waiting, none_waits, kept_with, HasBegun, Releases, ReleaseCounts};
 
 use crate::kept_file::KeptFile;
 use outside::{KeepAnswer, PutAnswer, Sink};
@@ -75,40 +75,58 @@ impl Batch {
     }
 
     /// Keeps what is to be kept, and then puts out what is to be put out. Entries that came together are settled together, and
-    /// where they say nothing they wait for a later word. After a refusal all is as it was here, and the file may have the lines
-    /// already: so it isn't released again, but made anew from what the file has.
+    /// where they say nothing they wait for a later word. Whatever is answered, nothing waits here any more, so no line is kept
+    /// twice and no word is put that isn't kept: after a refusal the file may have the lines or a beginning of them, and what it
+    /// has is read again.
     pub fn release<F: KeptFile, S: Sink>(
         &mut self,
         file: &mut F,
         sink: &mut S,
     ) -> Result<(), ReleaseAnswer>
         ensures released { Releases self.old (F.held file.old) (S.told sink.old) result (F.held file.new) (S.told sink.new) }
-        ensures emptied { OnOk result (self.new ≡ none_waits) }
-        ensures unchanged { OnErr result (self.new ≡ self.old) }
+        ensures emptied { self.new ≡ none_waits }
         ensures not_kept { IsErrOf result ReleaseAnswer.NotKept → HasRisen (F.faults file.old) (F.faults file.new) }
         ensures not_put { IsErrOf result ReleaseAnswer.NotPut → HasRisen (S.faults sink.old) (S.faults sink.new) }
         ensures counted { ReleaseCounts result (F.faults file.old) (S.faults sink.old) (F.faults file.new) (S.faults sink.new) }
     {
-        match keep_lines(file, self.lines.as_slice(), self.has_words) {
-            Ok(()) => {}
-            Err(KeepAnswer::Failed) => return Err(ReleaseAnswer::NotKept),
-            Err(KeepAnswer::Want) => return Err(ReleaseAnswer::Want),
-        }
-        match sink.put(self.out.as_slice()) {
-            Ok(()) => {}
-            Err(PutAnswer::Failed) => return Err(ReleaseAnswer::NotPut),
-            Err(PutAnswer::Want) => return Err(ReleaseAnswer::Want),
-        }
+        let lines = self.lines.as_slice();
+        let answer = release_all(file, sink, lines, self.out.as_slice(), self.has_words);
         self.lines.clear();
         self.out.clear();
         self.has_words = false;
-        Ok(())
+        answer
+    }
+}
+
+// Keeps the lines, and then puts out what is to be put out.
+fn release_all<F: KeptFile, S: Sink>(
+    file: &mut F,
+    sink: &mut S,
+    lines: &[u8],
+    out: &[u8],
+    has_words: bool,
+) -> Result<(), ReleaseAnswer>
+    ensures released { Releases (record { lines = lines.now; out = out.now; has_words = has_words }) (F.held file.old) (S.told sink.old) result (F.held file.new) (S.told sink.new) }
+    ensures not_kept { IsErrOf result ReleaseAnswer.NotKept → HasRisen (F.faults file.old) (F.faults file.new) }
+    ensures not_put { IsErrOf result ReleaseAnswer.NotPut → HasRisen (S.faults sink.old) (S.faults sink.new) }
+    ensures counted { ReleaseCounts result (F.faults file.old) (S.faults sink.old) (F.faults file.new) (S.faults sink.new) }
+{
+    match keep_lines(file, lines, has_words) {
+        Ok(()) => {}
+        Err(KeepAnswer::Failed) => return Err(ReleaseAnswer::NotKept),
+        Err(KeepAnswer::Want) => return Err(ReleaseAnswer::Want),
+    }
+    match sink.put(out) {
+        Ok(()) => Ok(()),
+        Err(PutAnswer::Failed) => Err(ReleaseAnswer::NotPut),
+        Err(PutAnswer::Want) => Err(ReleaseAnswer::Want),
     }
 }
 
 // Adds lines to a file, and makes all of it durable where this is asked for.
 fn keep_lines<F: KeptFile>(file: &mut F, lines: &[u8], is_settled: bool) -> Result<(), KeepAnswer>
     ensures kept { OnOk result (F.held file.new ≡ kept_with (F.held file.old) lines.now is_settled) }
+    ensures begun { OnErr result (HasBegun (F.held file.old) lines.now (F.held file.new)) }
     ensures failed { IsErrOf result KeepAnswer.Failed → HasRisen (F.faults file.old) (F.faults file.new) }
     ensures counted { KeepCounts result (F.faults file.old) (F.faults file.new) }
 {

@@ -1,4 +1,4 @@
-ghost use Rattle.std.specs.Prelude.{◌≡◌, ◌≤◌, ℕ, List, Option, IfOk, IfSome, IsErrOf, IsTrue, false};
+ghost use Rattle.std.specs.Prelude.{◌≡◌, ◌≤◌, ℕ, List, Option, IfOk, IfSome, IsErrOf, IsTrue, false, not};
 ghost use Rattle.outside.specs.Faults.{HasRisen};
 ghost use Rattle.station_files.specs.Input.{ComesOf, LineCounts};
 ghost use Rattle.station_files.specs.WholeLines.{has_no_feed};
@@ -32,7 +32,10 @@ pub trait Lines {
     // How many faults came so far.
     ghost faults: { Self → ℕ };
 
-    // The bytes that are still to come, where this is told.
+    // What was read ahead of the lines given.
+    ghost ahead: { Self → List ℕ };
+
+    // The bytes that are still to come, where this is told, what was read ahead among them.
     ghost waiting: { Self → Option (List ℕ) };
 
     /// What comes next, a line of at most `room` bytes. It takes no more memory than that, however long a line is. After a
@@ -43,7 +46,9 @@ pub trait Lines {
         ensures counted { LineCounts result (faults self.old) (faults self.new) }
         ensures came { IfOk result (λ came. ComesOf room (waiting self.old) came (waiting self.new)) };
 
-    /// Whether a line is at hand, so that `next_line` gives it without waiting for more input.
+    /// Whether a line is at hand, so that `next_line` gives it without waiting for more input: just where its line feed is among
+    /// what was read ahead.
     fn is_line_ahead(&self) -> bool
-        ensures ahead { IsTrue result → IfSome (waiting self.now) (λ bytes. has_no_feed bytes ≡ false) };
+        ensures exact { result ≡ not (has_no_feed (ahead self.now)) }
+        ensures waits { IsTrue result → IfSome (waiting self.now) (λ bytes. has_no_feed bytes ≡ false) };
 }

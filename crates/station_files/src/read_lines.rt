@@ -151,6 +151,8 @@ impl Begun {
 impl<R: Read> Lines for ReadLines<R> {
     ghost faults = { λ inlet. inlet.faults };
 
+    ghost ahead = { λ inlet. inlet.ahead };
+
     ghost waiting = { waiting_of };
 
     fn next_line(&mut self, room: u64) -> Result<Came, LineAnswer> {

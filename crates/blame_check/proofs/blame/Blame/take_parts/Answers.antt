@@ -22,11 +22,11 @@ loop-part-preserved c = record {
   taken = λ n words has.
       subst (λ (ws : List (Signed Body)). HasTaken n ws c.take_part.new.self)
       (append_assoc words c.loop-part.yielded (c.in-Some.part ∷ []))
-      (c.in_ok-take_part.ensures n (words ++ c.loop-part.yielded) (c.loop-part.invariant.taken n words has));
+      (c.in_ok-take_part.ensures.taken n (words ++ c.loop-part.yielded) (c.loop-part.invariant.taken n words has));
 }
 
-pub returns : goal.returns
-returns c = λ n words has.
+pub returns-clause-taken : goal.returns-clause-taken
+returns-clause-taken c = λ n words has.
     let none : length c.loop-part.part-iterator.rest.items ≡ 0 =
     omega (arith, c.in-None.ensures.steps, c.loop-part.part-iterator.rest.ok) in
     let whole : c.loop-part.yielded ≡ c.args.parts.items =
