@@ -1,5 +1,5 @@
 //! Tests of histories at work: benches, actors with their keepers, what an intruded master is made to say, and plays: where a
-//! script stops, what masters say at its end, what a restart posts again, and keys that are spent.
+//! script stops, what masters say at its end, what a restart posts again, keys that are spent, and stations.
 #![tactic(auto)]
 
 #[cfg(test)]
@@ -18,5 +18,7 @@ mod plays;
 mod scripts;
 #[cfg(test)]
 mod spent;
+#[cfg(test)]
+mod stations;
 #[cfg(test)]
 mod taking_over;

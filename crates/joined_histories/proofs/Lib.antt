@@ -1,0 +1,5 @@
+mod Lists
+mod Short
+mod Owners
+mod Reading
+mod Next

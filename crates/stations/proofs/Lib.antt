@@ -1,0 +1,16 @@
+mod Kept
+mod Naming
+mod Telling
+mod Taking
+mod Standing
+mod Since
+mod Coming
+mod Entering
+mod Shown
+mod Going
+mod Released
+mod Turns
+mod Reading
+mod Begun
+mod Named
+mod Asked

@@ -1,0 +1,6 @@
+pub mod Taken
+pub mod Telling
+pub mod Asking
+pub mod Station
+pub mod Beginning
+pub mod Going
