@@ -3317,7 +3317,7 @@ def read_words(data, scenario):
 def read_hex(b):
     if b == b'-':
         return b''
-    if len(b) % 2 or not b or any(c not in b'0123456789abcdefABCDEF' for c in b):
+    if len(b) % 2 or not b or b.translate(None, b'0123456789abcdefABCDEF'):
         return None
     return bytes.fromhex(b.decode())
 
