@@ -127,10 +127,24 @@ struct Play {
     void provide(u32 master, const Frame &f) {
         if (knowledge[master].knows(f))
             return;
-        if (f.signer == master)
-            said_to_self.push_back({f, cry(master, f, {master})});
-        else
-            take(master, f, first_said.at({f.signer, f.body->id}));
+        if (f.signer != master)
+            return take(master, f, first_said.at({f.signer, f.body->id}));
+        provide_parts(f);
+        said_to_self.push_back({f, cry(master, f, {master})});
+    }
+
+    // Whether the program makes the word of what its speaker knows.
+    static bool is_made(const Body &b) { return b.kind == REPORT || b.kind == GIVE || b.kind == GIVE_ORDERED; }
+
+    // What the program makes a word of: its speaker comes to know that first.
+    void provide_parts(const Frame &f) {
+        if (!is_made(*f.body))
+            return;
+        each_inside(*f.body, [&](const Frame &part) { provide(f.signer, part); });
+        if (f.body->kind == GIVE_ORDERED)
+            rows_digest(f.signer, f.body->rows->id);
+        for (const Certificate &c : f.body->certificates)
+            rows_digest(f.signer, c.rows->id);
     }
 
     // The first of these frames that the master knows, or else that it can come to know.
@@ -139,14 +153,14 @@ struct Play {
             std::find_if(frames.begin(), frames.end(), [&](const Frame &f) { return knowledge[master].knows(f); });
         if (known == frames.end())
             known = std::find_if(frames.begin(), frames.end(), [&](const Frame &f) {
-                return f.signer == master || first_said.count({f.signer, f.body->id});
+                return f.signer == master || (is_in_place(f) && first_said.count({f.signer, f.body->id}));
             });
         Frame f = known != frames.end() ? *known : Frame{master, word_with(PREPREPARE, 0, 0, {})};
         provide(master, f);
         return "@" + knowledge[master].reference(f);
     }
 
-    // Of rows; where no proposal has them they are those of an empty one, which stands nowhere.
+    // Of rows; where no proposal has them they are those of an empty one, which stands nowhere: nobody else can take it.
     std::string rows_digest(u32 master, u64 rows) { return digest_of(master, proposals_of[rows]); }
 
     std::string references(u32 master, const vector<Frame> &frames) {
@@ -198,9 +212,9 @@ struct Play {
 
     // The frame as the program makes it: with the votes of the lowest signers that the master knows.
     Frame as_made(const Frame &f) {
-        if (f.body->kind != REPORT && f.body->kind != GIVE && f.body->kind != GIVE_ORDERED)
+        if (!is_made(*f.body))
             return f;
-        each_inside(*f.body, [&](const Frame &part) { provide(f.signer, part); });
+        provide_parts(f);
         Body b = *f.body;
         size_t request = b.kind == GIVE;
         if (b.frames.size() > request) {
@@ -208,12 +222,8 @@ struct Play {
             for (const Frame &vote : quorum_known(f.signer, f.body->frames[request].body))
                 b.frames.push_back(vote);
         }
-        if (b.kind == GIVE_ORDERED)
-            rows_digest(f.signer, b.rows->id);
-        for (Certificate &c : b.certificates) {
-            rows_digest(f.signer, c.rows->id);
+        for (Certificate &c : b.certificates)
             c.prepares = quorum_known(f.signer, c.prepares[0].body);
-        }
         return Frame{f.signer, intern(std::move(b))};
     }
 
