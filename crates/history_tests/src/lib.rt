@@ -13,12 +13,12 @@ mod common;
 #[cfg(test)]
 mod kept;
 #[cfg(test)]
+mod kept_and_told;
+#[cfg(test)]
 mod plays;
 #[cfg(test)]
 mod scripts;
 #[cfg(test)]
 mod spent;
-#[cfg(test)]
-mod stations;
 #[cfg(test)]
 mod taking_over;
