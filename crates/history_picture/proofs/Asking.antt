@@ -6,7 +6,7 @@ use Rattle.scenario_file.specs.Reading.{Contents}
 use Rattle.history_rules.specs.Events.{Entry}
 use Rattle.history_picture.specs.declared.fault.PictureRefusal.{PictureRefusal}
 use Rattle.history_picture.specs.declared.fault.PictureRefusal.TheVariants as fault
-use Rattle.history_picture.specs.declared.picture.Range.{Range}
+use Rattle.lane_pictures.specs.declared.picture.Range.{Range}
 use Rattle.history_picture.specs.Pictures.{Draws, drawn_in, drawn_or_fault, picture_in, range_of}
 
 -- a refusal for its cause

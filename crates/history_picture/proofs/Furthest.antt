@@ -15,7 +15,7 @@ use Rattle.world_history.specs.Benches.{AreBenches, bench_in, benches_of, unsign
 use Rattle.point_table.specs.declared.point.Point.{Point}
 use Rattle.history_picture.specs.declared.fault.PictureRefusal.TheVariants as fault
 use Rattle.history_picture.specs.Pictures.{furthest_from, furthest_in, plot_in, plotted}
-use Rattle.history_picture.specs.Plots.{plot_text}
+use Rattle.axis_pictures.specs.Plots.{plot_text}
 
 abbrev pub works : BenchState → Bool
 works b = not b.is_spent

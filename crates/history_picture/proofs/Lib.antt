@@ -1,5 +1,3 @@
-mod Joined
-mod Turned
 mod Marked
 mod Furthest
 mod Asking

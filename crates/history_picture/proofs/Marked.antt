@@ -17,9 +17,9 @@ use Rattle.world_history.specs.Benches.{bench_in, benches_of}
 use Rattle.world_history.proofs.Addressed.{few_actors}
 use Rattle.world_history.proofs.HistoryReplays.{Comes, bench_at, bench_there, benches_grow}
 use Rattle.history_picture.specs.declared.happened.Came.{Came}
-use Rattle.history_picture.specs.declared.picture.Lane.{Lane}
-use Rattle.history_picture.specs.declared.picture.Mark.{Mark}
-use Rattle.history_picture.specs.declared.picture.Role.{Role}
+use Rattle.lane_pictures.specs.declared.picture.Lane.{Lane}
+use Rattle.lane_pictures.specs.declared.picture.Mark.{Mark}
+use Rattle.lane_pictures.specs.declared.picture.Role.{Role}
 use Rattle.history_picture.specs.Marks.{came, lane_of, lanes_in, last_stamp, mark_at, mark_by, marks_from, marks_in, role_in}
 
 -- ---- One entry.

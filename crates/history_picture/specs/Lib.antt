@@ -1,9 +1,2 @@
-pub mod Shapes
-pub mod Sheets
 pub mod Marks
-pub mod Drawing
-pub mod Turns
-pub mod Frames
-pub mod Plots
-pub mod Charts
 pub mod Pictures

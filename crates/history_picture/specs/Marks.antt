@@ -14,12 +14,12 @@ use Rattle.world_history.specs.State.{BenchState, board_shown, executions_shown,
 use Rattle.world_history.specs.Benches.{bench_in}
 use Rattle.run_lines.specs.Names.{kind_of}
 use Rattle.history_picture.specs.declared.happened.Came.{Came}
-use Rattle.history_picture.specs.declared.picture.Lane.{Lane}
-use Rattle.history_picture.specs.declared.picture.Mark.{Mark}
-use Rattle.history_picture.specs.declared.picture.Role.{Role}
-use Rattle.history_picture.specs.declared.picture.Role.TheVariants as role
-use Rattle.history_picture.specs.declared.picture.What.{What}
-use Rattle.history_picture.specs.declared.picture.What.TheVariants as what
+use Rattle.lane_pictures.specs.declared.picture.Lane.{Lane}
+use Rattle.lane_pictures.specs.declared.picture.Mark.{Mark}
+use Rattle.lane_pictures.specs.declared.picture.Role.{Role}
+use Rattle.lane_pictures.specs.declared.picture.Role.TheVariants as role
+use Rattle.lane_pictures.specs.declared.picture.What.{What}
+use Rattle.lane_pictures.specs.declared.picture.What.TheVariants as what
 
 -- A frame that a printed run tells by its bytes was said by nobody; it counts as said at a place that no body has
 -- (`told_by_bytes` of `printed_history`).

@@ -14,12 +14,12 @@ use Rattle.delay_times.specs.Table.{delays_of}
 use Rattle.run_questions.specs.DelaysText.{watched_in}
 use Rattle.history_picture.specs.declared.fault.PictureRefusal.{PictureRefusal}
 use Rattle.history_picture.specs.declared.fault.PictureRefusal.TheVariants as fault
-use Rattle.history_picture.specs.declared.picture.Range.{Range}
-use Rattle.history_picture.specs.Charts.{chart_text}
-use Rattle.history_picture.specs.Drawing.{picture_text}
+use Rattle.lane_pictures.specs.declared.picture.Range.{Range}
+use Rattle.axis_pictures.specs.Charts.{chart_text}
+use Rattle.lane_pictures.specs.Drawing.{picture_text}
 use Rattle.history_picture.specs.Marks.{lanes_in, marks_in}
-use Rattle.history_picture.specs.Plots.{plot_text}
-use Rattle.history_picture.specs.Sheets.{sheet_of}
+use Rattle.axis_pictures.specs.Plots.{plot_text}
+use Rattle.lane_pictures.specs.Sheets.{sheet_of}
 
 -- The stamps that are asked for, among those of so many entries: all of them where none are named, and all from one on
 -- where that alone is.

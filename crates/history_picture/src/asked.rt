@@ -10,13 +10,10 @@ ghost use Rattle.world_history.specs.Benches.{AreBenches};
 ghost use Rattle.world_history.specs.State.{executions_shown};
 ghost use Rattle.history_picture.specs.Pictures.{Draws, drawn_in, furthest_from, picture_in, plot_in, range_of};
 
-use crate::drawing::drawn;
 use crate::fault::PictureRefusal;
-use crate::frame::Frame;
 use crate::happened::happened_in;
-use crate::picture::Range;
-use crate::plot::plot_of;
-use crate::sheet::Sheet;
+use axis_pictures::{Frame, plot_of};
+use lane_pictures::{Range, Sheet, drawn};
 use message_types::Update;
 use plain_lists::Want;
 use scenario_file::Scenario;

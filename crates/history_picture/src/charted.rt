@@ -6,8 +6,7 @@ ghost use Rattle.history_rules.specs.Legal.{IsLegal};
 ghost use Rattle.world_rules.specs.Scenarios.{setup_of};
 ghost use Rattle.history_picture.specs.Pictures.{chart_in};
 
-use crate::chart::chart_of;
-use crate::frame::Frame;
+use axis_pictures::{Frame, chart_of};
 use delay_times::delays_of;
 use plain_lists::Want;
 use run_questions::delays::watched_in;

@@ -9,7 +9,7 @@ ghost use Rattle.world_rules.specs.Scenarios.{setup_of};
 ghost use Rattle.world_history.specs.State.{setup_in, with_entry};
 ghost use Rattle.history_picture.specs.Marks.{came, lane_of, lanes_in, last_stamp, mark_at, mark_by, marks_in, role_in, said_at, what_of};
 
-use crate::picture::{Lane, Mark, Role, What};
+use lane_pictures::{Lane, Mark, Role, What};
 use plain_lists::{Copied, Want};
 use run_lines::kind_of;
 use scenario_file::Scenario;

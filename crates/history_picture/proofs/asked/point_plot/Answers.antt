@@ -2,7 +2,7 @@
 use Rattle.std.proofs.Common.{◌∙◌, ap, length, sym}
 use Rattle.std.specs.Option.{option_copied}
 use Rattle.scenario_file.specs.Reading.{contents}
-use Rattle.history_picture.specs.Plots.{plot_text}
+use Rattle.axis_pictures.specs.Plots.{plot_text}
 use Rattle.history_picture.proofs.Furthest.{benches_work, no_plot, plot_is}
 use Rattle.history_picture.proofs.asked.point_plot.Goals as goal
 

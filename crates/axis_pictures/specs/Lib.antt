@@ -1,0 +1,4 @@
+pub mod Turns
+pub mod Frames
+pub mod Plots
+pub mod Charts
