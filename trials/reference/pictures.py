@@ -1,8 +1,8 @@
 #!/usr/bin/env python3
 """pictures.py picture SCENARIO HISTORY [FROM [TO]] [--width N] | plot SCENARIO HISTORY POINT [--width N] | chart SCENARIO HISTORY [--width N]
 
-Draws what the program draws, with `reference.py` for what happened, written from crates/history_picture/specs. The fixed texts
-below the pictures are read from crates/history_picture/src/legend.rt."""
+Draws what the program draws, with `reference.py` for what happened, written from the `specs/` of crates/svg_shapes, lane_pictures,
+axis_pictures and history_picture. The fixed texts below the pictures are read from `src/legend.rt` of the middle two."""
 
 import os
 import re
@@ -26,7 +26,8 @@ SHADES = ["#e3eefa", "#fdf0d2", "#e2f4e2", "#f7e3f1"]
 
 
 def legend(name):
-    at = os.path.join(os.path.dirname(os.path.abspath(__file__)), "../../crates/history_picture/src/legend.rt")
+    crate = "lane_pictures" if name == "LEGEND" else "axis_pictures"
+    at = os.path.join(os.path.dirname(os.path.abspath(__file__)), f"../../crates/{crate}/src/legend.rt")
     with open(at, encoding="utf-8") as file:
         return re.search(rf'const {name}: &str =\s+r##"(.*?)"##;', file.read(), re.S)[1]
 
