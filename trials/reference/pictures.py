@@ -142,12 +142,12 @@ class Picture:
         event = mark["event"]
         if event[0] != "took" or event[2] == reference.U32MAX:
             return ""
-        row, frame = self.row(mark["stamp"]), event[3]
+        row, frame, by = self.row(mark["stamp"]), event[3], self.marks[event[1]]["actor"]
         x, y = self.place(mark)
         if event[1] >= self.first and self.row(event[1]) == row:
-            start = (self.across(event[1]), self.level(row, frame.signer))
+            start = (self.across(event[1]), self.level(row, by))
         else:
-            start = (x - 10, y - 12 if frame.signer < mark["actor"] else y + 12)
+            start = (x - 10, y - 12 if by < mark["actor"] else y + 12)
         return line(start, self.place(mark), COLOUR_OF[reference.KINDS[frame.body.kind]])
 
     def sign(self, event, x, y):

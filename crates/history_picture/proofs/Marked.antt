@@ -20,16 +20,17 @@ use Rattle.history_picture.specs.declared.happened.Came.{Came}
 use Rattle.lane_pictures.specs.declared.picture.Lane.{Lane}
 use Rattle.lane_pictures.specs.declared.picture.Mark.{Mark}
 use Rattle.lane_pictures.specs.declared.picture.Role.{Role}
-use Rattle.history_picture.specs.Marks.{came, lane_of, lanes_in, last_stamp, mark_at, mark_by, marks_from, marks_in, role_in}
+use Rattle.lane_pictures.specs.declared.picture.What.{What}
+use Rattle.history_picture.specs.Marks.{came, lane_of, lanes_in, last_stamp, mark_at, mark_by, marks_from, marks_in, role_in, what_of}
 
 -- ---- One entry.
 
-pub marked : (old now : BenchState) (e : Entry) (role : Role) (since : Option ℕ) (before after : Came) (mark : Mark)
+pub marked : (old now : BenchState) (e : Entry) (role : Role) (since : Option ℕ) (what : What) (before after : Came) (mark : Mark)
     (marks more : List Mark) → since ≡ last_stamp old.list → before ≡ came old → after ≡ came now →
-    mark ≡ mark_by role since before after e → more ≡ marks ++ mark ∷ []
-    → more ≡ marks ++ mark_at role old now e ∷ []
-marked old now e role since before after mark marks more last was is made put =
-    put ∙ ap (λ (m : Mark). marks ++ m ∷ []) (made ∙ (λ j. mark_by role (last j) (was j) (is j) e))
+    mark ≡ mark_by role since what before after e → more ≡ marks ++ mark ∷ []
+    → more ≡ marks ++ mark_at role what old now e ∷ []
+marked old now e role since what before after mark marks more last was is made put =
+    put ∙ ap (λ (m : Mark). marks ++ m ∷ []) (made ∙ (λ j. mark_by role (last j) what (was j) (is j) e))
 
 -- ---- Entry by entry.
 
@@ -50,13 +51,14 @@ bench_works c history i e benches b comes are at =
     ap (λ (x : BenchState). x.is_spent) (was_at c history i e benches b comes are at)
 
 -- the mark of one entry more
-pub marks_more : (c : Contents) (history : List Entry) (i : ℕ) (e : Entry) (role : Role) (old new : List BenchState)
+pub marks_more : (c : Contents) (history : List Entry) (i : ℕ) (e : Entry) (role : Role) (what : What) (old new : List BenchState)
     (b grown : BenchState) (marks more : List Mark) → Comes c history i e → role ≡ role_in c e.actor
+    → what ≡ what_of history e.event
     → old ≡ benches_of c (take i history) → b ≡ get_or old e.actor b → grown ≡ with_entry b e.stamp e.event
-    → new ≡ set old e.actor grown → marks ++ marks_from c (take i history) (drop i history) ≡ marks_in c history
-    → more ≡ marks ++ mark_at role b grown e ∷ []
-    → more ++ marks_from c (take (i + 1) history) (drop (i + 1) history) ≡ marks_in c history
-marks_more c history i e role old new b grown marks more comes who are at has put so_far longer =
+    → new ≡ set old e.actor grown → marks ++ marks_from c history (take i history) (drop i history) ≡ marks_in c history
+    → more ≡ marks ++ mark_at role what b grown e ∷ []
+    → more ++ marks_from c history (take (i + 1) history) (drop (i + 1) history) ≡ marks_in c history
+marks_more c history i e role what old new b grown marks more comes who told are at has put so_far longer =
     let there : e.actor < length old = bench_there c history i e old comes are in
     let many : length old ≡ actors_in c =
     ap length are ∙ length-numbered (bench_in c (take i history)) (actors_in c) in
@@ -71,23 +73,24 @@ marks_more c history i e role old new b grown marks more comes who are at has pu
     let is_now : grown ≡ bench_in c (take i history ++ e ∷ []) e.actor =
     bench_at c (take (i + 1) history) e.actor new grown (omega arith) grew at_new
     ∙ ap (λ (es : List Entry). bench_in c es e.actor) next in
-    let rest : List Mark = marks_from c (take (i + 1) history) (drop (i + 1) history) in
-    let step : marks_from c (take i history) (drop i history) ≡ mark_at role b grown e ∷ rest =
-    ap (marks_from c (take i history)) (left_more history i e comes.below comes.is)
-    ∙ (λ j. mark_at (sym who j) (sym was j) (sym is_now j) e ∷ marks_from c (sym next j) (drop (i + 1) history)) in
-    ap (λ (ms : List Mark). ms ++ rest) longer ∙ append_assoc marks (mark_at role b grown e ∷ []) rest
+    let rest : List Mark = marks_from c history (take (i + 1) history) (drop (i + 1) history) in
+    let step : marks_from c history (take i history) (drop i history) ≡ mark_at role what b grown e ∷ rest =
+    ap (marks_from c history (take i history)) (left_more history i e comes.below comes.is)
+    ∙ (λ j. mark_at (sym who j) (sym told j) (sym was j) (sym is_now j) e
+    ∷ marks_from c history (sym next j) (drop (i + 1) history)) in
+    ap (λ (ms : List Mark). ms ++ rest) longer ∙ append_assoc marks (mark_at role what b grown e ∷ []) rest
     ∙ ap (λ (ms : List Mark). marks ++ ms) (sym step) ∙ so_far
 
 pub none_marked : (c : Contents) (history : List Entry) (marks : List Mark) → marks ≡ [] →
-    marks ++ marks_from c (take 0 history) (drop 0 history) ≡ marks_in c history
+    marks ++ marks_from c history (take 0 history) (drop 0 history) ≡ marks_in c history
 unfolding marks_in
-none_marked c history marks none = ap (λ (ms : List Mark). ms ++ marks_from c [] history) none
+none_marked c history marks none = ap (λ (ms : List Mark). ms ++ marks_from c history [] history) none
 
 pub all_marked : (c : Contents) (history : List Entry) (i : ℕ) (marks : List Mark) → length history ≤ i →
-    marks ++ marks_from c (take i history) (drop i history) ≡ marks_in c history → marks ≡ marks_in c history
+    marks ++ marks_from c history (take i history) (drop i history) ≡ marks_in c history → marks ≡ marks_in c history
 all_marked c history i marks all is =
     sym (append-nil marks)
-    ∙ ap (λ (es : List Entry). marks ++ marks_from c (take i history) es) (sym (drop_all i history all)) ∙ is
+    ∙ ap (λ (es : List Entry). marks ++ marks_from c history (take i history) es) (sym (drop_all i history all)) ∙ is
 
 -- ---- Lanes.
 

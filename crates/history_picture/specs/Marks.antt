@@ -1,7 +1,7 @@
 -- What a picture shows of a history: a mark for each entry, by its actor's bench before it and after it, and a lane for
 -- each actor. (This project's own.)
 use Rattle.std.specs.Prelude.{ℕ, ◌+◌, ◌-◌, Bool, true, false, List, [], ◌∷◌, ◌++◌, Option, Some, None, length, map}
-use Rattle.std.specs.Prelude.{nat_eq, nat_lt, slice_get, if◌then◌else◌}
+use Rattle.std.specs.Prelude.{nat_eq, nat_lt, slice_get, unwrap_or, if◌then◌else◌}
 use Rattle.std.specs.Option.{option_map}
 use Rattle.quorum_sets.specs.Masters.{has_master, numbers_below}
 use Rattle.scenario_file.specs.declared.actors.Cast.{Cast}
@@ -26,16 +26,22 @@ use Rattle.lane_pictures.specs.declared.picture.What.TheVariants as what
 abbrev pub said_at : (stamp place : ℕ) → Option ℕ
 said_at stamp place = if nat_eq place 4294967295 then None else Some stamp
 
--- what came to the actor
-abbrev pub what_of : Event → What
-what_of (Took stamp place frame) = what.Took (kind_of frame.body) frame.signer (said_at stamp place)
-what_of Tick = what.Tick
-what_of (Command op) = what.Command
-what_of (Field area place value) = what.Field
-what_of Poll = what.Poll
-what_of (Cry bytes) = what.Cry
-what_of Skip = what.Skip
-what_of Restart = what.Restart
+-- Who said it: the actor of the entry of that stamp. That need not be the frame's signer, since an intruded master may say what it
+-- heard.
+abbrev pub said_by : List Entry → (stamp signer : ℕ) → ℕ
+said_by history stamp signer = unwrap_or (option_map (λ e. e.actor) (slice_get history stamp)) signer
+
+-- what came to the actor, in a history
+abbrev pub what_of : List Entry → Event → What
+what_of history (Took stamp place frame) =
+    what.Took (kind_of frame.body) (said_by history stamp frame.signer) (said_at stamp place)
+what_of history Tick = what.Tick
+what_of history (Command op) = what.Command
+what_of history (Field area place value) = what.Field
+what_of history Poll = what.Poll
+what_of history (Cry bytes) = what.Cry
+what_of history Skip = what.Skip
+what_of history Restart = what.Restart
 
 -- an actor is a correct master, an intruded one, or a client
 abbrev pub role_by : (is_master is_intruded : Bool) → Role
@@ -60,14 +66,14 @@ came b = record {
   view = view_shown b;
 }
 
--- the mark of an entry, by its actor's role, the entry before, and how far the actor came before it and after it
-abbrev pub mark_by : Role → Option ℕ → Came → Came → Entry → Mark
-mark_by role since before after e = record {
+-- the mark of an entry, by its actor's role, the entry before, what came to the actor, and how far it came before it and after it
+abbrev pub mark_by : Role → Option ℕ → What → Came → Came → Entry → Mark
+mark_by role since happened before after e = record {
   stamp = e.stamp;
   actor = e.actor;
   role = role;
   since = since;
-  what = what_of e.event;
+  what = happened;
   said = length e.said;
   executed = after.executed - before.executed;
   written = after.written - before.written;
@@ -77,19 +83,20 @@ mark_by role since before after e = record {
 }
 
 -- the same by the actor's bench before it and after it
-abbrev pub mark_at : Role → BenchState → BenchState → Entry → Mark
-mark_at role old now e = mark_by role (last_stamp old.list) (came old) (came now) e
+abbrev pub mark_at : Role → What → BenchState → BenchState → Entry → Mark
+mark_at role happened old now e = mark_by role (last_stamp old.list) happened (came old) (came now) e
 
--- the marks of these entries, which come after others
-abbrev pub marks_from : Contents → List Entry → List Entry → List Mark
-marks_from c before [] = []
-marks_from c before (e ∷ rest) =
-    mark_at (role_in c e.actor) (bench_in c before e.actor) (bench_in c (before ++ e ∷ []) e.actor) e
-    ∷ marks_from c (before ++ e ∷ []) rest
+-- the marks of these entries of a history, which come after others
+abbrev pub marks_from : Contents → (history before rest : List Entry) → List Mark
+marks_from c history before [] = []
+marks_from c history before (e ∷ rest) =
+    mark_at (role_in c e.actor) (what_of history e.event) (bench_in c before e.actor)
+    (bench_in c (before ++ e ∷ []) e.actor) e
+    ∷ marks_from c history (before ++ e ∷ []) rest
 
 -- the marks of a history
 unfoldable pub marks_in : Contents → List Entry → List Mark
-marks_in c history = marks_from c [] history
+marks_in c history = marks_from c history [] history
 
 -- the lane of an actor, by its bench
 abbrev pub lane_of : Contents → BenchState → Lane

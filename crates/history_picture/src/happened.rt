@@ -7,7 +7,7 @@ ghost use Rattle.history_rules.specs.Legal.{IsLegal, TakesWell};
 ghost use Rattle.world_entries.specs.Entries.{event_of, entry_of};
 ghost use Rattle.world_rules.specs.Scenarios.{setup_of};
 ghost use Rattle.world_history.specs.State.{setup_in, with_entry};
-ghost use Rattle.history_picture.specs.Marks.{came, lane_of, lanes_in, last_stamp, mark_at, mark_by, marks_in, role_in, said_at, what_of};
+ghost use Rattle.history_picture.specs.Marks.{came, lane_of, lanes_in, last_stamp, mark_at, mark_by, marks_in, role_in, said_at, said_by, what_of};
 
 use lane_pictures::{Lane, Mark, Role, What};
 use plain_lists::{Copied, Want};
@@ -47,7 +47,14 @@ pub(crate) fn happened_in(
     let entries = history.entries();
     for entry in entries {
         let role = role_of(scenario, entry.actor);
-        push_mark(&mut marks, role, &mut benches[entry.actor as usize], entry)?;
+        let what = what_of(entries, &entry.event);
+        push_mark(
+            &mut marks,
+            role,
+            what,
+            &mut benches[entry.actor as usize],
+            entry,
+        )?;
     }
     let lanes = lanes_of(alloc, scenario, benches.as_slice())?;
     Ok(Happened { lanes, marks })
@@ -79,6 +86,7 @@ fn far(bench: &Bench) -> Came
 fn push_mark(
     marks: &mut Vec<Mark>,
     role: Role,
+    what: What,
     bench: &mut Bench,
     entry: &Entry,
 ) -> Result<(), Want>
@@ -88,26 +96,33 @@ fn push_mark(
     requires short { length bench.old.list < 2 ^ 32 }
     requires works { bench.old.is_spent ≡ false }
     ensures bench { OnOk result (bench.new ≡ with_entry bench.old entry.now.stamp (event_of entry.now.event)) }
-    ensures marks { OnOk result (marks.new.items ≡ marks.old.items ++ mark_at role bench.old bench.new (entry_of entry.now) ∷ []) }
+    ensures marks { OnOk result (marks.new.items ≡ marks.old.items ++ mark_at role what bench.old bench.new (entry_of entry.now) ∷ []) }
 {
     let since = last_stamp(bench.list());
     let before = far(bench);
     let event = entry.event.copy()?;
     bench.act(entry.stamp, event)?;
-    marks.push(mark_by(entry, role, since, before, far(bench)))?;
+    marks.push(mark_by(entry, role, since, what, before, far(bench)))?;
     Ok(())
 }
 
-/// The mark of an entry, by how far its actor came before it and after it.
-fn mark_by(entry: &Entry, role: Role, since: Option<u64>, before: Came, after: Came) -> Mark
-    ensures { result ≡ mark_by role since before after (entry_of entry.now) }
+/// The mark of an entry, by what came to its actor, and how far this one came before it and after it.
+fn mark_by(
+    entry: &Entry,
+    role: Role,
+    since: Option<u64>,
+    what: What,
+    before: Came,
+    after: Came,
+) -> Mark
+    ensures { result ≡ mark_by role since what before after (entry_of entry.now) }
 {
     Mark {
         stamp: entry.stamp,
         actor: entry.actor,
         role,
         since,
-        what: what_of(&entry.event),
+        what,
         said: entry.said.len() as u64,
         executed: after.executed.saturating_sub(before.executed),
         written: after.written.saturating_sub(before.written),
@@ -127,8 +142,9 @@ fn last_stamp(list: &[Entry]) -> Option<u64>
     }
 }
 
-fn what_of(event: &Event) -> What
-    ensures { result ≡ what_of (event_of event.now) }
+/// What came to an actor at an event of a history of these entries.
+fn what_of(entries: &[Entry], event: &Event) -> What
+    ensures { result ≡ what_of (map entry_of entries.now) (event_of event.now) }
 {
     match event {
         Event::Took {
@@ -137,7 +153,7 @@ fn what_of(event: &Event) -> What
             frame,
         } => What::Took {
             kind: kind_of(&frame.frame().body),
-            by: frame.frame().signer,
+            by: said_by(entries, *stamp, frame.frame().signer),
             said_at: said_at(*stamp, *place),
         },
         Event::Tick => What::Tick,
@@ -159,6 +175,16 @@ fn said_at(stamp: u64, place: u32) -> Option<u64>
     ensures { result ≡ said_at stamp place }
 {
     if place == u32::MAX { None } else { Some(stamp) }
+}
+
+/// Who said a frame: the entry of a stamp is the one at that place.
+fn said_by(entries: &[Entry], stamp: u64, signer: u32) -> u32
+    ensures { result ≡ said_by (map entry_of entries.now) stamp signer }
+{
+    match entries.get(stamp as usize) {
+        Some(entry) => entry.actor,
+        None => signer,
+    }
 }
 
 /// What an actor is.

@@ -203,7 +203,7 @@ row_text cast s lanes row = stamp_text s row ++ flat_map (lane_text cast s row) 
 
 -- ---- Lines.
 
--- to where a short line goes, of a frame that was said in a row above or before the picture: towards its signer's lane
+-- to where a short line goes, of a frame that was said in a row above or before the picture: towards the lane of who said it
 abbrev pub towards : ℕ → ℕ → ℕ → ℕ
 towards by actor y = if nat_lt by actor then y - 12 else within (y + 12)
 

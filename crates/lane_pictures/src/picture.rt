@@ -36,7 +36,7 @@ pub struct Lane {
 /// What came to an actor at an entry.
 #[derive(Clone, Copy)]
 pub enum What {
-    /// A frame of this kind and signer, which was said at that stamp; None where nobody said it.
+    /// A frame of this kind, which this actor said at that stamp; None where nobody said it.
     Took {
         kind: Kind,
         by: u32,

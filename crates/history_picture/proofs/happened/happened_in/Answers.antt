@@ -5,7 +5,7 @@ use Rattle.std.proofs.lemmas.List.{length-map}
 use Rattle.scenario_file.specs.Reading.{contents}
 use Rattle.world_entries.specs.Entries.{entry_of, event_of}
 use Rattle.world_history.proofs.HistoryReplays.{Comes, IsReady, all_replayed, next_comes, bench_there, bench_ready, benches_grow}
-use Rattle.history_picture.specs.Marks.{lane_of}
+use Rattle.history_picture.specs.Marks.{lane_of, what_of}
 use Rattle.history_picture.proofs.Marked.{all_marked, bench_works, lanes_are, marks_more, none_marked}
 use Rattle.history_picture.proofs.happened.happened_in.Goals.{After-index_mut}
 use Rattle.history_picture.proofs.happened.happened_in.Goals as goal
@@ -67,8 +67,11 @@ loop-entry-preserved c =
           c.loop-entry.benches.items _ c.index_mut.result.now c.push_mark.new.bench next refl
           c.loop-entry.invariant.0 c.index_mut.ensures.value c.in_ok-push_mark.ensures.bench refl,
       marks_more (contents c.args.scenario.now) c.args.history.now c.loop-entry.entry-index
-          (entry_of c.entry-item.result) c.role_of-role.result c.loop-entry.benches.items _ c.index_mut.result.now
-          c.push_mark.new.bench c.loop-entry.marks.items _ next c.role_of-role.ensures c.loop-entry.invariant.0
+          (entry_of c.entry-item.result) c.role_of-role.result c.what_of-what.result c.loop-entry.benches.items _ c.index_mut.result.now
+          c.push_mark.new.bench c.loop-entry.marks.items _ next c.role_of-role.ensures
+          (c.what_of-what.ensures
+          ∙ ap (λ es. what_of es (event_of c.entry-item.result.event)) c.entries-entries.ensures)
+          c.loop-entry.invariant.0
           c.index_mut.ensures.value c.in_ok-push_mark.ensures.bench refl c.loop-entry.invariant.1
           c.in_ok-push_mark.ensures.marks,
     )

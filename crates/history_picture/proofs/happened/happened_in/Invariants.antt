@@ -8,5 +8,5 @@ use Rattle.history_picture.proofs.happened.happened_in.Given as goal
 abbrev pub invariant-loop-entry : goal.invariant-loop-entry
 invariant-loop-entry l =
     (l.benches.items ≡ benches_of (contents l.scenario) (take l.entry-index l.history))
-    × (l.marks.items ++ marks_from (contents l.scenario) (take l.entry-index l.history)
+    × (l.marks.items ++ marks_from (contents l.scenario) l.history (take l.entry-index l.history)
     (drop l.entry-index l.history) ≡ marks_in (contents l.scenario) l.history)

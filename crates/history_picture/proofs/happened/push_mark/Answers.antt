@@ -27,7 +27,7 @@ returns-clause-bench c =
 
 pub returns-clause-marks : goal.returns-clause-marks
 returns-clause-marks c =
-    marked c.args.bench.now c.act.new.self (entry_of c.args.entry.now) c.args.role c.last_stamp-since.result
+    marked c.args.bench.now c.act.new.self (entry_of c.args.entry.now) c.args.role c.last_stamp-since.result c.args.what
     c.far-before.result c.far.result c.mark_by.result c.args.marks.now.items _
     (c.last_stamp-since.ensures ∙ ap last_stamp c.list.ensures) c.far-before.ensures c.far.ensures
     c.mark_by.ensures c.in_ok-push.ensures.items
