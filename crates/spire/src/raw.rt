@@ -1,5 +1,5 @@
 //! Frames that an intruded master cries as bytes: one with a signature that is none, and one by another master's key.
-use crate::calls::{count_of, played};
+use crate::calls::{Given, count_of, played, text_by};
 use actor_keys::{actor_key, ring_of};
 use checked_frames::{CheckRefusal, check};
 use message_forms::read_frame;
@@ -96,5 +96,23 @@ fn a_frame_by_another_key_is_taken_and_counted(rt: HostRuntime) -> Result<(), Fa
     assert_eq!(rt; count_of(text, "agree yes"), 1);
     assert_eq!(rt; count_of(text, "history 2"), 1);
     assert_eq!(rt; count_of(text, "1 m0 took 0.0"), 1);
+    Ok(())
+}
+
+/// The line of the frame in the picture of that play: from the lane of master 3 at entry 0 to that of master 0 at entry 1.
+const LINE: &str = "<line x1=\"70\" y1=\"188\" x2=\"84\" y2=\"50\" stroke=\"#2a6fb0\"/>";
+
+#[test]
+fn the_line_of_a_frame_begins_at_the_master_that_said_it(rt: HostRuntime) -> Result<(), Fail> {
+    let bytes = frame_by(rt.alloc(), 1, 5)?;
+    let history = cried(&rt, rt.alloc(), "m0", &bytes)?;
+    let given = Given {
+        keys: KEYS,
+        script: "",
+        words: "",
+        history: history.as_str(),
+    };
+    let picture = text_by(&rt, rt.alloc(), "picture scenario history", given)?;
+    assert_eq!(rt; count_of(picture.as_str(), LINE), 1);
     Ok(())
 }
