@@ -2,4 +2,11 @@ mod Lists
 mod Short
 mod Owners
 mod Reading
+mod Told
+mod Said
+mod Ordering
+mod Earliest
+mod EarlyLaws
+mod Left
+mod Waiting
 mod Next

@@ -16,7 +16,7 @@ use Rattle.joined_histories.specs.Files.{AreKept, given_of, none_given}
 none_is_station : (c : Contents) (actor : ℕ) → IsStation c actor []
 none_is_station c actor = record { legal = none_is_legal (setup_of c); alone = refl }
 
-no_list : (many actor : ℕ) → list_or_none (slice_get (replicate many []) actor) ≡ []
+pub no_list : (many actor : ℕ) → list_or_none (slice_get (replicate many []) actor) ≡ []
 no_list zero actor = refl
 no_list (suc many) zero = refl
 no_list (suc many) (suc actor) = no_list many actor
@@ -42,13 +42,13 @@ none_kept c read is =
       few = omega (arith, none);
     }
 
-set_there : (lists : List (List Entry)) (actor : ℕ) (list : List Entry) → actor < length lists →
+pub set_there : (lists : List (List Entry)) (actor : ℕ) (list : List Entry) → actor < length lists →
     kept_by (set lists actor list) actor ≡ list
 set_there [] actor list there = absurd (omega arith)
 set_there (x ∷ lists) zero list there = refl
 set_there (x ∷ lists) (suc actor) list there = set_there lists actor list (omega arith)
 
-set_beside : (lists : List (List Entry)) (actor other : ℕ) (list : List Entry) → (other ≡ actor → ⊥) →
+pub set_beside : (lists : List (List Entry)) (actor other : ℕ) (list : List Entry) → (other ≡ actor → ⊥) →
     kept_by (set lists actor list) other ≡ kept_by lists other
 set_beside [] actor other list apart = refl
 set_beside (x ∷ lists) zero zero list apart = absurd (apart refl)

@@ -21,34 +21,11 @@ use Rattle.joint_lists.specs.Joint.{AreStations, IsJoint, count, kept_by}
 use Rattle.joint_lists.specs.Joining.{left, placed}
 use Rattle.joint_lists.proofs.Joined.{MayJoin, may_join, joined_more, joined_plain, none_joined, all_joined}
 use Rattle.joint_lists.proofs.Counted.{left_less, left_first, none_next}
-use Rattle.joined_histories.specs.Order.{NoneLeft, is_left, is_less}
+use Rattle.joined_histories.specs.Early.{EarlyOnlyWhereAllAre}
+use Rattle.joined_histories.specs.Order.{AllWait, IsDue, IsOrdered, NoneLeft, is_left, is_less, next_waits}
+use Rattle.joined_histories.proofs.Left.{HasNext, has_next, next_found}
+use Rattle.joined_histories.proofs.Ordering.{none_ordered, ordered_more, whole_ordered}
 use Rattle.joined_histories.specs.Joins.{IsAmid}
-
--- An actor that has an entry left is there, and its next entry stands in its list.
-pub record HasNext (lists : List (List Entry)) (next : List ℕ) (actor : ℕ) : Type 0 where
-  pub there : actor < length lists
-  pub within : actor < length next
-  pub some : get_or next actor 0 < length (kept_by lists actor)
-
-pub has_next : (lists : List (List Entry)) (next : List ℕ) (actor : ℕ) → is_left lists next actor ≡ true →
-    HasNext lists next actor
-has_next lists next actor is = by lists next actor is
-  where
-    by : (lists : List (List Entry)) (next : List ℕ) (actor : ℕ) → is_left lists next actor ≡ true →
-        HasNext lists next actor
-    by [] next actor is = absurd (cc)
-    by (list ∷ lists) [] zero is = absurd (cc)
-    by (list ∷ lists) (n ∷ next) zero is =
-        let less : n < length list = ltb-true n (length list) is in
-        record { there = omega arith; within = omega arith; some = less }
-    by (list ∷ lists) [] (suc actor) is = absurd (none_there (slice_get lists actor) is)
-      where
-        none_there : (o : Option (List Entry)) → is_less o None ≡ true → ⊥
-        none_there None e = absurd (cc)
-        none_there (Some l) e = absurd (cc)
-    by (list ∷ lists) (n ∷ next) (suc actor) is =
-        let h : HasNext lists next actor = by lists next actor is in
-        record { there = omega (arith, h.there); within = omega (arith, h.within); some = h.some }
 
 -- ---- Before the first entry, and behind the last.
 
@@ -67,6 +44,7 @@ at_first c lists next r are few is same none zeros =
           (λ actor. ap (λ ns. get_or ns actor 0) zeros ∙ none_next (length lists) actor);
       few = omega (arith, empty, all);
       short = few;
+      ordered = none_ordered (setup_of c) lists r.history none;
     }
 
 none_more : (lists : List (List Entry)) (next : List ℕ) (actor : ℕ) → length next ≡ length lists →
@@ -93,6 +71,11 @@ joint_at_end c lists next r amid none =
     all_joined c lists next r.history
     (subst (λ x. IsLegal (setup_of x) r.history) amid.same amid.is_so_far.is_legal) amid.joined
     (λ actor. none_more lists next actor amid.joined.all (none actor))
+
+pub ordered_at_end : (c : Contents) (lists : List (List Entry)) (next : List ℕ) (r : SoFar) → IsAmid c lists next r →
+    NoneLeft lists next → EarlyOnlyWhereAllAre (setup_of c) r.history
+ordered_at_end c lists next r amid none =
+    whole_ordered (setup_of c) lists r.history (joint_at_end c lists next r amid none).each amid.ordered
 
 pub short_at_end : (c : Contents) (lists : List (List Entry)) (next : List ℕ) (r : SoFar) → IsAmid c lists next r →
     length r.history < 2 ^ 32
@@ -156,9 +139,9 @@ module _ (c : Contents) (lists : List (List Entry)) (next : List ℕ) (r : SoFar
     said = said i;
   }) ∙ joined_plain r.history stamp place x
 
-  pub one_more : (more : List ℕ) (new : SoFar) → HasMore r new made →
-      more ≡ set next actor (get_or next actor 0 + 1) → IsAmid c lists more new
-  one_more more new has grown =
+  pub one_more : (next_waits w lists next actor ≡ true → AllWait w lists next) → (more : List ℕ) (new : SoFar) →
+      HasMore r new made → more ≡ set next actor (get_or next actor 0 + 1) → IsAmid c lists more new
+  one_more due more new has grown =
       let less : left lists (set next actor (get_or next actor 0 + 1)) + 1 ≡ left lists next =
       left_less lists next actor comes.has.within comes.has.some in
       let now : left lists more ≡ left lists (set next actor (get_or next actor 0 + 1)) = ap (left lists) grown in
@@ -173,6 +156,9 @@ module _ (c : Contents) (lists : List (List Entry)) (next : List ℕ) (r : SoFar
             comes.has.within refl comes.has.some comes.found grown has.longer refl same_plain;
         few = omega arith;
         short = amid.short;
+        ordered = subst (IsOrdered w lists) (sym has.longer)
+            (ordered_more w lists next r.history actor made x amid.joined amid.ordered same_plain
+            (next_found lists next actor x comes.has.some comes.found) due);
       }
 
   pub one_longer : (new : SoFar) → HasMore r new made → length new.history ≡ length r.history + 1
@@ -186,6 +172,12 @@ module _ (c : Contents) (lists : List (List Entry)) (next : List ℕ) (r : SoFar
 pub amid_here : (c : Contents) (lists : List (List Entry)) (next : List ℕ) (r : SoFar) → IsAmid c lists next r →
     IsAmid (contents_in r) lists next r
 amid_here c lists next r amid = subst (λ x. IsAmid x lists next r) (sym amid.same) amid
+
+pub due_here : (c : Contents) (lists : List (List Entry)) (next : List ℕ) (r : SoFar) (actor : ℕ) → IsAmid c lists next r →
+    IsDue (setup_of c) lists next actor →
+    next_waits (world_in r) lists next actor ≡ true → AllWait (world_in r) lists next
+due_here c lists next r actor amid due =
+    subst (λ x. next_waits (setup_of x) lists next actor ≡ true → AllWait (setup_of x) lists next) (sym amid.same) due.waits
 
 pub amid_on : (c : Contents) (lists : List (List Entry)) (next more : List ℕ) (old new : SoFar) → IsAmid c lists next old →
     IsAmid (contents_in old) lists more new → IsAmid c lists more new

@@ -8,13 +8,18 @@ use Rattle.printed_history.specs.Reading.{IsSoFar, contents_in}
 use Rattle.joint_lists.specs.Joint.{AreStations, IsJoint, count}
 use Rattle.joint_lists.specs.Joining.{HasJoined, left}
 use Rattle.joined_histories.specs.declared.refusal.JoinRefusal.{JoinRefusal}
+use Rattle.world_rules.specs.Scenarios.{setup_of}
 use Rattle.joined_histories.specs.Files.{Refuses, Given, files_in}
+use Rattle.joined_histories.specs.Order.{IsOrdered}
+use Rattle.joined_histories.specs.Early.{EarlyOnlyWhereAllAre}
 
--- A history joins files: they are read, and it is one of the lists that they tell.
+-- A history joins files: they are read, it is one of the lists that they tell, and what it takes before it is said could be
+-- taken no later. So where any history of these lists has no forged word, this one has none (specs/Laws.antt).
 pub record JoinsFiles (c : Contents) (files : List (List ℕ)) (history : List Entry) : Type 0 where
   pub given : Given
   pub read : files_in c files ≡ Ok given
   pub joint : IsJoint c given.lists history
+  pub order : EarlyOnlyWhereAllAre (setup_of c) history
 
 -- What files come to: a history that joins them, or their first fault.
 abbrev pub Joins : Contents → List (List ℕ) → Result Replay JoinRefusal → Type 0
@@ -30,3 +35,4 @@ pub record IsAmid (c : Contents) (lists : List (List Entry)) (next : List ℕ) (
   pub joined : HasJoined lists next r.history
   pub few : length r.history + left lists next ≡ count lists
   pub short : count lists < 2 ^ 32
+  pub ordered : IsOrdered (setup_of c) lists r.history

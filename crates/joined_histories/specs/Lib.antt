@@ -1,3 +1,6 @@
 pub mod Files
+pub mod Told
 pub mod Order
+pub mod Early
 pub mod Joins
+pub mod Laws

@@ -1,5 +1,5 @@
 //! What the files of stations tell.
-ghost use Rattle.std.specs.Prelude.{◌≡◌, ◌≤◌, ◌<◌, ◌^◌, [], IfOk, OnOk, false, length, replicate, slice_get};
+ghost use Rattle.std.specs.Prelude.{◌≡◌, ◌↔◌, ◌≤◌, ◌<◌, ◌^◌, [], IsTrue, IfOk, OnOk, false, length, replicate, slice_get};
 ghost use Rattle.scenario_file.specs.Reading.{contents};
 ghost use Rattle.scenario_file.specs.Valid.{IsScenario};
 ghost use Rattle.script_grammar.specs.Names.{who_of};
@@ -167,6 +167,23 @@ fn add_file(
         Ok(None) => Ok(()),
         Err(why) => Err(of_file(file, why)),
     }
+}
+
+/// Whether files have few enough bytes to be joined.
+pub fn are_short(files: &[Bytes]) -> bool
+    ensures { IsTrue result ↔ (bytes_in files.now < 2 ^ 32) }
+{
+    let mut room = u64::from(u32::MAX);
+    let mut rest = files;
+    while let Some((bytes, after)) = rest.split_first() {
+        let length = bytes.len() as u64;
+        if room < length {
+            return false;
+        }
+        room -= length;
+        rest = after;
+    }
+    true
 }
 
 /// What files tell.

@@ -1,13 +1,15 @@
 //! One history of what stations kept: each file is read as its actor's list, and the lists are joined in an order that is computed.
-//! A frame that was taken comes behind the entry that said it, where that can be.
+//! A correct actor's word is taken behind the entry that said it, wherever any order allows that.
 #![tactic(auto)]
 
 mod digests;
 mod files;
 mod joining;
+pub mod laws;
 mod order;
 mod refusal;
+mod waits;
 
-pub use files::Kept;
+pub use files::{Kept, are_short};
 pub use joining::join;
 pub use refusal::JoinRefusal;

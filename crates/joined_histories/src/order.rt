@@ -1,15 +1,18 @@
 //! Whose entry comes next.
-ghost use Rattle.std.specs.Prelude.{◌≡◌, ◌≤◌, IfSome, MatchOption, length, true};
-ghost use Rattle.joined_histories.specs.Order.{NoneLeft, is_left};
+ghost use Rattle.std.specs.Prelude.{◌≡◌, ◌≤◌, ◌<◌, ℕ, IfOk, IfSome, MatchOption, length, true, false};
+ghost use Rattle.scenario_file.specs.Reading.{contents};
+ghost use Rattle.world_rules.specs.Scenarios.{setup_of};
+ghost use Rattle.joined_histories.specs.Order.{IsDue, NoneLeft, is_left, is_ready};
 
-use crate::digests::{Places, digest_of};
+use crate::digests::Heard;
 use crate::files::Kept;
+use crate::waits::next_waits;
 use plain_lists::Want;
+use scenario_file::Scenario;
 use std::alloc::Global;
-use world_entries::{Entry, Event};
 
 /// Whether an actor has an entry left, of which so many of each were joined.
-pub(crate) fn is_left(kept: &Kept, next: &[usize], actor: u32) -> bool
+fn is_left(kept: &Kept, next: &[usize], actor: u32) -> bool
     ensures { result ≡ is_left kept.now.lists.items next.now actor }
 {
     match kept.lists.get(actor as usize) {
@@ -21,67 +24,92 @@ pub(crate) fn is_left(kept: &Kept, next: &[usize], actor: u32) -> bool
     }
 }
 
-/// For which frame an entry waits, by its digest: for the one that it takes, where the frame's signer gave a file.
-pub(crate) fn awaited(alloc: Global, kept: &Kept, entry: &Entry) -> Result<Option<[u8; 32]>, Want> {
-    match &entry.event {
-        Event::Took { frame, .. } if gave(kept, frame.frame().signer) => {
-            Ok(Some(digest_of(alloc, frame)?))
-        }
-        _ => Ok(None),
-    }
-}
-
-fn gave(kept: &Kept, actor: u32) -> bool {
-    kept.gave.get(actor as usize).is_some_and(|gave| *gave)
-}
-
-/// Whether what is awaited was said, or nothing is.
-fn is_said(places: &Places, awaited: Option<&Option<[u8; 32]>>) -> bool {
-    match awaited {
-        Some(Some(digest)) => places.contains_key(digest),
-        _ => true,
-    }
-}
-
-/// The first actor from this one on that has an entry left which waits for nothing that isn't said.
-fn due_from(
+/// Whether an actor has an entry left that takes no word that is still to come.
+fn is_ready(
+    alloc: Global,
+    scenario: &Scenario,
     kept: &Kept,
     next: &[usize],
-    waits: &[Option<[u8; 32]>],
-    places: &Places,
-    actors: u32,
+    actor: u32,
+) -> Result<bool, Want>
+    ensures { IfOk result (λ ready. ready ≡ is_ready (setup_of (contents scenario.now)) kept.now.lists.items next.now actor) }
+{
+    if !is_left(kept, next, actor) {
+        return Ok(false);
+    }
+    let waits = next_waits(alloc, scenario, kept, next, actor)?;
+    Ok(!waits)
+}
+
+/// The first actor from this one on that is ready, and whose next entry's frame was said where it is waited for.
+fn heard_from(
+    alloc: Global,
+    scenario: &Scenario,
+    kept: &Kept,
+    next: &[usize],
+    heard: &Heard,
     from: u32,
-) -> Option<u32>
-    ensures { IfSome result (λ actor. is_left kept.now.lists.items next.now actor ≡ true) }
+    actors: u32,
+) -> Result<Option<u32>, Want>
+    ensures { IfOk result (λ found. IfSome found (λ actor. is_ready (setup_of (contents scenario.now)) kept.now.lists.items next.now actor ≡ true)) }
 {
     for actor in from..actors {
-        if is_left(kept, next, actor) && is_said(places, waits.get(actor as usize)) {
-            return Some(actor);
+        if heard.is_said(actor) {
+            let ready = is_ready(alloc, scenario, kept, next, actor)?;
+            if ready {
+                return Ok(Some(actor));
+            }
         }
     }
-    None
+    Ok(None)
 }
 
-/// The actor whose entry comes next, if any has one left: the first from this one on, and round, whose next entry waits for
-/// nothing that isn't said, else the lowest.
-pub(crate) fn next_actor(
+/// The first actor that is ready.
+fn first_ready(
+    alloc: Global,
+    scenario: &Scenario,
     kept: &Kept,
     next: &[usize],
-    waits: &[Option<[u8; 32]>],
-    places: &Places,
     actors: u32,
-    from: u32,
-) -> Option<u32>
-    requires { length kept.now.lists.items ≤ actors }
-    ensures { MatchOption result (NoneLeft kept.now.lists.items next.now) (λ actor. is_left kept.now.lists.items next.now actor ≡ true) }
+) -> Result<Option<u32>, Want>
+    ensures { IfOk result (λ found. MatchOption found ((actor : ℕ) → actor < actors → is_ready (setup_of (contents scenario.now)) kept.now.lists.items next.now actor ≡ false) (λ actor. is_ready (setup_of (contents scenario.now)) kept.now.lists.items next.now actor ≡ true)) }
 {
-    if let Some(actor) = due_from(kept, next, waits, places, actors, from) {
-        return Some(actor);
+    for actor in 0..actors {
+        let ready = is_ready(alloc, scenario, kept, next, actor)?;
+        if ready {
+            return Ok(Some(actor));
+        }
     }
-    if let Some(actor) = due_from(kept, next, waits, places, actors, 0) {
-        return Some(actor);
+    Ok(None)
+}
+
+/// The actor whose entry comes next, if any has one left: the first from this one on, and round, that is ready and whose frame was
+/// said where it is waited for; else the first that is ready; else the lowest.
+pub(crate) fn next_actor(
+    alloc: Global,
+    scenario: &Scenario,
+    kept: &Kept,
+    next: &[usize],
+    heard: &Heard,
+    from: u32,
+    actors: u32,
+) -> Result<Option<u32>, Want>
+    requires { length kept.now.lists.items ≤ actors }
+    ensures { IfOk result (λ found. MatchOption found (NoneLeft kept.now.lists.items next.now) (λ actor. IsDue (setup_of (contents scenario.now)) kept.now.lists.items next.now actor)) }
+{
+    let ahead = heard_from(alloc, scenario, kept, next, heard, from, actors)?;
+    if let Some(actor) = ahead {
+        return Ok(Some(actor));
     }
-    lowest(kept, next, actors)
+    let behind = heard_from(alloc, scenario, kept, next, heard, 0, actors)?;
+    if let Some(actor) = behind {
+        return Ok(Some(actor));
+    }
+    let ready = first_ready(alloc, scenario, kept, next, actors)?;
+    if let Some(actor) = ready {
+        return Ok(Some(actor));
+    }
+    Ok(lowest(kept, next, actors))
 }
 
 /// The lowest actor with an entry left.

@@ -3,7 +3,8 @@ use Rattle.std.proofs.Common.{◌<◌, ◌≤◌, ◌^◌, length, get_or, arith
 use Rattle.world_entries.specs.Entries.{entry_of, event_of}
 use Rattle.printed_history.specs.Reading.{contents_in}
 use Rattle.joint_lists.specs.Joint.{count, kept_by}
-use Rattle.joined_histories.proofs.Next.{HasNext, fits, has_next, kept_few, next_comes, on_ok, one_more, runs, takes}
+use Rattle.joined_histories.proofs.Left.{HasNext, has_next}
+use Rattle.joined_histories.proofs.Next.{fits, kept_few, next_comes, on_ok, one_more, runs, takes}
 use Rattle.joined_histories.proofs.joining.add_next.Goals as goal
 
 pub enter-requires-clause-running : goal.enter-requires-clause-running
@@ -56,7 +57,7 @@ returns-in-Some-clause-amid c =
     (next_comes (contents_in c.args.so_far.now) c.args.kept.now.lists.items c.args.next.now.items c.args.so_far.now c.args.actor
     c.origin-from.result.0 c.origin-from.result.1 c.len-stamp.result (entry_of c.next_entry.result.now)
     (event_of c.in_ok-event.event) c.deref.result.now c.requires.left c.deref.ensures.value c.next_entry.ensures c.in_ok-event.ensures c.len-stamp.ensures
-    c.origin-from.ensures) c.count_one.new.next.items c.enter.new.self c.in_ok-enter.ensures c.count_one.ensures)
+    c.origin-from.ensures) c.requires.waits c.count_one.new.next.items c.enter.new.self c.in_ok-enter.ensures c.count_one.ensures)
 
 pub returns-in-None-clause-amid : goal.returns-in-None-clause-amid
 returns-in-None-clause-amid c =
@@ -65,4 +66,4 @@ returns-in-None-clause-amid c =
     (next_comes (contents_in c.args.so_far.now) c.args.kept.now.lists.items c.args.next.now.items c.args.so_far.now c.args.actor
     c.origin-from.result.0 c.origin-from.result.1 c.len-stamp.result (entry_of c.next_entry.result.now)
     (event_of c.in_ok-event.event) c.deref.result.now c.requires.left c.deref.ensures.value c.next_entry.ensures c.in_ok-event.ensures c.len-stamp.ensures
-    c.origin-from.ensures) c.count_one.new.next.items c.enter.new.self c.in_ok-enter.ensures c.count_one.ensures
+    c.origin-from.ensures) c.requires.waits c.count_one.new.next.items c.enter.new.self c.in_ok-enter.ensures c.count_one.ensures

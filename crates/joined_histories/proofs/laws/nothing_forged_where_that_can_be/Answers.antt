@@ -1,0 +1,5 @@
+use Rattle.joined_histories.proofs.EarlyLaws.{nothing_forged}
+use Rattle.joined_histories.proofs.laws.nothing_forged_where_that_can_be.Goals as goal
+
+pub returns : goal.returns
+returns c = nothing_forged
