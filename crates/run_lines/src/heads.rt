@@ -77,8 +77,14 @@ fn put_executions(text: &mut String, cast: Cast, executions: &[Update]) -> Resul
     Ok(())
 }
 
+/// Appends the line of an update that a master executed.
 #[tactic(auto, unfolding(crate::specs::Texts::execution_text))]
-fn put_execution(text: &mut String, cast: Cast, number: u64, update: &Update) -> Result<(), Want>
+pub fn put_execution(
+    text: &mut String,
+    cast: Cast,
+    number: u64,
+    update: &Update,
+) -> Result<(), Want>
     ensures { OnOk result (string_bytes text.new ≡ string_bytes text.old ++ execution_text cast number update.now) }
 {
     let t = update.t;
@@ -120,8 +126,9 @@ fn put_writes(text: &mut String, writes: &[Write]) -> Result<(), Want>
     Ok(())
 }
 
+/// Appends the line of a write that a proxy made.
 #[tactic(auto, unfolding(crate::specs::Texts::write_text))]
-fn put_write(text: &mut String, write: &Write) -> Result<(), Want>
+pub fn put_write(text: &mut String, write: &Write) -> Result<(), Want>
     ensures { OnOk result (string_bytes text.new ≡ string_bytes text.old ++ write_text write.now) }
 {
     let number = write.number;
@@ -172,8 +179,9 @@ fn put_notices(text: &mut String, notices: &[Notice]) -> Result<(), Want>
     Ok(())
 }
 
+/// Appends the line of a notice that a screen shows.
 #[tactic(auto, unfolding(crate::specs::Texts::notice_text))]
-fn put_notice(text: &mut String, number: u64, notice: &Notice) -> Result<(), Want>
+pub fn put_notice(text: &mut String, number: u64, notice: &Notice) -> Result<(), Want>
     ensures { OnOk result (string_bytes text.new ≡ string_bytes text.old ++ notice_text number notice.now) }
 {
     write!(text, "{number} ")?;
