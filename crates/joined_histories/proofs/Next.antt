@@ -25,7 +25,7 @@ use Rattle.joined_histories.specs.Early.{EarlyOnlyWhereAllAre}
 use Rattle.joined_histories.specs.Order.{AllWait, IsDue, IsOrdered, NoneLeft, is_left, is_less, next_waits}
 use Rattle.joined_histories.proofs.Left.{HasNext, has_next, next_found}
 use Rattle.joined_histories.proofs.Ordering.{none_ordered, ordered_more, whole_ordered}
-use Rattle.joined_histories.specs.Joins.{IsAmid}
+use Rattle.joined_histories.specs.Amid.{IsAmid}
 
 -- ---- Before the first entry, and behind the last.
 

@@ -9,9 +9,10 @@ ghost use Rattle.printed_history.specs.Reading.{IsSoFar, contents_in, world_in};
 ghost use Rattle.joint_lists.specs.Joint.{AreStations, IsJoint, count};
 ghost use Rattle.joint_lists.specs.Joining.{placed};
 ghost use Rattle.joined_histories.specs.Files.{bytes_in};
+ghost use Rattle.joined_histories.specs.Amid.{IsAmid};
 ghost use Rattle.joined_histories.specs.Order.{AllWait, is_left, next_waits};
 ghost use Rattle.joined_histories.specs.Early.{EarlyOnlyWhereAllAre};
-ghost use Rattle.joined_histories.specs.Joins.{IsAmid, Joins};
+ghost use Rattle.joined_histories.specs.Joins.{Joins};
 
 use crate::digests::Heard;
 use crate::files::{Kept, read_files};

@@ -3,7 +3,6 @@
 use Rattle.std.specs.Prelude.{◌≡◌, ℕ, ◌+◌, ◌-◌, Bool, false, ◌&&◌, if◌then◌else◌, List, [], ◌∷◌, ◌++◌, Option}
 use Rattle.std.specs.Prelude.{Some, None, Result, Ok, Err, length, take, nat_eq}
 use Rattle.std.specs.Str.{bytes_eq}
-use Rattle.scenario_file.specs.declared.actors.Cast.{Cast}
 use Rattle.scenario_file.specs.Reading.{Contents, cast_of}
 use Rattle.script_grammar.specs.declared.fault.LineRefusal.{LineRefusal}
 use Rattle.script_grammar.specs.declared.fault.LineRefusal.TheVariants as fault
@@ -14,9 +13,7 @@ use Rattle.world_rules.specs.Scenarios.{setup_of}
 use Rattle.run_lines.specs.declared.entry_line.EntryLine.{EntryLine}
 use Rattle.run_lines.specs.Reading.{entry_line_in}
 use Rattle.run_lines.specs.Runs.{pieces}
-use Rattle.printed_history.specs.declared.reading.SoFar.{SoFar}
 use Rattle.printed_history.specs.Histories.{event_from, standing_event, entry_next}
-use Rattle.printed_history.specs.Reading.{HasMore, contents_in}
 use Rattle.kept_lines.specs.declared.refusal.KeptRefusal.{KeptRefusal}
 use Rattle.kept_lines.specs.declared.refusal.KeptRefusal.TheVariants as refusal
 use Rattle.kept_lines.specs.Lines.{kept_line}
@@ -81,17 +78,3 @@ Reads (Err e) right = Refuses e right
 abbrev pub fault_at : ℕ → LineRefusal → KeptRefusal
 fault_at line fault.Want = refusal.Want
 fault_at line other = refusal.BadLine line
-
--- how many actors of each kind a history's scenario has
-abbrev pub cast_in : SoFar → Cast
-cast_in r = cast_of (contents_in r).settings (contents_in r).plant
-
--- the list that was read
-abbrev pub list_read : Result SoFar KeptRefusal → Reading (List Entry)
-list_read (Ok so_far) = Ok so_far.history
-list_read (Err e) = Err e
-
--- The entry of a line is added, or the line is refused.
-abbrev pub Adds : Reading Entry → Result (Unit {0}) KeptRefusal → SoFar → SoFar → Type 0
-Adds right (Ok done) old new = (e : Entry) × ((right ≡ Ok e) × HasMore old new e)
-Adds right (Err e) old new = Refuses e right

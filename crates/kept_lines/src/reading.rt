@@ -5,7 +5,8 @@ ghost use Rattle.scenario_file.specs.Reading.{contents};
 ghost use Rattle.scenario_file.specs.Valid.{IsScenario};
 ghost use Rattle.script_grammar.specs.Names.{who_of};
 ghost use Rattle.printed_history.specs.Reading.{IsSoFar, Takes, contents_in, world_in};
-ghost use Rattle.kept_lines.specs.Reading.{Adds, Reads, entry_part, entry_told, is_actor, kept_in, line_in, list_read};
+ghost use Rattle.kept_lines.specs.Adding.{Adds, list_read};
+ghost use Rattle.kept_lines.specs.Reading.{Reads, entry_part, entry_told, is_actor, kept_in, line_in};
 ghost use Rattle.joint_lists.specs.Stations.{IsStation};
 
 use crate::refusal::{KeptRefusal, at};

@@ -7,7 +7,7 @@ ghost use Rattle.history_rules.specs.Events.{Entry as HistoryEntry};
 ghost use Rattle.world_entries.specs.Entries.{entry_of};
 ghost use Rattle.printed_history.specs.Reading.{IsSoFar, contents_in};
 ghost use Rattle.kept_lines.specs.Lines.{digest_of, digest_words, entry_words, kept_line};
-ghost use Rattle.kept_lines.specs.Reading.{cast_in};
+ghost use Rattle.kept_lines.specs.Adding.{cast_in};
 
 use checked_frames::Checked;
 use message_forms::write_frame;

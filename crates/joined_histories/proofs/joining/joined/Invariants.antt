@@ -4,7 +4,7 @@ use Rattle.scenario_file.specs.Reading.{contents}
 use Rattle.world_rules.specs.Scenarios.{setup_of}
 use Rattle.joint_lists.specs.Joint.{count}
 use Rattle.joined_histories.specs.Order.{IsDue, NoneLeft}
-use Rattle.joined_histories.specs.Joins.{IsAmid}
+use Rattle.joined_histories.specs.Amid.{IsAmid}
 use Rattle.joined_histories.proofs.joining.joined.Given as goal
 
 -- what was joined is that of a scenario's stations, and the actor that comes next may
