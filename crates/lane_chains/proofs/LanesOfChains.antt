@@ -16,7 +16,7 @@ use Rattle.lane_chains.specs.Chains.{chain}
 use Rattle.lane_chains.proofs.ChainsGrow.{chain-more}
 
 -- a step's text is hashed under the identifier
-step_is_hash : (id : List ℕ) (q c s : ℕ) (h : List ℕ)
+pub step_is_hash : (id : List ℕ) (q c s : ℕ) (h : List ℕ)
     → sha256 (step_text id q c s h) ≡ hash_under (digest_bytes id 4) q c (u8_bytes s ++ digest_bytes h 8)
 unfolding hash_under u16_bytes u32_bytes digest_bytes
 step_is_hash id q c s h = refl

@@ -9,3 +9,4 @@ pub mod ValuesJoined
 mod BytesAsWords
 mod LanesOfChains
 mod ChainsInAnyOrder
+mod PairsOfValues

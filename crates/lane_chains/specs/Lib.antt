@@ -4,3 +4,4 @@ pub mod Marks
 pub mod Lanes
 pub mod Steps
 pub mod Trails
+pub mod Made

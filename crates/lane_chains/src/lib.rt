@@ -8,6 +8,7 @@
 mod chains;
 mod hash;
 mod lanes;
+mod made;
 mod rounds;
 mod runs;
 mod steps;
@@ -15,3 +16,4 @@ mod words;
 
 pub use crate::chains::{MOST_CHAINS, VALUES_LEN, run_chains, write_value};
 pub use crate::hash::{hash_parts, hasher_under};
+pub use crate::made::made_keys;

@@ -261,3 +261,28 @@ pub(crate) fn compressed(begun: [Words; 8], block: [Words; 16], room: &mut Room)
     run_rounds(room);
     sums(first_state(), last_variables(room))
 }
+
+// The working variables after the first five rounds of a block.
+#[inline(always)]
+fn first_five(h: [Words; 8], block: [Words; 16]) -> [Words; 8]
+    ensures { (j : ℕ) → j < 8 → (b : List ℕ) → ((k : ℕ) → k < 16 → slice_index (column j block) k ≡ word_at b (4 * k))
+        → lane j result ≡ rounds (lane j h) (schedule b 48) 5 }
+{
+    let v = round(h, K32[0], block[0]);
+    let v = round(v, K32[1], block[1]);
+    let v = round(v, K32[2], block[2]);
+    let v = round(v, K32[3], block[3]);
+    round(v, K32[4], block[4])
+}
+
+/// The hash values after one block more, in each lane: `h` has those before it, and `block` the blocks' words.
+#[inline(always)]
+pub(crate) fn compressed_after(h: [Words; 8], block: [Words; 16], room: &mut Room) -> [Words; 8]
+    ensures { (j : ℕ) → j < 8 → (b : List ℕ) → ((k : ℕ) → k < 16 → slice_index (column j block) k ≡ word_at b (4 * k))
+        → lane j result ≡ compress (lane j h) b }
+{
+    put_block(room, block);
+    put_variables(room, first_five(h, block));
+    run_rounds(room);
+    sums(h, last_variables(room))
+}

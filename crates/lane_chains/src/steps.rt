@@ -17,6 +17,14 @@ fn same_word(x: u32) -> Words
     splat(x)
 }
 
+// The words that each lane has.
+#[inline(always)]
+fn each_word(x: Words) -> Words
+    ensures { (j : ℕ) → j < 8 → slice_index result j ≡ same_word (slice_index x j) }
+{
+    x
+}
+
 // Two bytes of `chain`, one of `step`, and the high byte of `a`.
 #[inline(always)]
 fn head_word(chain: Words, step: Words, a: Words) -> Words
@@ -49,18 +57,18 @@ fn last_word(a: Words) -> Words
 
 // The words of the steps' blocks.
 #[inline(always)]
-fn block_words(id: &[u32; 4], q: u32, chains: Words, steps: Words, v: [Words; 8]) -> [Words; 16]
+fn block_words(id: &[u32; 4], q: Words, chains: Words, steps: Words, v: [Words; 8]) -> [Words; 16]
     requires chains { (j : ℕ) → j < 8 → slice_index chains j < 2 ^ 16 }
     requires steps { (j : ℕ) → j < 8 → slice_index steps j < 2 ^ 8 }
     ensures { (j : ℕ) → j < 8 → column j result
-        ≡ block_words id.now q (slice_index chains j) (slice_index steps j) (lane j v) }
+        ≡ block_words id.now (slice_index q j) (slice_index chains j) (slice_index steps j) (lane j v) }
 {
     [
         same_word(id[0]),
         same_word(id[1]),
         same_word(id[2]),
         same_word(id[3]),
-        same_word(q),
+        each_word(q),
         head_word(chains, steps, v[0]),
         joined_word(v[0], v[1]),
         joined_word(v[1], v[2]),
@@ -76,19 +84,46 @@ fn block_words(id: &[u32; 4], q: u32, chains: Words, steps: Words, v: [Words; 8]
 }
 
 /// The working variables after the five rounds that all steps of a key's chains begin with: those of
-/// the words of its identifier and of its leaf's number.
-pub(crate) fn begun(id: &[u32; 4], q: u32) -> [Words; 8]
-    ensures { (j : ℕ) → j < 8 → lane j result ≡ rounds initial_hash_256 (key_words id.now q) 5 }
+/// the words of its identifier and of its leaf's number. Each lane has a leaf of its own.
+pub(crate) fn begun_each(id: &[u32; 4], q: Words) -> [Words; 8]
+    ensures { (j : ℕ) → j < 8 → lane j result ≡ rounds initial_hash_256 (key_words id.now (slice_index q j)) 5 }
 {
     let v = round(first_state(), K32[0], same_word(id[0]));
     let v = round(v, K32[1], same_word(id[1]));
     let v = round(v, K32[2], same_word(id[2]));
     let v = round(v, K32[3], same_word(id[3]));
-    round(v, K32[4], same_word(q))
+    round(v, K32[4], each_word(q))
 }
 
-/// A step of eight chains: lane by lane the digest of the value, under the key's identifier, its leaf,
-/// the chain's number and the step's. `begun` is what the function of that name gives.
+/// The same, of one leaf.
+pub(crate) fn begun(id: &[u32; 4], q: u32) -> [Words; 8]
+    ensures { (j : ℕ) → j < 8 → lane j result ≡ rounds initial_hash_256 (key_words id.now q) 5 }
+{
+    begun_each(id, splat(q))
+}
+
+/// A step of eight chains: lane by lane the digest of the value, under the key's identifier, the lane's
+/// leaf, the chain's number and the step's. `begun` is what `begun_each` gives.
+pub(crate) fn step_each(
+    begun: [Words; 8],
+    id: &[u32; 4],
+    q: Words,
+    chains: Words,
+    steps: Words,
+    v: [Words; 8],
+    room: &mut Room,
+) -> [Words; 8]
+    requires begun { (j : ℕ) → j < 8 → lane j begun ≡ rounds initial_hash_256 (key_words id.now (slice_index q j)) 5 }
+    requires chains { (j : ℕ) → j < 8 → slice_index chains j < 2 ^ 16 }
+    requires steps { (j : ℕ) → j < 8 → slice_index steps j < 2 ^ 8 }
+    ensures { (j : ℕ) → j < 8 → digest_bytes (lane j result) 8
+        ≡ sha256 (step_text id.now (slice_index q j) (slice_index chains j) (slice_index steps j) (lane j v)) }
+{
+    compressed(begun, block_words(id, q, chains, steps, v), room)
+}
+
+/// The same, of one leaf. `begun` is what the function of that name gives.
+#[inline(always)]
 pub(crate) fn chain_step(
     begun: [Words; 8],
     id: &[u32; 4],
@@ -104,5 +139,5 @@ pub(crate) fn chain_step(
     ensures { (j : ℕ) → j < 8 → digest_bytes (lane j result) 8
         ≡ sha256 (step_text id.now q (slice_index chains j) (slice_index steps j) (lane j v)) }
 {
-    compressed(begun, block_words(id, q, chains, steps, v), room)
+    step_each(begun, id, splat(q), chains, steps, v, room)
 }

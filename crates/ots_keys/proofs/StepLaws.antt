@@ -1,6 +1,6 @@
 -- The steps of a key's chains, as lists of which the first stand for chains.
-use Rattle.std.proofs.Common.{◌≡◌, ◌≤◌, ◌<◌, ◌+◌, ◌-◌, ◌*◌, ℕ, List, length, take, drop, slice_index, refl, ap, ◌∙◌}
-use Rattle.std.proofs.Common.{arith}
+use Rattle.std.proofs.Common.{◌≡◌, ◌≤◌, ◌<◌, ◌-◌, ◌*◌, ℕ, List, length, take, drop, slice_index, refl, ap, ◌∙◌}
+use Rattle.std.proofs.Common.{zero, suc, arith}
 use Rattle.std.specs.Prelude.{replicate}
 use Rattle.std.proofs.lemmas.List.{drop-drop, get_or-replicate, get_or-take, length-take-le}
 use Rattle.lane_chains.specs.Chains.{chain, value_at, end_of, AreSteps}
@@ -8,7 +8,10 @@ use Rattle.ots_keys.specs.declared.parameters.Ots.{Ots}
 use Rattle.ots_keys.specs.declared.parameters.Ots.TheVariants.{W1, W2, W4, W8}
 use Rattle.ots_keys.specs.Parameters.{chains, top_digit}
 use Rattle.ots_keys.specs.Digits.{digit}
-use Rattle.ots_keys.specs.Keys.{secret, chain_end, element_in, signed_element, finished_element}
+use Rattle.ots_keys.specs.Keys.{secret, public_key, public_tag, chain_end, element_in, signed_element, finished_element}
+use Rattle.lane_chains.specs.Hash.{hash_under}
+use Rattle.lane_chains.specs.Made.{made_key}
+use Rattle.lane_chains.proofs.ChainsGrow.{joined-cong}
 
 -- the number of chains
 pub chains_are : (ots : Ots) → (0 < chains ots) × (chains ots ≤ 265)
@@ -90,3 +93,22 @@ finished_is ots id q hash sig digits n i top lt few e_top e_digit =
     end_is id q digits (replicate 265 top) (drop 36 sig) n i d top (element_in sig i) lt e_digit
     (same_at top i (omega arith)) element
     ∙ ap (λ (t : ℕ). chain id q i d (t - d) (element_in sig i)) e_top
+
+-- a key whose chains start with what step 255 makes of the seed
+pub made_is : (ots : Ots) (id : List ℕ) (q : ℕ) (seed : List ℕ)
+    → made_key id q public_tag (top_digit ots) seed (chains ots) ≡ public_key ots id q seed
+unfolding public_key secret
+made_is ots id q seed =
+    ap (hash_under id q public_tag) (joined-cong _ (chain_end ots id q seed) (chains ots) (λ i lt. refl))
+
+-- what holds of each of the first eight numbers
+pub of_eight : (P : ℕ → Type 0) → P 0 → P 1 → P 2 → P 3 → P 4 → P 5 → P 6 → P 7 → (k : ℕ) → k < 8 → P k
+of_eight P a b c d e f g h zero lt = a
+of_eight P a b c d e f g h (suc zero) lt = b
+of_eight P a b c d e f g h (suc (suc zero)) lt = c
+of_eight P a b c d e f g h (suc (suc (suc zero))) lt = d
+of_eight P a b c d e f g h (suc (suc (suc (suc zero)))) lt = e
+of_eight P a b c d e f g h (suc (suc (suc (suc (suc zero))))) lt = f
+of_eight P a b c d e f g h (suc (suc (suc (suc (suc (suc zero)))))) lt = g
+of_eight P a b c d e f g h (suc (suc (suc (suc (suc (suc (suc zero))))))) lt = h
+of_eight P a b c d e f g h (suc (suc (suc (suc (suc (suc (suc (suc k)))))))) lt = absurd (omega arith)

@@ -1,4 +1,4 @@
-ghost use Rattle.std.specs.Prelude.{◌≡◌, ℕ, ◌*◌, ◌<◌, ◌≤◌, ◌↔◌, ◌++◌, length, take, IsTrue, IfOk, OnOk, SomeIff};
+ghost use Rattle.std.specs.Prelude.{◌≡◌, ℕ, ◌+◌, ◌*◌, ◌^◌, ◌<◌, ◌≤◌, ◌↔◌, ◌++◌, [], length, take, slice_index_or, IsTrue, IfOk, OnOk, SomeIff};
 ghost use Rattle.wire_parts.specs.Fields.{u32_bytes};
 ghost use Rattle.ots_keys.specs.Parameters.{chains, signature_len};
 ghost use Rattle.lane_chains.specs.Chains.{joined, value_at, end_of, AreSteps};
@@ -6,7 +6,9 @@ ghost use Rattle.ots_keys.specs.Keys.{secret, randomizer, public_key, signature,
 
 use crate::digits::digits_of;
 use crate::parameters::Ots;
-use lane_chains::{MOST_CHAINS, VALUES_LEN, hash_parts, hasher_under, run_chains, write_value};
+use lane_chains::{
+    MOST_CHAINS, VALUES_LEN, hash_parts, hasher_under, made_keys, run_chains, write_value,
+};
 use sha2::Digest;
 use std::alloc::Global;
 use wire_parts::{Want, put_bytes, put_u32};
@@ -70,6 +72,37 @@ pub fn ots_public(ots: Ots, id: &[u8; 16], q: u32, seed: &[u8; 32]) -> [u8; 32]
     let to = [last; MOST_CHAINS];
     let starts = secrets(ots, id, q, seed);
     key_of_chains(ots, id, q, &from[..count], &to[..count], &starts)
+}
+
+// The public keys of eight leaves, one after the other.
+fn publics_in_turn(ots: Ots, id: &[u8; 16], q: u32, seed: &[u8; 32]) -> [[u8; 32]; 8]
+    requires { q + 8 ≤ 2 ^ 32 }
+    ensures { (j : ℕ) → j < 8 → slice_index_or result j [] ≡ public_key ots id.now (q + j) seed.now }
+{
+    [
+        ots_public(ots, id, q, seed),
+        ots_public(ots, id, q + 1, seed),
+        ots_public(ots, id, q + 2, seed),
+        ots_public(ots, id, q + 3, seed),
+        ots_public(ots, id, q + 4, seed),
+        ots_public(ots, id, q + 5, seed),
+        ots_public(ots, id, q + 6, seed),
+        ots_public(ots, id, q + 7, seed),
+    ]
+}
+
+/// The public keys of the one-time key pairs of the leaves `q` to `q + 7`. They are made side by side where the number of chains
+/// is odd, as it is but for digits of 8 bits. It takes no memory.
+pub fn ots_publics(ots: Ots, id: &[u8; 16], q: u32, seed: &[u8; 32]) -> [[u8; 32]; 8]
+    requires { q + 8 ≤ 2 ^ 32 }
+    ensures { (j : ℕ) → j < 8 → slice_index_or result j [] ≡ public_key ots id.now (q + j) seed.now }
+{
+    let count = ots.chains();
+    if count % 2 == 0 {
+        return publics_in_turn(ots, id, q, seed);
+    }
+    let top = u16::from(ots.top_digit());
+    made_keys(id, q, D_PBLC, seed, count, top)
 }
 
 /// The signature of a message by the key pair of leaf `q`. A key pair may sign one message alone.

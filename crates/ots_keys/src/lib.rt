@@ -8,6 +8,6 @@ mod digits;
 mod keys;
 mod parameters;
 
-pub use crate::keys::{ots_candidate, ots_public, ots_sign};
+pub use crate::keys::{ots_candidate, ots_public, ots_publics, ots_sign};
 pub use crate::parameters::Ots;
 pub use lane_chains::{hash_parts, hasher_under};

@@ -1,11 +1,12 @@
 -- The nodes of a tree.
-use Rattle.std.proofs.Common.{◌≡◌, ◌≤◌, ◌<◌, ◌^◌, ◌+◌, ◌-◌, ◌*◌, ◌/◌, ℕ, zero, suc, List, [], ◌∷◌, length, refl, sym}
+use Rattle.std.proofs.Common.{◌≡◌, ◌≤◌, ◌<◌, ◌^◌, ◌+◌, ◌-◌, ◌*◌, ◌/◌, ◌%◌, ◌++◌, ℕ, zero, suc, List, [], ◌∷◌, length, refl, sym}
 use Rattle.std.proofs.Common.{ap, ◌∙◌, arith, inl, inr, get_or, length-append, nat_le, true, false, if◌then◌else◌}
 use Rattle.std.proofs.lemmas.Bool.{cases_lt, le-leb, lt-leb}
 use Rattle.std.proofs.Math.Nat.{pow-succ', pow-le-pow_right, one-le-pow, le-div_iff_mul-le}
 use Rattle.std.proofs.lemmas.List.{get_or_append_left}
 use Rattle.std.proofs.Math.Seq.{get_or-append_seam}
 use Rattle.ots_keys.proofs.Laws.{length-hash_under}
+use Rattle.tree_keys.specs.Trees.{IsMadeHeight}
 use Rattle.tree_keys.specs.Nodes.{TreeSeed, node, node_within, leaf_of, inner_hash, stored}
 
 node_within-leaf : (tree : TreeSeed) (n r : ℕ) → 2 ^ tree.height ≤ r → node_within tree n r ≡ leaf_of tree r
@@ -75,6 +76,15 @@ length-stored tree zero = refl
 length-stored tree (suc n) = let before = length-stored tree n in
     omega (arith, before, length-append (stored tree n) (node tree (2 * 2 ^ tree.height - 1 - n) ∷ []))
 
+-- one node more is stored
+pub stored_more : (tree : TreeSeed) (n more r : ℕ) (nodes later : List (List ℕ)) (x : List ℕ) → nodes ≡ stored tree n
+    → x ≡ node tree r → 2 * 2 ^ tree.height - 1 - n ≡ r → more ≡ n + 1 → later ≡ nodes ++ x ∷ [] → later ≡ stored tree more
+stored_more tree n more r nodes later x held made at count pushed =
+    let one : more ≡ suc n = omega arith in
+    pushed ∙ ap (λ xs. xs ++ x ∷ []) held
+    ∙ ap (λ y. stored tree n ++ y ∷ []) (made ∙ ap (node tree) (sym at))
+    ∙ ap (stored tree) (sym one)
+
 pub stored-at : (tree : TreeSeed) (n i : ℕ) (d : List ℕ) → i < n →
     get_or (stored tree n) i d ≡ node tree (2 * 2 ^ tree.height - 1 - i)
 stored-at tree zero i d h = absurd (omega arith)
@@ -104,3 +114,10 @@ below_root height q level h =
     let some : zero < 2 ^ level = let p = one-le-pow level 2 (omega arith) in omega arith in
     let twice = pow-succ' 2 level in
     (le-div_iff_mul-le {k = 2 ^ level} {x = 2} {y = 2 ^ height + q} some).1 (omega arith)
+
+-- trees that are made have eight leaves or a multiple of them
+pub eights : (height : ℕ) → IsMadeHeight height → 2 ^ height % 8 ≡ 0
+eights height made = elim made [
+  | inl e ↦ rw e refl
+  | inr e ↦ rw e refl
+]

@@ -1,11 +1,11 @@
-ghost use Rattle.std.specs.Prelude.{◌≡◌, ◌↔◌, ◌+◌, ◌-◌, ◌*◌, ◌^◌, ◌<◌, ◌≤◌, ◌++◌, IfOk, OnOk, IsErrOf};
+ghost use Rattle.std.specs.Prelude.{◌≡◌, ◌↔◌, ◌+◌, ◌-◌, ◌*◌, ◌^◌, ◌<◌, ◌≤◌, ◌++◌, length, IfOk, OnOk, IsErrOf};
 ghost use Rattle.tree_keys.specs.Nodes.{TreeSeed, node, tree_from, stored};
 ghost use Rattle.tree_keys.specs.Trees.{tree_public, tree_signature, path_node, IsMadeHeight};
 ghost use Rattle.ots_keys.specs.Keys.{joined};
 
 use crate::nodes::{inner_hash, leaf_count, leaf_hash};
 use crate::public_key::{PublicKey, code_of_height};
-use ots_keys::{Ots, ots_public, ots_sign};
+use ots_keys::{Ots, ots_publics, ots_sign};
 use std::alloc::Global;
 use std::marker::Model;
 use thiserror::Error;
@@ -168,7 +168,30 @@ impl Tree {
     }
 }
 
-// All nodes of a tree, from the last down to the root.
+// Appends the leaves of eight one-time keys, from that of number `q + 7` down.
+fn put_leaves(
+    nodes: &mut Vec<[u8; 32]>,
+    ots: Ots,
+    height: u32,
+    id: &[u8; 16],
+    seed: &[u8; 32],
+    q: u32,
+) -> Result<(), Want>
+    requires height { height ≤ 25 }
+    requires leaves { q + 8 ≤ 2 ^ height }
+    requires nodes { nodes.old.items ≡ stored (tree_from height ots id.now seed.now) (2 ^ height - 8 - q) }
+    ensures { OnOk result (nodes.new.items ≡ stored (tree_from height ots id.now seed.now) (2 ^ height - q)) }
+{
+    let first = leaf_count(height) + q;
+    let keys = ots_publics(ots, id, q, seed);
+    'leaves: for i in 0..8u32 {
+        let j = 7 - i;
+        nodes.push(leaf_hash(id, first + j, &keys[j as usize]))?;
+    }
+    Ok(())
+}
+
+// All nodes of a tree, from the last down to the root. The leaves are made eight at a time.
 fn build(
     alloc: Global,
     ots: Ots,
@@ -176,38 +199,30 @@ fn build(
     id: &[u8; 16],
     seed: &[u8; 32],
 ) -> Result<Vec<[u8; 32]>, Want>
-    requires { height ≤ 25 }
+    requires { IsMadeHeight height }
     ensures { IfOk result (λ nodes. nodes.items
         ≡ stored (tree_from height ots id.now seed.now) (2 * 2 ^ height - 1)) }
 {
-    let last = 2 * leaf_count(height) - 1;
-    let mut nodes = Vec::with_capacity(alloc, last as usize)?;
-    'nodes: for i in 0..last {
-        nodes.push(next_node(&nodes, ots, height, id, seed, last - i))?;
+    let leaves = leaf_count(height);
+    let mut nodes = Vec::with_capacity(alloc, (2 * leaves - 1) as usize)?;
+    'leaves: for i in 0..leaves / 8 {
+        put_leaves(&mut nodes, ots, height, id, seed, leaves - 8 - 8 * i)?;
+    }
+    'nodes: for i in 0..leaves - 1 {
+        nodes.push(inner_node(&nodes, height, id, leaves - 1 - i))?;
     }
     Ok(nodes)
 }
 
-// The hash of node `r`, where those above `r` stand in `nodes`.
-fn next_node(
-    nodes: &[[u8; 32]],
-    ots: Ots,
-    height: u32,
-    id: &[u8; 16],
-    seed: &[u8; 32],
-    r: u32,
-) -> [u8; 32]
+// The hash of the inner node `r`, where those above `r` stand in `nodes`.
+fn inner_node(nodes: &[[u8; 32]], height: u32, id: &[u8; 16], r: u32) -> [u8; 32]
     requires height { height ≤ 25 }
     requires low { 1 ≤ r }
-    requires high { r < 2 * 2 ^ height }
-    requires nodes { nodes.now ≡ stored (tree_from height ots id.now seed.now) (2 * 2 ^ height - 1 - r) }
-    ensures { result ≡ node (tree_from height ots id.now seed.now) r }
+    requires high { r < 2 ^ height }
+    requires nodes { length nodes.now ≡ 2 * 2 ^ height - 1 - r }
+    ensures { (tree : TreeSeed) → tree.height ≡ height → tree.id ≡ id.now
+        → nodes.now ≡ stored tree (2 * 2 ^ height - 1 - r) → result ≡ node tree r }
 {
-    let leaves = leaf_count(height);
-    if r >= leaves {
-        leaf_hash(id, r, &ots_public(ots, id, r - leaves, seed))
-    } else {
-        let right = (2 * leaves - 2 - 2 * r) as usize;
-        inner_hash(id, r, &nodes[right + 1], &nodes[right])
-    }
+    let right = (2 * leaf_count(height) - 2 - 2 * r) as usize;
+    inner_hash(id, r, &nodes[right + 1], &nodes[right])
 }

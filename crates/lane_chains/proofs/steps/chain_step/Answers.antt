@@ -1,24 +1,17 @@
--- The text of a step with its padding is one block. Its first five words are the key's, so the rounds begun for
--- these are its own, and in each lane the compression is its digest.
-use Rattle.std.proofs.Common.{◌++◌, ◌∙◌, ap, slice_index}
-use Rattle.sha2.specs.Sha256.{initial_hash_256, schedule}
+-- A step of lanes that all have the same leaf.
+use Rattle.std.proofs.Common.{◌∙◌, ℕ, ap, slice_index, sym}
+use Rattle.sha2.specs.Sha256.{initial_hash_256, rounds, sha256}
 use Rattle.lane_chains.specs.Lanes.{lane}
 use Rattle.lane_chains.specs.Steps.{key_words, step_text}
-use Rattle.lane_chains.proofs.StepsInOneBlock.{block_is, key_word_is, step_is, tail}
-use Rattle.lane_chains.proofs.RoundsOneByOne.{rounds-cong}
 use Rattle.lane_chains.proofs.steps.chain_step.Goals as goal
+
+pub step_each-requires-clause-begun : goal.step_each-requires-clause-begun
+step_each-requires-clause-begun c = λ j lt.
+    c.requires.begun j lt
+    ∙ ap (λ (x : ℕ). rounds initial_hash_256 (key_words c.args.id.now x) 5) (sym (c.splat.ensures j lt))
 
 pub returns : goal.returns
 returns c j lt =
-    let id = c.args.id.now in
-    let q = c.args.q in
-    let chain = slice_index c.args.chains j in
-    let step = slice_index c.args.steps j in
-    let h = lane j c.args.v in
-    let block = step_text id q chain step h ++ tail in
-    let same = rounds-cong initial_hash_256 (key_words id q) (schedule block 48) 5
-    (λ k below. key_word_is id q chain step h k below) in
-    step_is id q chain step h (lane j c.compressed.result)
-    (c.compressed.ensures j lt block (λ k below. ap (λ x. slice_index x k) (c.block_words.ensures j lt)
-    ∙ block_is id q chain step h k below)
-    (c.requires.begun j lt ∙ same))
+    c.step_each.ensures j lt
+    ∙ ap (λ (x : ℕ). sha256 (step_text c.args.id.now x (slice_index c.args.chains j) (slice_index c.args.steps j)
+    (lane j c.args.v))) (c.splat.ensures j lt)

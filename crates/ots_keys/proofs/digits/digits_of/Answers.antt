@@ -3,7 +3,6 @@
 use Rattle.std.proofs.Common.{◌≡◌, ◌≤◌, ◌∙◌, arith}
 use Rattle.std.proofs.lemmas.List.{length-set}
 use Rattle.ots_keys.specs.Parameters.{top_digit}
-use Rattle.ots_keys.specs.Digits.{digit}
 use Rattle.ots_keys.proofs.Growing.{digit_is, digits_more}
 use Rattle.ots_keys.proofs.StepLaws.{chains_are}
 use Rattle.ots_keys.proofs.digits.digits_of.Goals as goal

@@ -1,6 +1,6 @@
 -- Chains that go on from the digits of the hash to the top digit end where the definition's finished elements
 -- do. A digit is never above the top one, so each chain has steps forward only.
-use Rattle.std.proofs.Common.{◌≡◌, ◌≤◌, ◌-◌, ◌∙◌, ap, arith, drop, length, refl, take}
+use Rattle.std.proofs.Common.{◌≡◌, ◌-◌, ◌∙◌, ap, arith, drop, length, refl, take}
 use Rattle.std.specs.Prelude.{replicate}
 use Rattle.std.proofs.lemmas.List.{length-drop, take_all}
 use Rattle.lane_chains.specs.Hash.{hash_under}

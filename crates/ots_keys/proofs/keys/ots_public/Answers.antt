@@ -1,10 +1,8 @@
 -- The public key is made of chains that go all the way from their secret starts to the top digit. The starts
 -- are those of the seed, so the ends are the definition's.
-use Rattle.std.proofs.Common.{◌≡◌, ◌≤◌, ◌∙◌, ap, arith, length, refl, take}
+use Rattle.std.proofs.Common.{◌≡◌, ◌∙◌, ap, arith, refl}
 use Rattle.std.specs.Prelude.{replicate}
-use Rattle.std.proofs.lemmas.List.{length-take-le}
 use Rattle.lane_chains.specs.Hash.{hash_under}
-use Rattle.lane_chains.specs.Chains.{end_of}
 use Rattle.lane_chains.proofs.ChainsGrow.{joined-cong}
 use Rattle.ots_keys.specs.Parameters.{chains, top_digit}
 use Rattle.ots_keys.specs.Keys.{public_key, public_tag, chain_end}

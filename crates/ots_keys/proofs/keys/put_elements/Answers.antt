@@ -1,11 +1,11 @@
 -- Each element is where its chain stands after as many steps as the digit of the hash tells. Digits are at most
 -- the top one, so the steps are allowed, and the ends are joined in order.
-use Rattle.std.proofs.Common.{◌≡◌, ◌≤◌, ◌*◌, ◌∙◌, ◌++◌, ap, arith, length, refl, sym, take}
+use Rattle.std.proofs.Common.{◌≡◌, ◌*◌, ◌∙◌, ◌++◌, ap, arith, length, refl, sym, take}
 use Rattle.std.specs.Prelude.{replicate}
 use Rattle.std.proofs.lemmas.List.{length-take-le}
-use Rattle.lane_chains.specs.Chains.{joined, end_of}
+use Rattle.lane_chains.specs.Chains.{end_of}
 use Rattle.lane_chains.proofs.ChainsGrow.{joined-cong}
-use Rattle.ots_keys.specs.Parameters.{chains, top_digit}
+use Rattle.ots_keys.specs.Parameters.{chains}
 use Rattle.ots_keys.specs.Keys.{signed_element}
 use Rattle.ots_keys.proofs.Widths.{top_is}
 use Rattle.ots_keys.proofs.StepLaws.{are_steps, chains_are, count_is, same_at, signed_is}

@@ -1,8 +1,8 @@
 -- A secret start is what the one chain step from 255 to 256 makes of the seed. So the seed is written at the
 -- place of each chain, and one step is run for all of them.
-use Rattle.std.proofs.Common.{◌≡◌, ◌≢◌, ◌≤◌, ◌<◌, ◌∙◌, ℕ, ap, arith, below_more, length, refl, take}
+use Rattle.std.proofs.Common.{◌≡◌, ◌≢◌, ◌∙◌, arith, below_more, refl}
 use Rattle.std.specs.Prelude.{replicate}
-use Rattle.lane_chains.specs.Chains.{value_at, AreSteps}
+use Rattle.lane_chains.specs.Chains.{value_at}
 use Rattle.ots_keys.specs.Parameters.{chains}
 use Rattle.ots_keys.proofs.StepLaws.{are_steps, chains_are, count_is, same_at, secret_is}
 use Rattle.ots_keys.proofs.keys.secrets.Goals as goal

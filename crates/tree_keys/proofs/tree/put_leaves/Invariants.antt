@@ -1,0 +1,7 @@
+use Rattle.std.proofs.Common.{◌≡◌, ◌+◌, ◌-◌, ◌^◌}
+use Rattle.tree_keys.specs.Nodes.{tree_from, stored}
+use Rattle.tree_keys.proofs.tree.put_leaves.Given as goal
+
+abbrev pub invariant-leaves : goal.invariant-leaves
+invariant-leaves l =
+    l.nodes.items ≡ stored (tree_from l.height l.fn.ots l.id l.seed) (2 ^ l.height - 8 - l.q + l.i)
