@@ -1,5 +1,5 @@
 -- Lanes one by one, and the words of one block.
-use Rattle.std.proofs.Common.{◌≡◌, ℕ, zero, suc, ◌<◌, ◌+◌, ◌∙◌, List, [], ◌∷◌, length, slice_index, slice_set, arith}
+use Rattle.std.proofs.Common.{◌≡◌, ℕ, zero, suc, ◌<◌, List, [], ◌∷◌, length, slice_index, slice_set, arith}
 use Rattle.std.proofs.Common.{refl, ap}
 use Rattle.std.specs.Prelude.{slice_index_or}
 use Rattle.std.specs.Simd.Lanes.{zip2}
@@ -70,19 +70,3 @@ pub column-set : (w : List (List ℕ)) (k j : ℕ) (x : List ℕ) →
 column-set [] k j x = refl
 column-set (v ∷ w) zero j x = refl
 column-set (v ∷ w) (suc k) j x = ap (λ r. slice_index v j ∷ r) (column-set w k j x)
-
--- four words in a row, the last first
-pub column_four : (w : List (List ℕ)) (j at : ℕ) (p q x y : List ℕ)
-    → column j (slice_set (slice_set (slice_set (slice_set w (at + 3) p) (at + 2) q) (at + 1) x) at y)
-    ≡ slice_set (slice_set (slice_set (slice_set (column j w) (at + 3) (slice_index p j)) (at + 2) (slice_index q j))
-    (at + 1) (slice_index x j)) at (slice_index y j)
-column_four w j at p q x y =
-    let w1 = slice_set w (at + 3) p in
-    let w2 = slice_set w1 (at + 2) q in
-    let w3 = slice_set w2 (at + 1) x in
-    column-set w3 at j y
-    ∙ ap (λ (c : List ℕ). slice_set c at (slice_index y j))
-    (column-set w2 (at + 1) j x
-    ∙ ap (λ (c : List ℕ). slice_set c (at + 1) (slice_index x j))
-    (column-set w1 (at + 2) j q
-    ∙ ap (λ (c : List ℕ). slice_set c (at + 2) (slice_index q j)) (column-set w (at + 3) j p)))

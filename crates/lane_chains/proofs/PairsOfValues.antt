@@ -1,10 +1,10 @@
 -- Values of 32 bytes that are hashed behind a head of 22, two at a time: each pair fills a block.
-use Rattle.std.proofs.Common.{◌≡◌, ℕ, zero, suc, ◌<◌, ◌+◌, ◌-◌, ◌*◌, ◌/◌, ◌%◌, ◌^◌, List, [], ◌∷◌, ◌++◌, length, take, drop, slice_index, arith, refl, sym, ap, ◌∙◌}
+use Rattle.std.proofs.Common.{◌≡◌, ℕ, zero, suc, ◌<◌, ◌+◌, ◌-◌, ◌*◌, ◌/◌, ◌%◌, ◌^◌, List, ◌++◌, length, take, drop, slice_index, arith, refl, sym, ap, ◌∙◌}
 use Rattle.std.proofs.Common.{length-append, length-drop}
 use Rattle.std.proofs.lemmas.List.{take_all, append_assoc, take-append-drop, length-take-le}
 use Rattle.sha2.specs.Sha256.{compress, digest_bytes, hash_after, initial_hash_256, padded_message, padding, sha256, word_at, IsAbsorbed}
 use Rattle.sha2.proofs.Absorbing256.{IsAbsorbed_fill, IsAbsorbed_short}
-use Rattle.lane_chains.specs.Chains.{joined, chain}
+use Rattle.lane_chains.specs.Chains.{joined}
 use Rattle.lane_chains.specs.Made.{made_end, ending, halves_joined, pair_words}
 use Rattle.lane_chains.proofs.HashLengths.{length-hash_under}
 use Rattle.lane_chains.proofs.StepsInOneBlock.{below_sixteen}

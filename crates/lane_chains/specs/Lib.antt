@@ -3,5 +3,4 @@ pub mod Chains
 pub mod Marks
 pub mod Lanes
 pub mod Steps
-pub mod Trails
 pub mod Made

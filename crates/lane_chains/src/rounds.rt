@@ -1,30 +1,23 @@
 // The rounds of FIPS 180-4, section 6.2.2, in each lane.
 //
-// The blocks' words, and what each round makes of a and e, lie in memory from the first to the last, and a round is one
-// turn of a loop: eight lanes of the working variables alone would fill all the registers of a processor whose vectors
-// have 128 bits, and sixteen rounds written out don't fit where it keeps the instructions that it has decoded.
+// The blocks' words lie in memory from the first to the last. Eight rounds are written out, after which each working
+// variable is back at its place: so the variables stay in registers, where they fit.
 
 ghost use Rattle.std.specs.Prelude.{◌≡◌, ℕ, ◌<◌, ◌≤◌, ◌+◌, ◌*◌, List, slice_index, slice_set};
 ghost use Rattle.sha2.specs.Sha256.{add_state, compress, initial_hash_256, next_word, round, round_constants, rounds, schedule, word_at};
 ghost use Rattle.lane_chains.specs.Lanes.{lane, column};
-ghost use Rattle.lane_chains.specs.Trails.{trail};
 
 use crate::lanes::{add, big_sigma0, big_sigma1, ch, maj, small_sigma0, small_sigma1, splat};
 use std::simd::u32x8 as Words;
 
-/// Where eight blocks are worked on. What it holds before a step counts for nothing: it is handed on so that no step
+/// Where the words of eight blocks stand. What it holds before a step counts for nothing: it is handed on so that no step
 /// lays it out anew.
-pub(crate) type Room = [Words; 190];
+pub(crate) type Room = [Words; 64];
 
 /// A room with nothing in it.
 pub(crate) fn new_room() -> Room {
-    [splat(0); 190]
+    [splat(0); 64]
 }
-
-// Where the room keeps the values of a, and where those of e: four of the rounds before, and then one of each round.
-const A: usize = 64;
-
-const E: usize = 127;
 
 // The round constants (section 4.2.2).
 pub(crate) const K32: [u32; 64] = [
@@ -137,34 +130,6 @@ fn put_word(room: &mut Room, t: usize)
     );
 }
 
-// Round `t + 5`: what it makes of a and e goes behind what the rounds before it made of them.
-#[inline(always)]
-fn put_round(room: &mut Room, t: usize)
-    requires { t < 59 }
-    ensures variables { (j : ℕ) → j < 8 → trail (column j room.new) (t + 1)
-        ≡ round (trail (column j room.old) t) (slice_index round_constants (t + 5)) (slice_index (column j room.old) (t + 5)) }
-    ensures words { (j k : ℕ) → k < 64 → slice_index (column j room.new) k ≡ slice_index (column j room.old) k }
-{
-    let now_a = room[A + 3 + t];
-    let now_e = room[E + 3 + t];
-    let temp1 = add(
-        add(
-            add(
-                add(room[E + t], big_sigma1(now_e)),
-                ch(now_e, room[E + 2 + t], room[E + 1 + t]),
-            ),
-            splat(K32[t + 5]),
-        ),
-        room[t + 5],
-    );
-    let temp2 = add(
-        big_sigma0(now_a),
-        maj(now_a, room[A + 2 + t], room[A + 1 + t]),
-    );
-    room[E + 4 + t] = add(room[A + t], temp1);
-    room[A + 4 + t] = add(temp1, temp2);
-}
-
 // Copies the blocks' own words.
 #[inline(always)]
 fn put_block(room: &mut Room, block: [Words; 16])
@@ -175,62 +140,65 @@ fn put_block(room: &mut Room, block: [Words; 16])
     }
 }
 
-// Writes four values from `at` on, the last of them first.
+// Eight words more, from word `t` on.
 #[inline(always)]
-fn put_four(room: &mut Room, at: usize, last: Words, third: Words, second: Words, first: Words)
-    requires { at + 4 ≤ 190 }
-    ensures last { (j : ℕ) → slice_index (column j room.new) (at + 3) ≡ slice_index last j }
-    ensures third { (j : ℕ) → slice_index (column j room.new) (at + 2) ≡ slice_index third j }
-    ensures second { (j : ℕ) → slice_index (column j room.new) (at + 1) ≡ slice_index second j }
-    ensures first { (j : ℕ) → slice_index (column j room.new) at ≡ slice_index first j }
-    ensures below { (j k : ℕ) → k < at → slice_index (column j room.new) k ≡ slice_index (column j room.old) k }
+fn put_words(room: &mut Room, t: usize)
+    requires low { 16 ≤ t }
+    requires high { t + 8 ≤ 64 }
+    ensures { (j : ℕ) → j < 8 → (b : List ℕ) → ((k : ℕ) → k < t → slice_index (column j room.old) k ≡ slice_index (schedule b 48) k)
+        → (k : ℕ) → k < t + 8 → slice_index (column j room.new) k ≡ slice_index (schedule b 48) k }
 {
-    room[at + 3] = last;
-    room[at + 2] = third;
-    room[at + 1] = second;
-    room[at] = first;
+    put_word(room, t);
+    put_word(room, t + 1);
+    put_word(room, t + 2);
+    put_word(room, t + 3);
+    put_word(room, t + 4);
+    put_word(room, t + 5);
+    put_word(room, t + 6);
+    put_word(room, t + 7);
 }
 
-// Begins with the working variables that the first five rounds left.
+// The rounds `t` to `t + 7`.
 #[inline(always)]
-fn put_variables(room: &mut Room, v: [Words; 8])
-    ensures variables { (j : ℕ) → trail (column j room.new) 0 ≡ lane j v }
-    ensures words { (j k : ℕ) → k < 64 → slice_index (column j room.new) k ≡ slice_index (column j room.old) k }
+fn run_eight(room: &Room, v: [Words; 8], t: usize) -> [Words; 8]
+    requires { t + 8 ≤ 64 }
+    ensures { (j : ℕ) → j < 8 → (b h : List ℕ) → ((k : ℕ) → k < t + 8 → slice_index (column j room.now) k ≡ slice_index (schedule b 48) k)
+        → lane j v ≡ rounds h (schedule b 48) t → lane j result ≡ rounds h (schedule b 48) (t + 8) }
 {
-    put_four(room, A, v[0], v[1], v[2], v[3]);
-    put_four(room, E, v[4], v[5], v[6], v[7]);
+    let v = round(v, K32[t], room[t]);
+    let v = round(v, K32[t + 1], room[t + 1]);
+    let v = round(v, K32[t + 2], room[t + 2]);
+    let v = round(v, K32[t + 3], room[t + 3]);
+    let v = round(v, K32[t + 4], room[t + 4]);
+    let v = round(v, K32[t + 5], room[t + 5]);
+    let v = round(v, K32[t + 6], room[t + 6]);
+    round(v, K32[t + 7], room[t + 7])
 }
 
-// The rounds from the sixth on.
+// The sixth round, the seventh and the eighth.
 #[inline(always)]
-fn run_rounds(room: &mut Room)
+fn run_three(room: &Room, v: [Words; 8]) -> [Words; 8]
+    ensures { (j : ℕ) → j < 8 → (b h : List ℕ) → ((k : ℕ) → k < 16 → slice_index (column j room.now) k ≡ slice_index (schedule b 48) k)
+        → lane j v ≡ rounds h (schedule b 48) 5 → lane j result ≡ rounds h (schedule b 48) 8 }
+{
+    let v = round(v, K32[5], room[5]);
+    let v = round(v, K32[6], room[6]);
+    round(v, K32[7], room[7])
+}
+
+// The rounds from the sixth on, where `begun` has the working variables that the first five left.
+#[inline(always)]
+fn run_rounds(room: &mut Room, begun: [Words; 8]) -> [Words; 8]
     ensures { (j : ℕ) → j < 8 → (b h : List ℕ) → ((k : ℕ) → k < 16 → slice_index (column j room.old) k ≡ slice_index (schedule b 48) k)
-        → trail (column j room.old) 0 ≡ rounds h (schedule b 48) 5 → trail (column j room.new) 59 ≡ rounds h (schedule b 48) 64 }
+        → lane j begun ≡ rounds h (schedule b 48) 5 → lane j result ≡ rounds h (schedule b 48) 64 }
 {
-    'both: for t in 0..48usize {
-        put_word(room, t + 16);
-        put_round(room, t);
+    let mut v = run_three(room, begun);
+    'turns: for turn in 1..7usize {
+        put_words(room, 8 * turn + 8);
+        let next = run_eight(room, v, 8 * turn);
+        v = next;
     }
-    'last: for t in 48..59usize {
-        put_round(room, t);
-    }
-}
-
-// The working variables after the last round.
-#[inline(always)]
-fn last_variables(room: &Room) -> [Words; 8]
-    ensures { (j : ℕ) → lane j result ≡ trail (column j room.now) 59 }
-{
-    [
-        room[A + 62],
-        room[A + 61],
-        room[A + 60],
-        room[A + 59],
-        room[E + 62],
-        room[E + 61],
-        room[E + 60],
-        room[E + 59],
-    ]
+    run_eight(room, v, 56)
 }
 
 #[inline(always)]
@@ -257,9 +225,7 @@ pub(crate) fn compressed(begun: [Words; 8], block: [Words; 16], room: &mut Room)
         → lane j begun ≡ rounds initial_hash_256 (schedule b 48) 5 → lane j result ≡ compress initial_hash_256 b }
 {
     put_block(room, block);
-    put_variables(room, begun);
-    run_rounds(room);
-    sums(first_state(), last_variables(room))
+    sums(first_state(), run_rounds(room, begun))
 }
 
 // The working variables after the first five rounds of a block.
@@ -282,7 +248,5 @@ pub(crate) fn compressed_after(h: [Words; 8], block: [Words; 16], room: &mut Roo
         → lane j result ≡ compress (lane j h) b }
 {
     put_block(room, block);
-    put_variables(room, first_five(h, block));
-    run_rounds(room);
-    sums(h, last_variables(room))
+    sums(h, run_rounds(room, first_five(h, block)))
 }

@@ -1,7 +1,3 @@
-use Rattle.std.proofs.Common.{◌≡◌, ℕ, List, []}
-use Rattle.std.specs.Prelude.{slice_index_or}
-use Rattle.sha2.specs.Sha256.{digest_bytes}
-use Rattle.lane_chains.specs.Lanes.{lane}
 use Rattle.lane_chains.proofs.LanesOneByOne.{below_eight}
 use Rattle.lane_chains.proofs.made.all_values.Goals as goal
 

@@ -1,5 +1,5 @@
 -- Value j is the head of leaf q + j, and lane j takes that value.
-use Rattle.std.proofs.Common.{◌≡◌, ◌≢◌, ◌≤◌, ◌<◌, ◌+◌, ◌*◌, ◌∙◌, ℕ, List, [], ◌∷◌, ap, arith, below_more, length, refl, slice_index}
+use Rattle.std.proofs.Common.{◌≡◌, ◌≢◌, ◌<◌, ◌+◌, ◌∙◌, ℕ, List, [], ◌∷◌, ap, arith, below_more, refl, slice_index}
 use Rattle.lane_chains.specs.Chains.{value_at}
 use Rattle.lane_chains.specs.Made.{head}
 use Rattle.lane_chains.proofs.LanesOneByOne.{below_eight}

@@ -1,4 +1,4 @@
-use Rattle.std.proofs.Common.{◌≡◌, ◌+◌, ℕ, arith, refl, slice_index, sym, add-zero}
+use Rattle.std.proofs.Common.{arith, refl}
 use Rattle.lane_chains.proofs.LanesOneByOne.{below_eight}
 use Rattle.lane_chains.proofs.made.leaves_from.Goals as goal
 

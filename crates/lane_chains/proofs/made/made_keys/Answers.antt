@@ -1,14 +1,14 @@
 -- A pair of ends fills a block with what was left before it, and leaves as much of its second. The number of ends is
 -- odd, so the last block has the last end, and the padding.
-use Rattle.std.proofs.Common.{◌≡◌, ◌≤◌, ◌<◌, ◌+◌, ◌-◌, ◌*◌, ◌/◌, ◌%◌, ◌^◌, ◌++◌, ◌∙◌, ℕ, List, ap, arith, length, refl, slice_index, sym}
+use Rattle.std.proofs.Common.{◌≡◌, ◌<◌, ◌+◌, ◌-◌, ◌*◌, ◌^◌, ◌++◌, ◌∙◌, ℕ, List, ap, arith, length, refl, slice_index}
 use Rattle.std.proofs.lemmas.List.{append-nil}
 use Rattle.std.proofs.Common.{length-append}
-use Rattle.sha2.specs.Sha256.{compress, digest_bytes, initial_hash_256, sha256}
+use Rattle.sha2.specs.Sha256.{digest_bytes, initial_hash_256, sha256}
 use Rattle.wire_parts.specs.Fields.{u16_bytes, u32_bytes}
 use Rattle.lane_chains.specs.Hash.{hash_under}
 use Rattle.lane_chains.specs.Lanes.{lane}
 use Rattle.lane_chains.specs.Chains.{joined}
-use Rattle.lane_chains.specs.Made.{made_end, made_key, head, ending}
+use Rattle.lane_chains.specs.Made.{made_end, head, ending}
 use Rattle.lane_chains.proofs.PairsOfValues.{Taken, taken_none, taken_more, taken_all, pair_joined, last_joined, head_first, length-digest, length-joined, length-made_end}
 use Rattle.lane_chains.proofs.made.made_keys.Goals as goal
 

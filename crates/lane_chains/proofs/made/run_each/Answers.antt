@@ -1,11 +1,10 @@
 -- After each turn every lane's chain is a step longer: the digest that the step makes is the definition's hash.
-use Rattle.std.proofs.Common.{◌≡◌, ◌-◌, ◌+◌, ◌<◌, ◌^◌, ◌∙◌, ◌++◌, ℕ, ap, arith, refl, slice_index, sym}
+use Rattle.std.proofs.Common.{◌≡◌, ◌-◌, ◌∙◌, ◌++◌, ℕ, ap, arith, refl, slice_index, sym}
 use Rattle.sha2.specs.Sha256.{digest_bytes, sha256}
 use Rattle.wire_parts.specs.Fields.{u8_bytes}
 use Rattle.lane_chains.specs.Hash.{hash_under}
 use Rattle.lane_chains.specs.Lanes.{lane}
 use Rattle.lane_chains.specs.Steps.{step_text}
-use Rattle.lane_chains.specs.Chains.{chain}
 use Rattle.lane_chains.proofs.ChainsGrow.{chain-more}
 use Rattle.lane_chains.proofs.LanesOfChains.{step_is_hash}
 use Rattle.lane_chains.proofs.made.run_each.Goals as goal

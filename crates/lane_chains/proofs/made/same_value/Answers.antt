@@ -1,5 +1,5 @@
 -- Each lane takes value 0 of a list that has no other.
-use Rattle.std.proofs.Common.{◌≡◌, ◌<◌, ◌∙◌, ℕ, List, [], ◌∷◌, ap, arith, length, refl, slice_index, take}
+use Rattle.std.proofs.Common.{◌∙◌, ap, arith}
 use Rattle.std.proofs.lemmas.List.{take_all}
 use Rattle.lane_chains.specs.Chains.{value_at}
 use Rattle.lane_chains.proofs.LanesOfChains.{zero_lane}

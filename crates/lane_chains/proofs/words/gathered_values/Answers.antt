@@ -1,7 +1,6 @@
 -- Each lane's eight words are those at its chain's value, so that together they are the value's 32 bytes.
 use Rattle.std.proofs.Common.{◌≡◌, ◌+◌, ◌*◌, ℕ, [], ◌∷◌, arith, slice_index}
 use Rattle.sha2.specs.Sha256.{word_at}
-use Rattle.lane_chains.specs.Lanes.{lane}
 use Rattle.lane_chains.proofs.LanesOneByOne.{below_eight}
 use Rattle.lane_chains.proofs.BytesAsWords.{words_bytes}
 use Rattle.lane_chains.proofs.words.gathered_values.Goals as goal
