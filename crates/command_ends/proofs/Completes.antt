@@ -198,6 +198,9 @@ by-result next call certain err status (Err (refusal.History fault number)) caus
 by-result next call certain err status (Err (refusal.Pieces at)) cause finish last free =
     refused next call err status last (refusal.Pieces at) free
     (comes-to next call certain last (Refuses (refusal.Pieces at)) free cause.0) finish cause.1
+by-result next call certain err status (Err (refusal.Keep kept_name kept_fault)) cause finish last free =
+    refused next call err status last (refusal.Keep kept_name kept_fault) free
+    (comes-to next call certain last (Refuses (refusal.Keep kept_name kept_fault)) free cause.0) finish cause.1
 by-result next call certain err status (Err refusal.NotVerified) cause finish last free =
     refused next call err status last refusal.NotVerified free
     (comes-to next call certain last (Refuses refusal.NotVerified) free cause.0) finish cause.1

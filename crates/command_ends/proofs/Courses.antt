@@ -90,6 +90,9 @@ after-load next held later first second last before name content (Err (refusal.N
 after-load next held later first second last before name content (Err (refusal.Pieces at))
     due told short same stay cause =
     comes-after next held later before name content (Refuses (refusal.Pieces at)) due told short same cause
+after-load next held later first second last before name content (Err (refusal.Keep kept_name kept_fault))
+    due told short same stay cause =
+    comes-after next held later before name content (Refuses (refusal.Keep kept_name kept_fault)) due told short same cause
 
 -- the file that is due can't be loaded
 pub load-failed : (next : List (List ℕ) → Step → Type 0) (held : List ℕ → Option (List ℕ)) (first last : List ℕ → ℕ)
@@ -114,4 +117,5 @@ load-failed next held first last before name (refusal.History fault number) due 
 load-failed next held first last before name refusal.NotVerified due cause = absurd cause
 load-failed next held first last before name (refusal.NoAnswer lack) due cause = absurd cause
 load-failed next held first last before name (refusal.Pieces at) due cause = absurd cause
+load-failed next held first last before name (refusal.Keep kept_name kept_fault) due cause = absurd cause
 load-failed next held first last before name refusal.Output due cause = absurd cause

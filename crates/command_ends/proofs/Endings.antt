@@ -26,3 +26,4 @@ puts_in_memory next call text (Err (refusal.History fault number)) comes put = t
 puts_in_memory next call text (Err refusal.NotVerified) comes put = tt
 puts_in_memory next call text (Err (refusal.NoAnswer lack)) comes put = tt
 puts_in_memory next call text (Err (refusal.Pieces at)) comes put = tt
+puts_in_memory next call text (Err (refusal.Keep kept_name kept_fault)) comes put = tt

@@ -4,6 +4,8 @@ use Rattle.command_ends.specs.declared.refusal.ScenarioFault.{ScenarioFault}
 use Rattle.command_ends.specs.declared.refusal.ScenarioFault.TheVariants as scenario
 use Rattle.command_ends.specs.declared.refusal.LineFault.{LineFault}
 use Rattle.command_ends.specs.declared.refusal.LineFault.TheVariants as line
+use Rattle.command_ends.specs.declared.refusal.KeepFault.{KeepFault}
+use Rattle.command_ends.specs.declared.refusal.KeepFault.TheVariants as keep
 use Rattle.command_ends.specs.declared.refusal.NoAnswer.{NoAnswer}
 use Rattle.command_ends.specs.declared.refusal.NoAnswer.TheVariants as none
 use Rattle.command_ends.specs.declared.refusal.Refusal.{Refusal}
@@ -18,6 +20,7 @@ status_of (refusal.Script fault number) = 5
 status_of (refusal.Words fault number) = 5
 status_of (refusal.History fault number) = 5
 status_of (refusal.Pieces number) = 5
+status_of (refusal.Keep name fault) = 5
 status_of refusal.Output = 6
 status_of refusal.Memory = 7
 status_of refusal.NotVerified = 8
@@ -38,6 +41,13 @@ line_fault_name line.NoActor = codes "NoActor"
 line_fault_name line.NoFrame = codes "NoFrame"
 line_fault_name line.TooMany = codes "TooMany"
 line_fault_name line.NotLegal = codes "NotLegal"
+
+-- why a file isn't what a station kept, by its name, with the line or the stamp
+abbrev pub keep_fault_text : KeepFault → List ℕ
+keep_fault_text (keep.BadLine number) = codes "BadLine " ++ decimal number
+keep_fault_text (keep.NotLegal stamp) = codes "NotLegal " ++ decimal stamp
+keep_fault_text (keep.OtherWords stamp) = codes "OtherWords " ++ decimal stamp
+keep_fault_text keep.Twice = codes "Twice"
 
 -- the command that has nothing to print, with the cause by its name
 abbrev pub no_answer_text : NoAnswer → List ℕ
@@ -65,6 +75,8 @@ line_text (refusal.Script fault number) = fault_line (codes "script") fault numb
 line_text (refusal.Words fault number) = fault_line (codes "words") fault number
 line_text (refusal.History fault number) = fault_line (codes "history") fault number
 line_text (refusal.Pieces number) = fault_line (codes "parts") line.BadLine number
+line_text (refusal.Keep name fault) =
+    codes "spire: keep " ++ name ++ codes " " ++ keep_fault_text fault ++ codes "\n"
 line_text refusal.NotVerified = codes "spire: not verified\n"
 line_text (refusal.NoAnswer why) = codes "spire: " ++ no_answer_text why ++ codes "\n"
 line_text refusal.Output = codes "spire: output fault\n"

@@ -10,4 +10,4 @@ mod refusal;
 mod report;
 
 pub use crate::loads::load;
-pub use crate::refusal::{LineFault, NoAnswer, Refusal, ScenarioFault};
+pub use crate::refusal::{KeepFault, LineFault, NoAnswer, Refusal, ScenarioFault};

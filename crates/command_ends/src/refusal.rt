@@ -48,6 +48,19 @@ pub enum NoAnswer {
     NoPlot,
 }
 
+/// Why a file isn't what a station kept.
+#[derive(Clone, Copy, Debug, PartialEq, Eq)]
+pub enum KeepFault {
+    /// The first line that isn't of its form. Lines are counted from 1.
+    BadLine { line: u64 },
+    /// The first entry, from 0, that can't come after those before it.
+    NotLegal { stamp: u64 },
+    /// The first entry, from 0, at which other words were said than those that this program says there.
+    OtherWords { stamp: u64 },
+    /// The file's actor has given one before.
+    Twice,
+}
+
 /// Why a call didn't put its whole text.
 #[derive(Drop)]
 pub enum Refusal {
@@ -65,6 +78,8 @@ pub enum Refusal {
     History { fault: LineFault, number: u64 },
     /// The line of a file of parts isn't of its form. Lines are counted from 1.
     Pieces { line: u64 },
+    /// The file isn't what a station kept.
+    Keep { name: Text, fault: KeepFault },
     /// The signature isn't one of the message.
     NotVerified,
     NoAnswer { why: NoAnswer },

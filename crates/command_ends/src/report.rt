@@ -1,9 +1,9 @@
 ghost use Rattle.std.specs.Prelude.{◌≡◌, ◌≤◌, ◌++◌, IfOk, string_bytes, codes};
 ghost use Rattle.command_ends.specs.Output.{PutsBeginning};
-ghost use Rattle.command_ends.specs.Refusals.{status_of, line_text, fault_line, line_fault_name, no_answer_text, scenario_fault_text};
+ghost use Rattle.command_ends.specs.Refusals.{status_of, line_text, fault_line, keep_fault_text, line_fault_name, no_answer_text, scenario_fault_text};
 ghost use Rattle.command_ends.specs.Ended.{sink_of, Told, ErrorSink};
 
-use crate::refusal::{LineFault, NoAnswer, Refusal, ScenarioFault};
+use crate::refusal::{KeepFault, LineFault, NoAnswer, Refusal, ScenarioFault};
 use outside::{PutAnswer, Sink};
 use plain_lists::Want;
 use std::alloc::{AllocError, Global};
@@ -43,7 +43,8 @@ fn status_of(refusal: &Refusal) -> u8
             fault: _,
             number: _,
         }
-        | Refusal::Pieces { line: _ } => 5,
+        | Refusal::Pieces { line: _ }
+        | Refusal::Keep { name: _, fault: _ } => 5,
         Refusal::Output => 6,
         Refusal::Memory => 7,
         Refusal::NotVerified => 8,
@@ -69,6 +70,7 @@ fn line_of(alloc: Global, refusal: &Refusal) -> Result<String, AllocError>
         Refusal::Words { fault, line } => fault_line(alloc, "words", *fault, *line),
         Refusal::History { fault, number } => fault_line(alloc, "history", *fault, *number),
         Refusal::Pieces { line } => fault_line(alloc, "parts", LineFault::BadLine, *line),
+        Refusal::Keep { name, fault } => keep_line(alloc, name.as_str(), *fault),
         Refusal::NotVerified => String::from_str(alloc, "spire: not verified\n"),
         Refusal::NoAnswer { why } => no_answer_line(alloc, *why),
         Refusal::Output => String::from_str(alloc, "spire: output fault\n"),
@@ -97,6 +99,26 @@ fn scenario_line(alloc: Global, fault: &ScenarioFault) -> Result<String, AllocEr
             let name = name.as_str();
             format!(in alloc; "spire: scenario UnknownKey {name}\n")
         }
+    }
+}
+
+fn keep_line(alloc: Global, name: &str, fault: KeepFault) -> Result<String, AllocError>
+    ensures { IfOk result (λ line. string_bytes line ≡ codes "spire: keep " ++ name.now ++ codes " " ++ keep_fault_text fault ++ codes "\n") }
+{
+    let why = keep_fault(alloc, fault)?;
+    let why = why.as_str();
+    let line = format!(in alloc; "spire: keep {name} {why}\n")?;
+    Ok(line)
+}
+
+fn keep_fault(alloc: Global, fault: KeepFault) -> Result<String, AllocError>
+    ensures { IfOk result (λ text. string_bytes text ≡ keep_fault_text fault) }
+{
+    match fault {
+        KeepFault::BadLine { line } => format!(in alloc; "BadLine {line}"),
+        KeepFault::NotLegal { stamp } => format!(in alloc; "NotLegal {stamp}"),
+        KeepFault::OtherWords { stamp } => format!(in alloc; "OtherWords {stamp}"),
+        KeepFault::Twice => String::from_str(alloc, "Twice"),
     }
 }
 

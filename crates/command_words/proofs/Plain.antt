@@ -1,15 +1,21 @@
 -- A command as a user writes it is taken, and asks for itself: for each subcommand the walk is led word by word to its
 -- end, where each value stands in its row.
-use Rattle.std.proofs.Common.{◌≡◌, ◌∙◌, ℕ, true, refl, ap, List, [], ◌∷◌, Option, None, Some, codes, arith}
+use Rattle.std.proofs.Common.{◌≡◌, ◌∙◌, ◌≤◌, ◌==◌, ℕ, suc, Bool, true, false, refl, ap, List, [], ◌∷◌, ◌++◌, length, nat_lt, Option, None, Some, codes, arith}
 use Rattle.std.specs.Prelude.{decimal}
-use Rattle.clap.specs.Walk.{Row, Text, Walk, finished, idle, nothing_held, walk_from}
+use Rattle.std.specs.List.{All}
+use Rattle.std.proofs.lemmas.Bool.{ne_eqb}
+use Rattle.std.proofs.Common.{append_assoc, append-nil}
+use Rattle.clap.specs.Walk.{Row, Text, Walk, finished, idle, nothing_held, positional, walk_from}
 use Rattle.clap.specs.ValueTests.{is_unsigned_in}
+use Rattle.clap.specs.Kinds.{range_kinds, values_kinds}
+use Rattle.clap.specs.declared.builder.value_parser.ValueParser.TheVariants as vp
 use Rattle.clap.proofs.OnLiterals.{clap_on_literals}
-use Rattle.command_words.specs.Wanted.{IsPlain, IsSpan, IsWhole, IsWidth, Wanted, command_in, is_command, number_in, wanted_in, words_of}
+use Rattle.command_words.specs.Wanted.{IsName, IsPlain, IsSpan, IsWhole, IsWidth, Wanted, command_in, is_command, number_in, wanted_in, words_of}
 use Rattle.command_words.specs.Wanted.{play, run, replay, make, keys, verify, parts, rebuild, blame, trend, delays, page}
-use Rattle.command_words.specs.Wanted.{picture, plot, chart}
+use Rattle.command_words.specs.Wanted.{picture, plot, chart, merge}
 use Rattle.command_words.proofs.Walks.{IsWord, Runs, ends, held, is_taken_if, leaf, level_taken, name_is_word, state}
 use Rattle.command_words.proofs.Walks.{steps, text_row, word_steps}
+use Rattle.command_words.proofs.Stops.{merge_found, merge_taken}
 use Rattle.command_words.proofs.Numbers.{below_whole, whole_is_in, whole_is_word, whole_reads, written_is_in}
 
 -- where the walk ends: these rows are held, and the last value, behind which no more is awaited
@@ -390,6 +396,59 @@ chart_plain s h (Some w) ws wh wide =
     chart_wide s h (decimal w) w ws wh (whole_is_word w fits) (written_is_in 600 4000 w wide.0 wide.1 fits)
     (whole_reads w fits)
 
+-- ---- merge
+
+-- the walk among the files, so many of them held
+abbrev among_keeps : Text → List Text → Walk
+among_keeps a held_so_far =
+    state (held (text_row (codes "scenario") a ∷ []) (codes "keep") held_so_far) positional 2
+
+name_first : (k : Text) (keeps : List Text) → All IsName (k ∷ keeps) → IsName k
+name_first k keeps names = names 0 k (omega arith)
+
+name_others : (k : Text) (keeps : List Text) → All IsName (k ∷ keeps) → All IsName keeps
+name_others k keeps names = λ i d within. names (suc i) d (omega (arith, within))
+
+more_keeps : (a : Text) (so_far keeps : List Text) → All IsName keeps
+    → Runs (leaf 15) (among_keeps a so_far) keeps (among_keeps a (so_far ++ keeps))
+unfolding clap_on_literals
+more_keeps a so_far [] names = rw (append-nil so_far) (ends (leaf 15) _)
+more_keeps a so_far (k ∷ keeps) names =
+    word_steps (leaf 15) _ _ _ k _ _ (name_is_word k (name_first k keeps names)) refl
+    (rw (← append_assoc so_far (k ∷ []) keeps)
+    (more_keeps a (so_far ++ k ∷ []) keeps (name_others k keeps names)))
+
+-- texts as they are written are never refused
+texts_pass : (ignores : Bool) (values : List Text) → values_kinds ignores vp.String values ≡ []
+texts_pass ignores [] = refl
+texts_pass ignores (v ∷ vs) = texts_pass ignores vs
+
+few_keeps : (n : ℕ) → 1 ≤ n → n ≤ 26 → range_kinds 1 26 n ≡ []
+few_keeps n some few =
+    let not_none : (n == 0) ≡ false = ne_eqb n 0 (λ e. omega arith) in
+    let not_few : nat_lt n 1 ≡ false = grind (arith, some) in
+    let not_many : nat_lt 26 n ≡ false = grind (arith, few) in
+    rw (not_none, not_few, not_many) refl
+
+merge_asks : (a k : Text) (keeps : List Text) → IsWord a → IsWord k → All IsName keeps
+    → length (k ∷ keeps) ≤ 26 → Asks (codes "merge" ∷ a ∷ k ∷ keeps) (merge a (k ∷ keeps))
+unfolding clap_on_literals
+merge_asks a k keeps wa wk names few =
+    let runs : Runs (leaf 15) (walk_from nothing_held) (a ∷ k ∷ keeps) (among_keeps a (k ∷ keeps)) =
+    word_steps (leaf 15) _ _ _ a _ _ wa refl (word_steps (leaf 15) _ _ _ k _ _ wk refl
+    (more_keeps a (k ∷ []) keeps names)) in
+    record {
+      taken = merge_taken a k keeps ∙ ap is_taken_if (level_taken (leaf 15) _ _ runs
+          (rw (few_keeps (length (k ∷ keeps)) (omega arith) few, texts_pass false (k ∷ keeps)) refl));
+      wanted = merge_found a k keeps ∙ ap (asked_at 15 (codes "merge")) runs.walked_to;
+    }
+
+merge_plain : (scenario : Text) (keeps : List Text) → IsName scenario → All IsName keeps → 1 ≤ length keeps
+    → length keeps ≤ 26 → Asks (codes "merge" ∷ scenario ∷ keeps) (merge scenario keeps)
+merge_plain s [] ws names some few = absurd (omega arith)
+merge_plain s (k ∷ keeps) ws names some few =
+    merge_asks s k keeps (name_is_word s ws) (name_is_word k (name_first k keeps names)) (name_others k keeps names) few
+
 -- ---- all
 
 plain : (w : Wanted) → IsPlain w → Asks (words_of w) w
@@ -430,6 +489,7 @@ plain (plot scenario history point width) h =
     plot_plain scenario history point width (name_is_word scenario h.0) (name_is_word history h.1) h.2 h.3
 plain (chart scenario history width) h =
     chart_plain scenario history width (name_is_word scenario h.0) (name_is_word history h.1) h.2
+plain (merge scenario keeps) h = merge_plain scenario keeps h.0 h.1 h.2 h.3
 
 pub plain_taken : (w : Wanted) → IsPlain w → is_command (words_of w) ≡ true
 plain_taken w h = (plain w h).taken

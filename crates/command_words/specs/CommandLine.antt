@@ -1,5 +1,5 @@
--- The command line as `clap` is to have it: fifteen subcommands, each with required words, numbers of a
--- range among them; pictures have numbers that may be left out.
+-- The command line as `clap` is to have it: sixteen subcommands, each with required words, numbers of a
+-- range among them; pictures have numbers that may be left out, and `merge` takes one to 26 files.
 -- It is this project's own. How `clap` reads words for it is the kit's definition (`fault_of`, `subcommand_of`).
 use Rattle.std.specs.Prelude.{◌≡◌, ℕ, true, false, List, [], ◌∷◌, Some, codes}
 use Rattle.clap.specs.Words.{App, Rule, Shape, Text, app_of, new_rule}
@@ -27,6 +27,10 @@ free_rule id low high = record (new_rule id) { parser = Some (vp.Unsigned low hi
 -- how many pixels wide a picture is, behind `--width`
 abbrev pub width_rule : Rule
 width_rule = record (free_rule (codes "width") 600 4000) { long = Some (codes "width") }
+
+-- the files that stations kept, one to as many as a group has actors at most
+abbrev pub keeps_rule : Rule
+keeps_rule = record (text_rule (codes "keep")) { range = Some (record { start_inclusive = 1; end_inclusive = 26 }) }
 
 -- a required number that only has to fit 32 bits
 abbrev pub whole_rule : Text → Rule
@@ -91,6 +95,9 @@ abbrev pub chart_shape : Shape
 chart_shape =
     command (codes "chart") (text_rule (codes "scenario") ∷ text_rule (codes "history") ∷ width_rule ∷ [])
 
+abbrev pub merge_shape : Shape
+merge_shape = command (codes "merge") (text_rule (codes "scenario") ∷ keeps_rule ∷ [])
+
 -- the words begin with the subcommand, and one is required
 abbrev pub top_shape : Shape
 top_shape = record (new_shape (codes "spire")) {
@@ -103,7 +110,8 @@ abbrev pub spire_app : App
 spire_app = record {
   top = top_shape;
   subs = play_shape ∷ run_shape ∷ replay_shape ∷ make_shape ∷ keys_shape ∷ verify_shape ∷ parts_shape ∷ rebuild_shape
-      ∷ blame_shape ∷ trend_shape ∷ delays_shape ∷ page_shape ∷ picture_shape ∷ plot_shape ∷ chart_shape ∷ [];
+      ∷ blame_shape ∷ trend_shape ∷ delays_shape ∷ page_shape ∷ picture_shape ∷ plot_shape ∷ chart_shape
+      ∷ merge_shape ∷ [];
 }
 
 -- the command has this shape, no subcommand and no global argument

@@ -1,10 +1,11 @@
 -- What the words of a command line ask for.
 use Rattle.std.specs.Prelude.{◌≢◌, ◌≤◌, ℕ, Bool, List, [], ◌∷◌, ◌++◌, Option, None, Some, codes}
-use Rattle.std.specs.Prelude.{if◌then◌else◌, option_and_then, decimal}
+use Rattle.std.specs.Prelude.{if◌then◌else◌, option_and_then, decimal, length, map}
+use Rattle.std.specs.List.{All}
 use Rattle.std.specs.Str.{bytes_eq}
 use Rattle.std.specs.Str.Parse.{digits_value, without_leading_plus}
 use Rattle.clap.specs.ValueTests.{is_unsigned_in}
-use Rattle.clap.specs.Words.{Row, Text, fault_of, first_of, one_of, subcommand_of}
+use Rattle.clap.specs.Words.{Row, Text, all_of, fault_of, first_of, one_of, subcommand_of}
 use Rattle.clap.specs.Walk.{is_empty}
 use Rattle.command_words.specs.CommandLine.{spire_app}
 use Rattle.command_words.specs.declared.asked.Asked.{Asked}
@@ -28,6 +29,8 @@ pub data Wanted : Type 0 where
   picture : Text → Text → Option ℕ → Option ℕ → Option ℕ → Wanted
   plot : Text → Text → ℕ → Option ℕ → Wanted
   chart : Text → Text → Option ℕ → Wanted
+  -- the files that stations kept
+  merge : Text → List Text → Wanted
 
 abbrev pub wanted : Asked → Wanted
 wanted (asked.Play scenario script words) = play scenario.now script.now words.now
@@ -45,6 +48,7 @@ wanted (asked.Page scenario history) = page scenario.now history.now
 wanted (asked.Picture scenario history first last width) = picture scenario.now history.now first last width
 wanted (asked.Plot scenario history point width) = plot scenario.now history.now point width
 wanted (asked.Chart scenario history width) = chart scenario.now history.now width
+wanted (asked.Merge scenario keeps) = merge scenario.now (map (λ keep. keep.now) keeps.items)
 
 -- The words are a command: `clap` refuses them for no cause but want of memory.
 abbrev pub is_command : List Text → Bool
@@ -65,6 +69,9 @@ with_text id rows next = option_and_then next (first_of id rows)
 
 abbrev pub with_number : Text → List Row → (ℕ → Option Wanted) → Option Wanted
 with_number id rows next = option_and_then next (number_of id rows)
+
+abbrev pub with_texts : Text → List Row → (List Text → Option Wanted) → Option Wanted
+with_texts id rows next = option_and_then next (all_of id rows)
 
 abbrev pub play_in : List Row → Option Wanted
 play_in rows = with_text (codes "scenario") rows (λ scenario.
@@ -137,6 +144,10 @@ abbrev pub chart_in : List Row → Option Wanted
 chart_in rows = with_text (codes "scenario") rows (λ scenario.
     with_text (codes "history") rows (λ history. Some (chart scenario history (number_of (codes "width") rows))))
 
+abbrev pub merge_in : List Row → Option Wanted
+merge_in rows = with_text (codes "scenario") rows (λ scenario.
+    with_texts (codes "keep") rows (λ keeps. Some (merge scenario keeps)))
+
 abbrev pub command_in : Text → List Row → Option Wanted
 command_in name rows = if bytes_eq name (codes "play") then play_in rows
     else (if bytes_eq name (codes "run") then run_in rows
@@ -152,7 +163,8 @@ command_in name rows = if bytes_eq name (codes "play") then play_in rows
     else (if bytes_eq name (codes "page") then page_in rows
     else (if bytes_eq name (codes "picture") then picture_in rows
     else (if bytes_eq name (codes "plot") then plot_in rows
-    else (if bytes_eq name (codes "chart") then chart_in rows else None))))))))))))))
+    else (if bytes_eq name (codes "chart") then chart_in rows
+    else (if bytes_eq name (codes "merge") then merge_in rows else None)))))))))))))))
 
 -- the command that `clap` found, by its name and its rows
 abbrev pub asked_in : Option (Text × List Row) → Option Wanted
@@ -193,6 +205,7 @@ words_of (picture scenario history first last width) =
     codes "picture" ∷ scenario ∷ history ∷ (number_words first ++ (number_words last ++ width_words width))
 words_of (plot scenario history point width) = codes "plot" ∷ scenario ∷ history ∷ decimal point ∷ width_words width
 words_of (chart scenario history width) = codes "chart" ∷ scenario ∷ history ∷ width_words width
+words_of (merge scenario keeps) = codes "merge" ∷ scenario ∷ keeps
 
 -- a name isn't empty and doesn't begin with a hyphen, whose number is 45
 abbrev pub IsName : Text → Type 0
@@ -234,3 +247,4 @@ IsPlain (picture scenario history first last width) =
     IsName scenario × IsName history × IsSpan first last × IsWidth width
 IsPlain (plot scenario history point width) = IsName scenario × IsName history × IsWhole point × IsWidth width
 IsPlain (chart scenario history width) = IsName scenario × IsName history × IsWidth width
+IsPlain (merge scenario keeps) = IsName scenario × All IsName keeps × (1 ≤ length keeps) × (length keeps ≤ 26)

@@ -1,15 +1,16 @@
 //! What the words ask for, from the values that `clap` found.
-ghost use Rattle.std.specs.Prelude.{◌≡◌, option_map};
-ghost use Rattle.clap.specs.Words.{first_of, found_of, rows_of, subcommand_rows_of};
+ghost use Rattle.std.specs.Prelude.{◌≡◌, IfOk, map, option_map};
+ghost use Rattle.clap.specs.Words.{all_of, first_of, found_of, rows_of, subcommand_rows_of};
 ghost use Rattle.command_words.specs.Wanted.{asked_in, number_of, wanted};
 ghost use Rattle.command_words.specs.Wanted.{play_in, run_in, replay_in, make_in, keys_in};
 ghost use Rattle.command_words.specs.Wanted.{verify_in, parts_in, rebuild_in, blame_in, trend_in, delays_in, page_in};
-ghost use Rattle.command_words.specs.Wanted.{picture_in, plot_in, chart_in};
+ghost use Rattle.command_words.specs.Wanted.{picture_in, plot_in, chart_in, merge_in};
 
 use clap::ArgMatches;
+use std::alloc::{AllocError, Global};
 
 /// A command with its values, which are parts of the words.
-#[derive(Clone, Copy, Debug, PartialEq, Eq)]
+#[derive(Debug, Drop, PartialEq, Eq)]
 pub enum Asked<'a> {
     /// Play a script.
     Play {
@@ -100,12 +101,30 @@ pub enum Asked<'a> {
         history: &'a str,
         width: Option<u32>,
     },
+    /// Print one run of what stations kept.
+    Merge {
+        scenario: &'a str,
+        keeps: Vec<&'a str>,
+    },
 }
 
 fn text<'a>(found: &ArgMatches<'a>, id: &str) -> Option<&'a str>
     ensures { option_map (λ s. s.now) result ≡ first_of id.now (rows_of (found_of found.now)) }
 {
     found.get_str(id)
+}
+
+fn texts<'a>(
+    alloc: Global,
+    found: &ArgMatches<'a>,
+    id: &str,
+) -> Result<Option<Vec<&'a str>>, AllocError>
+    ensures { IfOk result (λ found_texts. option_map (λ texts. map (λ s. s.now) texts.items) found_texts ≡ all_of id.now (rows_of (found_of found.now))) }
+{
+    match found.get_strs(id) {
+        Some(texts) => Ok(Some(Vec::from_slice(alloc, texts)?)),
+        None => Ok(None),
+    }
 }
 
 fn number(found: &ArgMatches, id: &str) -> Option<u32>
@@ -263,27 +282,45 @@ fn chart<'a>(found: &ArgMatches<'a>) -> Option<Asked<'a>>
     })
 }
 
-/// The command that `clap` found, with its values.
-pub fn asked_of<'a>(matches: &ArgMatches<'a>) -> Option<Asked<'a>>
-    ensures { option_map wanted result ≡ asked_in (subcommand_rows_of matches.now) }
+fn merge<'a>(alloc: Global, found: &ArgMatches<'a>) -> Result<Option<Asked<'a>>, AllocError>
+    ensures { IfOk result (λ asked. option_map wanted asked ≡ merge_in (rows_of (found_of found.now))) }
 {
-    let (name, found) = matches.subcommand()?;
+    let Some(scenario) = text(found, "scenario") else {
+        return Ok(None);
+    };
+    match texts(alloc, found, "keep")? {
+        Some(keeps) => Ok(Some(Asked::Merge { scenario, keeps })),
+        None => Ok(None),
+    }
+}
+
+/// The command that `clap` found, with its values.
+pub fn asked_of<'a>(
+    alloc: Global,
+    matches: &ArgMatches<'a>,
+) -> Result<Option<Asked<'a>>, AllocError>
+    ensures { IfOk result (λ asked. option_map wanted asked ≡ asked_in (subcommand_rows_of matches.now)) }
+{
+    let Some((name, found)) = matches.subcommand() else {
+        return Ok(None);
+    };
     match name {
-        "play" => play(found),
-        "run" => run(found),
-        "replay" => replay(found),
-        "make" => make(found),
-        "keys" => keys(found),
-        "verify" => verify(found),
-        "parts" => parts(found),
-        "rebuild" => rebuild(found),
-        "blame" => blame(found),
-        "trend" => trend(found),
-        "delays" => delays(found),
-        "page" => page(found),
-        "picture" => picture(found),
-        "plot" => plot(found),
-        "chart" => chart(found),
-        _ => None,
+        "play" => Ok(play(found)),
+        "run" => Ok(run(found)),
+        "replay" => Ok(replay(found)),
+        "make" => Ok(make(found)),
+        "keys" => Ok(keys(found)),
+        "verify" => Ok(verify(found)),
+        "parts" => Ok(parts(found)),
+        "rebuild" => Ok(rebuild(found)),
+        "blame" => Ok(blame(found)),
+        "trend" => Ok(trend(found)),
+        "delays" => Ok(delays(found)),
+        "page" => Ok(page(found)),
+        "picture" => Ok(picture(found)),
+        "plot" => Ok(plot(found)),
+        "chart" => Ok(chart(found)),
+        "merge" => merge(alloc, found),
+        _ => Ok(None),
     }
 }

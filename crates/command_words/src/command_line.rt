@@ -4,7 +4,7 @@ ghost use Rattle.clap.specs.Words.{App, Shape, app_of, rule_of, with_subcommand}
 ghost use Rattle.command_words.specs.CommandLine.{IsCommand, command, free_rule, number_rule, option_rule, spire_app, text_rule, top_shape, width_rule};
 ghost use Rattle.command_words.specs.CommandLine.{play_shape, run_shape, replay_shape, make_shape, keys_shape};
 ghost use Rattle.command_words.specs.CommandLine.{verify_shape, parts_shape, rebuild_shape, blame_shape, trend_shape, delays_shape, page_shape};
-ghost use Rattle.command_words.specs.CommandLine.{picture_shape, plot_shape, chart_shape};
+ghost use Rattle.command_words.specs.CommandLine.{keeps_rule, picture_shape, plot_shape, chart_shape, merge_shape};
 
 use clap::builder::ValueParser;
 use clap::{Arg, Command};
@@ -20,6 +20,9 @@ pub const MOST_TURNS: u64 = 4000;
 pub const LEAST_WIDTH: u64 = 600;
 
 pub const MOST_WIDTH: u64 = 4000;
+
+/// How many files `merge` takes at most: as many as a group has actors.
+pub const MOST_KEEPS: usize = 26;
 
 /// The greatest number of a word that only has to fit 32 bits.
 pub const MOST_NUMBER: u64 = 4294967295;
@@ -62,6 +65,14 @@ fn width<'a>(alloc: Global) -> Arg<'a>
     ensures local { result.global ≡ false }
 {
     free(alloc, "width", LEAST_WIDTH, MOST_WIDTH).long("width")
+}
+
+// The files that stations kept.
+fn keeps<'a>(alloc: Global) -> Arg<'a>
+    ensures rule { rule_of result ≡ keeps_rule }
+    ensures local { result.global ≡ false }
+{
+    text(alloc, "keep").num_args(1..=MOST_KEEPS)
 }
 
 fn over_a_history<'a>(alloc: Global, name: &'a str) -> Result<Command<'a>, AllocError>
@@ -188,6 +199,14 @@ fn chart<'a>(alloc: Global) -> Result<Command<'a>, AllocError>
     over_a_history(alloc, "chart")?.arg(width(alloc))
 }
 
+fn merge<'a>(alloc: Global) -> Result<Command<'a>, AllocError>
+    ensures { IfOk result (IsCommand merge_shape) }
+{
+    Command::new(alloc, "merge")
+        .arg(text(alloc, "scenario"))?
+        .arg(keeps(alloc))
+}
+
 // Lets go of a value. Where a function does so by itself, its proof goes through all that a command holds.
 fn let_go<T: Drop>(_value: T) {}
 
@@ -249,5 +268,6 @@ pub fn command_line<'a>(alloc: Global) -> Result<Command<'a>, AllocError>
     let commands = joined(commands, page(alloc));
     let commands = joined(commands, picture(alloc));
     let commands = joined(commands, plot(alloc));
-    joined(commands, chart(alloc))
+    let commands = joined(commands, chart(alloc));
+    joined(commands, merge(alloc))
 }

@@ -1,9 +1,11 @@
 //! The words of a command line, read.
-ghost use Rattle.std.specs.Prelude.{◌≡◌, IfOk, IsErrOf, MatchResult, Some, true, false, map, string_bytes};
-ghost use Rattle.command_words.specs.Wanted.{Wanted, IsPlain, is_command, wanted, wanted_in, words_of};
+ghost use Rattle.std.specs.Prelude.{◌≡◌, IfErr, IfOk, IsErrOf, MatchResult, Some, true, false, map, string_bytes};
+ghost use Rattle.clap.specs.Words.{subcommand_rows_of};
+ghost use Rattle.command_words.specs.Wanted.{Wanted, IsPlain, asked_in, is_command, wanted, wanted_in, words_of};
 
 use crate::asked::{Asked, asked_of};
 use crate::command_line::command_line;
+use clap::ArgMatches;
 use clap::error::ErrorKind;
 use std::alloc::{AllocError, Global};
 use thiserror::Error;
@@ -28,6 +30,17 @@ impl From<AllocError> for WordsAnswer {
     }
 }
 
+// The command that `clap` found. A value that is missing counts as want of memory.
+fn found_in<'a>(alloc: Global, matches: &ArgMatches<'a>) -> Result<Asked<'a>, WordsAnswer>
+    ensures asked { IfOk result (λ asked. asked_in (subcommand_rows_of matches.now) ≡ Some (wanted asked)) }
+    ensures want { IfErr result (λ answer. answer ≡ WordsAnswer.Want) }
+{
+    match asked_of(alloc, matches) {
+        Ok(Some(asked)) => Ok(asked),
+        _ => Err(WordsAnswer::Want),
+    }
+}
+
 /// The command that the words, those behind the program's name, ask for. It is given only where `clap` takes the words, and
 /// is the one that `clap` finds in them; `Usage` comes only where `clap` refuses them for another cause than memory. So
 /// words that `clap` refuses are answered with `Usage`, or for want of memory with `Want`. A command as a user writes it,
@@ -46,7 +59,7 @@ pub fn read_words<'a>(alloc: Global, words: &'a [String]) -> Result<Asked<'a>, W
 {
     let command = command_line(alloc)?;
     match command.try_get_matches_from(words) {
-        Ok(matches) => asked_of(&matches).ok_or(WordsAnswer::Want),
+        Ok(matches) => found_in(alloc, &matches),
         Err(error) if error.kind() == ErrorKind::OutOfMemory => Err(WordsAnswer::Want),
         Err(_) => Err(WordsAnswer::Usage),
     }

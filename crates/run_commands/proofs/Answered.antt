@@ -10,7 +10,7 @@ use Rattle.scenario_file.specs.declared.refusal.ScenarioRefusal.{ScenarioRefusal
 use Rattle.scenario_file.specs.declared.refusal.ScenarioRefusal.TheVariants as scenario
 use Rattle.history_rules.specs.Events.{Entry}
 use Rattle.command_words.specs.Wanted.{Wanted, play, run, replay, make, keys, verify, parts, rebuild, blame, trend, delays, page}
-use Rattle.command_words.specs.Wanted.{picture, plot, chart}
+use Rattle.command_words.specs.Wanted.{picture, plot, chart, merge}
 use Rattle.command_words.specs.Wanted.{is_command, wanted_in}
 use Rattle.command_ends.specs.Refusals.{status_of}
 use Rattle.command_ends.specs.Steps.{Step}
@@ -60,6 +60,7 @@ no-usage (Refuses (refusal.Script fault number)) last = refl
 no-usage (Refuses (refusal.Words fault number)) last = refl
 no-usage (Refuses (refusal.History fault number)) last = refl
 no-usage (Refuses (refusal.Pieces number)) last = refl
+no-usage (Refuses (refusal.Keep kept_name kept_fault)) last = refl
 no-usage (Refuses refusal.NotVerified) last = refl
 no-usage (Refuses refusal.Output) last = refl
 no-usage (Refuses refusal.Memory) last = refl
@@ -125,6 +126,7 @@ course-of r (make number) p contents step is comes = none p is
 course-of r (keys scenario) p contents step is comes = none p is
 course-of r (verify public message sig) p contents step is comes = none p is
 course-of r (rebuild scenario pieces) p contents step is comes = none p is
+course-of r (merge scenario keeps) p contents step is comes = none p is
 
 next-question : (r : Readers) (is : Bool) (o : Option Wanted) (p : List ℕ × List ℕ × Question)
     (contents : List (List ℕ)) (step : Step)
@@ -259,6 +261,7 @@ status-nine (refusal.Script fault number) is = absurd (omega arith)
 status-nine (refusal.Words fault number) is = absurd (omega arith)
 status-nine (refusal.History fault number) is = absurd (omega arith)
 status-nine (refusal.Pieces number) is = absurd (omega arith)
+status-nine (refusal.Keep kept_name kept_fault) is = absurd (omega arith)
 status-nine refusal.NotVerified is = absurd (omega arith)
 status-nine refusal.Output is = absurd (omega arith)
 status-nine refusal.Memory is = absurd (omega arith)

@@ -1,15 +1,16 @@
--- What comes next is one step, but for the text of a run in threads, which may be one of several.
-use Rattle.std.proofs.Common.{inl, inr, ◌≡◌, ℕ, Bool, true, false, List, [], ◌∷◌, Option, None, Some, sym, ◌∙◌, true≢false}
+-- What comes next is one step, but for the text of a run in threads or of a merge, which may be one of several.
+use Rattle.std.proofs.Common.{inl, inr, ◌≡◌, ℕ, Bool, true, false, List, [], ◌∷◌, Option, None, Some, sym, ◌∙◌, true≢false, length}
 use Rattle.command_words.specs.Wanted.{Wanted, play, run, replay, make, keys, verify, parts, rebuild, blame, trend, delays, page}
-use Rattle.command_words.specs.Wanted.{picture, plot, chart}
+use Rattle.command_words.specs.Wanted.{picture, plot, chart, merge}
 use Rattle.command_words.specs.Wanted.{is_command, wanted_in}
 use Rattle.command_ends.specs.Steps.{Step}
 use Rattle.command_ends.specs.Complete.{IsAlike}
 use Rattle.run_commands.specs.Verifying.{public_in}
-use Rattle.run_commands.specs.Readers.{Readers, are_in_range}
+use Rattle.run_commands.specs.Readers.{Readers, are_few, are_in_range}
 use Rattle.run_commands.specs.Course.{VerifyCourse, RunStep, CommandStep, AskedStep, NextStep}
-use Rattle.run_commands.specs.Keeps.{asks_for_threads}
+use Rattle.run_commands.specs.Keeps.{asks_for_several}
 use Rattle.run_commands.proofs.Threading.{alike-course}
+use Rattle.run_commands.proofs.Merging.{alike-merge}
 use Rattle.command_ends.proofs.Completes.{alike-same}
 
 certain-verify : (public : Option (List ℕ)) (message sig : List ℕ) (contents : List (List ℕ)) (one other : Step)
@@ -22,9 +23,9 @@ certain-verify (Some public) message sig (x ∷ y ∷ more) one other (inl a) (i
 certain-verify (Some public) message sig (x ∷ y ∷ more) one other (inr a) (inl b) = absurd (a.0 b.0)
 certain-verify (Some public) message sig (x ∷ y ∷ more) one other (inr a) (inr b) = a.1 ∙ sym b.1
 
--- other words than those of a run in threads
+-- other words than those of a run in threads or of a merge
 certain-command : (r : Readers) (w : Wanted) (contents : List (List ℕ)) (one other : Step) →
-    asks_for_threads (Some w) ≡ false
+    asks_for_several (Some w) ≡ false
     → CommandStep r w contents one → CommandStep r w contents other → one ≡ other
 certain-command r (play scenario script words) contents one other single a b = a ∙ sym b
 certain-command r (replay scenario history) contents one other single a b = a ∙ sym b
@@ -42,17 +43,18 @@ certain-command r (picture scenario history first last width) contents one other
 certain-command r (plot scenario history point width) contents one other single a b = a ∙ sym b
 certain-command r (chart scenario history width) contents one other single a b = a ∙ sym b
 certain-command r (trend scenario history point first last) contents one other single a b = a ∙ sym b
+certain-command r (merge scenario keeps) contents one other single a b = absurd (true≢false single)
 
 certain-asked : (r : Readers) (is : Bool) (asked : Option Wanted) (contents : List (List ℕ)) (one other : Step) →
-    asks_for_threads asked ≡ false → AskedStep r is asked contents one
+    asks_for_several asked ≡ false → AskedStep r is asked contents one
     → AskedStep r is asked contents other → one ≡ other
 certain-asked r false asked contents one other single a b = a ∙ sym b
 certain-asked r true None contents one other single a b = absurd a
 certain-asked r true (Some w) contents one other single a b = certain-command r w contents one other single a b
 
--- What comes next is one step, where the words don't ask for a run in threads.
+-- What comes next is one step, where the words ask neither for a run in threads nor for a merge.
 pub certain : (r : Readers) (words contents : List (List ℕ)) (one other : Step) →
-    asks_for_threads (wanted_in words) ≡ false → NextStep r words contents one → NextStep r words contents other →
+    asks_for_several (wanted_in words) ≡ false → NextStep r words contents one → NextStep r words contents other →
     one ≡ other
 certain r words contents one other single a b =
     certain-asked r (is_command words) (wanted_in words) contents one other single a b
@@ -84,6 +86,8 @@ alike-command r (picture scenario history first last width) contents one other a
 alike-command r (plot scenario history point width) contents one other a b = alike-same one other (a ∙ sym b)
 alike-command r (chart scenario history width) contents one other a b = alike-same one other (a ∙ sym b)
 alike-command r (trend scenario history point first last) contents one other a b = alike-same one other (a ∙ sym b)
+alike-command r (merge scenario keeps) contents one other a b =
+    alike-merge r (are_few (length keeps)) scenario keeps contents one other a b
 
 alike-asked : (r : Readers) (is : Bool) (asked : Option Wanted) (contents : List (List ℕ)) (one other : Step) →
     AskedStep r is asked contents one → AskedStep r is asked contents other → IsAlike one other

@@ -1,7 +1,9 @@
--- Why the headline holds of a play, a replay or a run in threads that ends well.
-use Rattle.std.proofs.Common.{◌≡◌, ◌<◌, ℕ, Bool, true, false, List, [], ◌∷◌, Option, None, Some, Result, Ok, Err}
+-- Why the headline holds of a play, a replay, a run in threads or a merge that ends well.
+use Rattle.std.proofs.Common.{◌≡◌, ◌<◌, ◌+◌, ℕ, Bool, true, false, List, [], ◌∷◌, ◌++◌, Option, None, Some, Result, Ok, Err}
+use Rattle.std.proofs.Common.{length, append_assoc, append-nil}
+use Rattle.std.proofs.lemmas.List.{length-append}
 use Rattle.std.proofs.Common.{refl, sym, ◌∙◌, ap, subst, arith, true≢false}
-use Rattle.std.specs.Prelude.{if◌then◌else◌}
+use Rattle.std.specs.Prelude.{if◌then◌else◌, slice_get}
 use Rattle.std.specs.Str.{is_utf8}
 use Rattle.toml.specs.Parse.{parse_document}
 use Rattle.outside.specs.Piece.{with_piece}
@@ -18,24 +20,25 @@ use Rattle.script_lines.specs.Sayings.{words_in}
 use Rattle.script_lines.specs.declared.script.Line.{Line}
 use Rattle.script_lines.specs.declared.saying.Saying.{Saying}
 use Rattle.command_words.specs.Wanted.{Wanted, play, run, replay, make, keys, verify, parts, rebuild, blame, trend, delays, page}
-use Rattle.command_words.specs.Wanted.{picture, plot, chart}
+use Rattle.command_words.specs.Wanted.{picture, plot, chart, merge}
 use Rattle.command_words.specs.Wanted.{is_command, wanted_in}
 use Rattle.command_ends.specs.Refusals.{status_of}
 use Rattle.command_ends.specs.Steps.{Step}
 use Rattle.command_ends.specs.Steps.Step.{Load, Gives, Refuses}
 use Rattle.command_ends.specs.Calls.{Call, CauseOf, Loaded, IsContent}
 use Rattle.command_ends.specs.Ended.{ErrorSink, Ends, Finishes, Told}
+use Rattle.command_ends.specs.declared.refusal.KeepFault.{KeepFault}
 use Rattle.command_ends.specs.declared.refusal.LineFault.{LineFault}
 use Rattle.command_ends.specs.declared.refusal.Refusal.{Refusal}
 use Rattle.command_ends.specs.declared.refusal.Refusal.TheVariants as refusal
-use Rattle.run_commands.specs.Readers.{Readers, KeepsRules, are_in_range}
+use Rattle.run_commands.specs.Readers.{Readers, KeepsRules, Tells, are_few, are_in_range}
 use Rattle.run_commands.specs.Reading.{accepted, scenario_at, scenario_refusal, script_refusal, words_refusal}
 use Rattle.run_commands.specs.Reading.{with_scenario, with_script}
 use Rattle.run_commands.specs.Course.{CommandStep, AskedStep, NextStep, play_step, replay_step}
-use Rattle.run_commands.specs.Course.{Accepted, ScriptedCourse, RunCourse, RunEnds, RunStep}
-use Rattle.run_commands.specs.Told.{GivesTold, PlayEnds, ReplayEnds, ReplayCourse, ToldStep, ToldAsked, ToldNext, told_runs}
-use Rattle.run_commands.specs.Headline.{IsRun, Headline, KeepsHeadline, asks_for_run}
-use Rattle.command_ends.proofs.Completes.{file_of, is_text, text_in}
+use Rattle.run_commands.specs.Course.{Accepted, ScriptedCourse, MergeCourse, MergeEnds, MergeNext, MergeStep, RunCourse, RunEnds, RunStep}
+use Rattle.run_commands.specs.Told.{GivesTold, PlayEnds, ReplayEnds, ReplayCourse, ToldStep, ToldAsked, ToldNext, told_merges, told_runs}
+use Rattle.run_commands.specs.Headline.{AreContents, IsRun, Headline, KeepsHeadline, asks_for_run}
+use Rattle.command_ends.proofs.Completes.{file_of, is_load, is_text, text_in}
 use Rattle.run_commands.proofs.Scripting.{accepted-at}
 use Rattle.run_commands.proofs.Weaker.{told-next, weaker-loaded}
 
@@ -337,6 +340,123 @@ run-run r laws call scenario script words hands turns text asked (first ∷ seco
     (told-run r call.words scenario script words hands turns (first ∷ second ∷ third ∷ more) (Gives text) asked refl
     told) put
 
+-- ---- A merge.
+
+as-merge : (r : Readers) (few : Bool) (scenario : List ℕ) (keeps contents : List (List ℕ)) (step : Step) →
+    is_refusal step ≡ false → MergeStep r few scenario keeps contents step → MergeCourse r scenario keeps contents step
+as-merge r true scenario keeps contents step other next = next
+as-merge r false scenario keeps contents step other next = absurd (true≢false (sym (ap is_refusal next) ∙ other))
+
+next-merge : (r : Readers) (words : List (List ℕ)) (scenario : List ℕ) (keeps contents : List (List ℕ)) (step : Step) →
+    wanted_in words ≡ Some (merge scenario keeps) → is_refusal step ≡ false → NextStep r words contents step →
+    MergeCourse r scenario keeps contents step
+next-merge r words scenario keeps contents step asked other next =
+    as-merge r (are_few (length keeps)) scenario keeps contents step other
+    (next-command r words (merge scenario keeps) contents step asked other next)
+
+-- where a file is loaded of an answer, there was a value
+load-after : {A E : Type 0} (refuse : E → Refusal) (answer : Result A E) (After : A → Step → Type 0) (name : List ℕ) →
+    Accepted refuse answer After (Load name) → (value : A) × After value (Load name)
+load-after refuse (Ok value) After name gives = (value, gives)
+load-after refuse (Err e) After name gives = absurd (true≢false (ap is_load gives))
+
+-- the file that is loaded is the next of those that stations kept
+next-kept : (r : Readers) (c : Contents) (keeps kept : List (List ℕ)) (o : Option (List ℕ)) (name : List ℕ) →
+    MergeNext r c keeps kept o (Load name) → o ≡ Some name
+next-kept r c keeps kept (Some due) name is = ap Some (sym (ap file_of is))
+next-kept r c keeps kept None name ends = by (r.join_fault c kept) ends
+  where
+    by : (fault : Option (ℕ × KeepFault)) → MergeEnds r c keeps kept fault (Load name) → None ≡ Some name
+    by (Some fault) is = absurd (true≢false (ap is_load is))
+    by None (history, may, is) = absurd (true≢false (ap is_load is))
+
+at-front : (front left : List (List ℕ)) → slice_get (front ++ left) (length front) ≡ slice_get left 0
+at-front [] left = refl
+at-front (x ∷ front) left = at-front front left
+
+-- the contents that were loaded behind the scenario's are those of the files that stations kept
+module _ (r : Readers) (call : Call) (scenario : List ℕ) (keeps : List (List ℕ))
+    (asked : wanted_in call.words ≡ Some (merge scenario keeps)) (first : List ℕ) where
+  next-left : (front left done : List (List ℕ)) (name : List ℕ) → keeps ≡ front ++ left → length front ≡ length done →
+      NextStep r call.words (first ∷ done) (Load name) → slice_get left 0 ≡ Some name
+  next-left front left done name all at due =
+      let course : MergeCourse r scenario keeps (first ∷ done) (Load name) =
+      next-merge r call.words scenario keeps (first ∷ done) (Load name) asked refl due in
+      let one = load-after scenario_refusal (scenario_at first)
+      (λ c. MergeNext r c keeps done (slice_get keeps (length done))) name course in
+      sym (at-front front left) ∙ sym (ap (λ ks. slice_get ks (length front)) all) ∙ ap (λ n. slice_get keeps n) at
+      ∙ next-kept r one.0 keeps done (slice_get keeps (length done)) name one.1
+
+  kept-contents : (front left done more : List (List ℕ)) → keeps ≡ front ++ left → length front ≡ length done →
+      slice_get keeps (length (done ++ more)) ≡ None → Loaded (NextStep r call.words) call.held (first ∷ done) more →
+      AreContents call.held left more
+  kept-contents front [] done [] all at none loaded = tt
+  kept-contents front (name ∷ left) done [] all at none loaded =
+      let there : slice_get keeps (length done) ≡ Some name =
+      ap (λ n. slice_get keeps n) (sym at) ∙ ap (λ ks. slice_get ks (length front)) all ∙ at-front front (name ∷ left) in
+      let not_there : slice_get keeps (length done) ≡ None = ap (λ ds. slice_get keeps (length ds)) (sym (append-nil done))
+      ∙ none in
+      absurd (cc)
+  kept-contents front [] done (content ∷ more) all at none loaded =
+      let there = next-left front [] done loaded.0 all at loaded.1 in
+      absurd (cc)
+  kept-contents front (keep ∷ left) done (content ∷ more) all at none loaded =
+      let there = next-left front (keep ∷ left) done loaded.0 all at loaded.1 in
+      let same : loaded.0 ≡ keep = cc in (
+        subst (λ n. IsContent (call.held n) content) same loaded.2,
+        kept-contents (front ++ keep ∷ []) left (done ++ content ∷ []) more
+            (all ∙ sym (append_assoc front (keep ∷ []) left))
+            (length-append front (keep ∷ []) ∙ ap (λ n. n + 1) at ∙ sym (length-append done (content ∷ [])))
+            (ap (λ ds. slice_get keeps (length ds)) (append_assoc done (content ∷ []) more) ∙ none) loaded.4,
+      )
+
+-- what a merge gives that gives a text
+merge-gives : (r : Readers) (c : Contents) (keeps kept : List (List ℕ)) (o : Option (List ℕ)) (text : List ℕ) →
+    MergeNext (told_merges r) c keeps kept o (Gives text) →
+    (o ≡ None) × ((history : List Entry) × (r.may_join c kept history × Tells r c history)
+    × (Gives text ≡ Gives (r.text_of c history)))
+merge-gives r c keeps kept (Some name) text is = absurd (no-text name text is)
+merge-gives r c keeps kept None text ends = (refl, by (r.join_fault c kept) ends)
+  where
+    by : (fault : Option (ℕ × KeepFault)) → MergeEnds (told_merges r) c keeps kept fault (Gives text) →
+        (history : List Entry) × (r.may_join c kept history × Tells r c history)
+        × (Gives text ≡ Gives (r.text_of c history))
+    by (Some fault) is = absurd (true≢false (ap is_text is))
+    by None gives = gives
+
+merge-run : (r : Readers) → KeepsRules r → (call : Call) (scenario : List ℕ) (keeps : List (List ℕ)) (text : List ℕ) →
+    wanted_in call.words ≡ Some (merge scenario keeps)
+    → (contents : List (List ℕ)) → Loaded (NextStep r call.words) call.held [] contents →
+    NextStep r call.words contents (Gives text) → ToldNext r call.words contents (Gives text)
+    → call.put_after ≡ with_piece call.put_before text → Headline r call
+merge-run r laws call scenario keeps text asked [] loaded next told put =
+    absurd (no-text scenario text (next-merge r call.words scenario keeps [] (Gives text) asked refl next))
+merge-run r laws call scenario keeps text asked (first ∷ kept) loaded next told put =
+    let course : MergeCourse (told_merges r) scenario keeps (first ∷ kept) (Gives text) =
+    as-merge (told_merges r) (are_few (length keeps)) scenario keeps (first ∷ kept) (Gives text) refl
+    (told-command r call.words (merge scenario keeps) (first ∷ kept) (Gives text) asked refl told) in
+    let one = text-after scenario_refusal (scenario_at first)
+    (λ c. MergeNext (told_merges r) c keeps kept (slice_get keeps (length kept))) text course in
+    let c : Contents = one.0 in
+    let all = merge-gives r c keeps kept (slice_get keeps (length kept)) text one.2 in
+    let history : List Entry = all.1.0 in
+    let valid : IsScenario c = scenario-valid first c one.1 in
+    let legal = laws.merged_legal c kept history all.1.1.0 in
+    let due_first : Load loaded.0 ≡ Load scenario =
+    next-merge r call.words scenario keeps [] (Load loaded.0) asked refl loaded.1 in
+    record {
+      scenario = c;
+      history = history;
+      run = IsRun.merges scenario keeps asked first kept
+          (same-file call.held loaded.0 scenario first due_first loaded.2)
+          (kept-contents r call scenario keeps asked first [] keeps [] kept refl refl all.0 loaded.4)
+          one.1 all.1.1.0;
+      legal = legal;
+      put = put ∙ ap (λ (s : Step). with_piece call.put_before (text_in s)) all.1.2;
+      told = all.1.1.1;
+      agreed = headline_of_legal c history valid legal;
+    }
+
 -- words that ask for none of these
 not-asked : false ≡ true → {A : Type 0} → A
 not-asked is = absurd (true≢false (sym is))
@@ -369,6 +489,8 @@ by-wanted r laws call text (Some (plot scenario history point width)) asked asks
 by-wanted r laws call text (Some (chart scenario history width)) asked asks contents loaded next told put = not-asked asks
 by-wanted r laws call text (Some (trend scenario history point first last)) asked asks contents loaded next told put =
     not-asked asks
+by-wanted r laws call text (Some (merge scenario keeps)) asked asks contents loaded next told put =
+    merge-run r laws call scenario keeps text asked contents loaded next told put
 
 status-some : (why : Refusal) → 0 < status_of why
 status-some refusal.Usage = omega arith
@@ -381,6 +503,7 @@ status-some (refusal.History fault number) = omega arith
 status-some refusal.NotVerified = omega arith
 status-some (refusal.NoAnswer lack) = omega arith
 status-some (refusal.Pieces at) = omega arith
+status-some (refusal.Keep kept_name kept_fault) = omega arith
 status-some refusal.Output = omega arith
 status-some refusal.Memory = omega arith
 
@@ -398,7 +521,7 @@ by-result r laws call err status (Ok done) cause finish zero asks =
     (told-next r call.words cause.1.0 (Gives cause.0) cause.1.2) cause.1.2 cause.2
 by-result r laws call err status (Err why) cause finish zero asks = absurd (refused-not-well why err status zero finish)
 
--- The headline holds of each play, each replay and each run in threads that ends well.
+-- The headline holds of each play, each replay, each run in threads and each merge that ends well.
 pub headline : (r : Readers) → KeepsRules r → (call : Call) (err : ErrorSink) (status : ℕ) →
     Ends (ToldNext r) call err status → KeepsHeadline r call status
 headline r laws call err status ends = by-result r laws call err status ends.result ends.cause ends.finish

@@ -9,7 +9,7 @@ use Rattle.command_ends.proofs.Completes.{completes}
 use Rattle.run_commands.specs.Readers.{Readers, KeepsRules}
 use Rattle.run_commands.specs.Course.{NextStep}
 use Rattle.run_commands.specs.Told.{ToldNext}
-use Rattle.run_commands.specs.Keeps.{asks_for_threads, KeepsComplete, KeepsCommands}
+use Rattle.run_commands.specs.Keeps.{asks_for_several, KeepsComplete, KeepsCommands}
 use Rattle.run_commands.proofs.Answered.{answers, requests}
 use Rattle.run_commands.proofs.Certain.{alike, certain}
 use Rattle.run_commands.proofs.Headlines.{headline}
@@ -17,7 +17,7 @@ use Rattle.run_commands.proofs.Weaker.{told-next, weaker-ends}
 
 -- where only one step may come, the call ended with it
 single : (r : Readers) (call : Call) (err : ErrorSink) (status : ℕ) → Completes (NextStep r) call err status →
-    asks_for_threads (wanted_in call.words) ≡ false → (last : Step) → IsUntroubled (NextStep r) call last →
+    asks_for_several (wanted_in call.words) ≡ false → (last : Step) → IsUntroubled (NextStep r) call last →
     IsDueOrWant call err status last
 single r call err status all only last free =
     let (end, is, comes, ends) = all last free in

@@ -6,6 +6,7 @@ pub mod Scripting
 pub mod Playing
 pub mod Posing
 pub mod Threading
+pub mod Merging
 pub mod Certain
 pub mod Weaker
 pub mod Headlines

@@ -40,6 +40,8 @@ opened reads shown held before after name loaded (Err (refusal.NoAnswer lack)) c
     (loaded.items, cause.0, cause.1, leads)
 opened reads shown held before after name loaded (Err (refusal.Pieces at)) cause leads =
     (loaded.items, cause.0, cause.1, leads)
+opened reads shown held before after name loaded (Err (refusal.Keep kept_name kept_fault)) cause leads =
+    (loaded.items, cause.0, cause.1, leads)
 
 -- what was read from a content that was loaded is the file's
 pub found-in : {A : Type 0} (Holds : A → List ℕ → Type 0) (held : Option (List ℕ)) (content read : List ℕ)
@@ -93,6 +95,8 @@ open-refused next held first last before name reads shown (refusal.NoAnswer lack
     (cause.0 ∷ [], (name, due, cause.1, cause.2, tt), refuses cause.0 (refusal.NoAnswer lack) cause.3)
 open-refused next held first last before name reads shown (refusal.Pieces at) due cause refuses =
     (cause.0 ∷ [], (name, due, cause.1, cause.2, tt), refuses cause.0 (refusal.Pieces at) cause.3)
+open-refused next held first last before name reads shown (refusal.Keep kept_name kept_fault) due cause refuses =
+    (cause.0 ∷ [], (name, due, cause.1, cause.2, tt), refuses cause.0 (refusal.Keep kept_name kept_fault) cause.3)
 
 -- what is made without a file is what is due
 pub made-now : (next : List (List ℕ) → Step → Type 0) (held : List ℕ → Option (List ℕ)) (first last : List ℕ → ℕ)
@@ -121,3 +125,5 @@ made-now next held first last before step (Err (refusal.NoAnswer lack)) due make
     comes-now next held before (Refuses (refusal.NoAnswer lack)) (subst (λ s. next before s) makes due)
 made-now next held first last before step (Err (refusal.Pieces at)) due makes =
     comes-now next held before (Refuses (refusal.Pieces at)) (subst (λ s. next before s) makes due)
+made-now next held first last before step (Err (refusal.Keep kept_name kept_fault)) due makes =
+    comes-now next held before (Refuses (refusal.Keep kept_name kept_fault)) (subst (λ s. next before s) makes due)

@@ -60,6 +60,7 @@ play-now next held first last before r c lines sayings (Err (refusal.Scenario fa
 play-now next held first last before r c lines sayings (Err (refusal.Words fault number)) due gives = absurd gives
 play-now next held first last before r c lines sayings (Err (refusal.History fault number)) due gives = absurd gives
 play-now next held first last before r c lines sayings (Err (refusal.Pieces at)) due gives = absurd gives
+play-now next held first last before r c lines sayings (Err (refusal.Keep kept_name kept_fault)) due gives = absurd gives
 play-now next held first last before r c lines sayings (Err refusal.NotVerified) due gives = absurd gives
 play-now next held first last before r c lines sayings (Err (refusal.NoAnswer lack)) due gives = absurd gives
 play-now next held first last before r c lines sayings (Err refusal.Output) due gives = absurd gives
@@ -106,6 +107,7 @@ replay-now next held first last before r c text (Err (refusal.Scenario fault)) d
 replay-now next held first last before r c text (Err (refusal.Script fault number)) due gives = absurd gives
 replay-now next held first last before r c text (Err (refusal.Words fault number)) due gives = absurd gives
 replay-now next held first last before r c text (Err (refusal.Pieces at)) due gives = absurd gives
+replay-now next held first last before r c text (Err (refusal.Keep kept_name kept_fault)) due gives = absurd gives
 replay-now next held first last before r c text (Err refusal.NotVerified) due gives = absurd gives
 replay-now next held first last before r c text (Err (refusal.NoAnswer lack)) due gives = absurd gives
 replay-now next held first last before r c text (Err refusal.Output) due gives = absurd gives
@@ -128,6 +130,7 @@ leads-refused reads shown content onward (refusal.History fault number) leads = 
 leads-refused reads shown content onward refusal.NotVerified leads = leads onward
 leads-refused reads shown content onward (refusal.NoAnswer lack) leads = leads onward
 leads-refused reads shown content onward (refusal.Pieces at) leads = leads onward
+leads-refused reads shown content onward (refusal.Keep kept_name kept_fault) leads = leads onward
 
 -- where scripts or words aren't accepted, or the play stops, there is no made history
 refuses-run : (r : Readers) (c : Contents) (number : ℕ) (why : Refusal) →
@@ -145,6 +148,7 @@ refuses-run r c number (refusal.History fault place) all = all
 refuses-run r c number refusal.NotVerified all = all
 refuses-run r c number (refusal.NoAnswer lack) all = all
 refuses-run r c number (refusal.Pieces at) all = all
+refuses-run r c number (refusal.Keep kept_name kept_fault) all = all
 
 pub run-words-refused : {A : Type 0} (shown : A → List Saying) (r : Readers) (c : Contents) (number : ℕ)
     (content : List ℕ) (lines : List Line) (why : Refusal)
@@ -188,6 +192,7 @@ run-played r c number content lines sayings (Err (refusal.History fault place)) 
 run-played r c number content lines sayings (Err refusal.NotVerified) is two three gives = absurd gives
 run-played r c number content lines sayings (Err (refusal.NoAnswer lack)) is two three gives = absurd gives
 run-played r c number content lines sayings (Err (refusal.Pieces at)) is two three gives = absurd gives
+run-played r c number content lines sayings (Err (refusal.Keep kept_name kept_fault)) is two three gives = absurd gives
 run-played r c number content lines sayings (Err refusal.Output) is two three gives = absurd gives
 
 -- ---- A signature.
@@ -203,6 +208,7 @@ verify-now public message named file sig held first last (Err refusal.NotVerifie
     comes-now (VerifyStep public named file) held (message ∷ sig ∷ []) (Refuses refusal.NotVerified) (inr (makes, refl))
 verify-now public message named file sig held first last (Err (refusal.NoAnswer lack)) makes = absurd makes
 verify-now public message named file sig held first last (Err (refusal.Pieces at)) makes = absurd makes
+verify-now public message named file sig held first last (Err (refusal.Keep kept_name kept_fault)) makes = absurd makes
 verify-now public message named file sig held first last (Err refusal.Memory) makes = tt
 verify-now public message named file sig held first last (Err refusal.Usage) makes = absurd makes
 verify-now public message named file sig held first last (Err (refusal.Fault name)) makes = absurd makes

@@ -5,7 +5,7 @@ use Rattle.std.specs.declared.vec.Vec.{Vec}
 use Rattle.std.specs.declared.alloc.Global.{Global}
 use Rattle.scenario_file.specs.Reading.{Contents}
 use Rattle.command_words.specs.Wanted.{Wanted, play, run, replay, make, keys, verify, parts, rebuild, blame, trend, delays, page}
-use Rattle.command_words.specs.Wanted.{picture, plot, chart}
+use Rattle.command_words.specs.Wanted.{picture, plot, chart, merge}
 use Rattle.command_ends.specs.Steps.{Step}
 use Rattle.command_ends.specs.Steps.Step.{Load, Gives, Refuses}
 use Rattle.command_ends.specs.Calls.{TextCause}
@@ -63,6 +63,7 @@ question-cause r (make number) p held first last result is cause = none p is
 question-cause r (keys scenario) p held first last result is cause = none p is
 question-cause r (verify public message sig) p held first last result is cause = none p is
 question-cause r (rebuild scenario pieces) p held first last result is cause = none p is
+question-cause r (merge scenario keeps) p held first last result is cause = none p is
 
 pub question-first : (r : Readers) (scenario history : List ℕ) (asked : Question) (first : List ℕ) (c : Contents) →
     LeadsTo with_scenario first c
@@ -103,6 +104,7 @@ question-makes r c text asked (Err (refusal.Script fault number)) gives = absurd
 question-makes r c text asked (Err (refusal.Words fault number)) gives = absurd gives
 question-makes r c text asked (Err refusal.NotVerified) gives = absurd gives
 question-makes r c text asked (Err (refusal.Pieces at)) gives = absurd gives
+question-makes r c text asked (Err (refusal.Keep kept_name kept_fault)) gives = absurd gives
 question-makes r c text asked (Err refusal.Output) gives = absurd gives
 
 -- ---- A request from its parts.
@@ -155,4 +157,5 @@ rebuild-makes r c text (Err (refusal.History fault number)) gives =
 rebuild-makes r c text (Err refusal.NotVerified) gives = made-lack r c text refusal.NotVerified gives
 rebuild-makes r c text (Err (refusal.NoAnswer lack)) gives = made-lack r c text (refusal.NoAnswer lack) gives
 rebuild-makes r c text (Err (refusal.Pieces at)) gives = made-lack r c text (refusal.Pieces at) gives
+rebuild-makes r c text (Err (refusal.Keep kept_name kept_fault)) gives = made-lack r c text (refusal.Keep kept_name kept_fault) gives
 rebuild-makes r c text (Err refusal.Output) gives = made-lack r c text refusal.Output gives

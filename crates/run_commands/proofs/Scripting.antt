@@ -1,5 +1,5 @@
 -- The steps of a play and of a run in threads, file by file: which one comes next is that of a play, up to the last.
-use Rattle.std.proofs.Common.{◌≡◌, ℕ, true, List, [], ◌∷◌, Result, Ok, Err, refl, sym, ◌∙◌, ap, subst, true≢false}
+use Rattle.std.proofs.Common.{◌≡◌, ℕ, List, [], ◌∷◌, Result, Ok, Err, refl, sym, ◌∙◌, ap, subst, true≢false}
 use Rattle.scenario_file.specs.Reading.{Contents}
 use Rattle.script_grammar.specs.Names.{who_of}
 use Rattle.script_lines.specs.Scripts.{script_in}

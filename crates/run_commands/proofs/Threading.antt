@@ -39,6 +39,7 @@ run-now next held first last before r turns c lines sayings (Err (refusal.Script
 run-now next held first last before r turns c lines sayings (Err (refusal.Words fault number)) due makes = absurd makes
 run-now next held first last before r turns c lines sayings (Err (refusal.History fault number)) due makes = absurd makes
 run-now next held first last before r turns c lines sayings (Err (refusal.Pieces at)) due makes = absurd makes
+run-now next held first last before r turns c lines sayings (Err (refusal.Keep kept_name kept_fault)) due makes = absurd makes
 run-now next held first last before r turns c lines sayings (Err refusal.NotVerified) due makes = absurd makes
 run-now next held first last before r turns c lines sayings (Err (refusal.NoAnswer lack)) due makes = absurd makes
 run-now next held first last before r turns c lines sayings (Err refusal.Output) due makes = absurd makes
@@ -57,6 +58,7 @@ run-faults r turns c lines sayings before after (Err (refusal.Script fault numbe
 run-faults r turns c lines sayings before after (Err (refusal.Words fault number)) makes stay = absurd makes
 run-faults r turns c lines sayings before after (Err (refusal.History fault number)) makes stay = absurd makes
 run-faults r turns c lines sayings before after (Err (refusal.Pieces at)) makes stay = absurd makes
+run-faults r turns c lines sayings before after (Err (refusal.Keep kept_name kept_fault)) makes stay = absurd makes
 run-faults r turns c lines sayings before after (Err refusal.NotVerified) makes stay = absurd makes
 run-faults r turns c lines sayings before after (Err (refusal.NoAnswer lack)) makes stay = absurd makes
 run-faults r turns c lines sayings before after (Err refusal.Output) makes stay = absurd makes
@@ -70,7 +72,7 @@ alike-ends : (r : Readers) (turns : ℕ) (c : Contents) (lines : List Line) (say
 alike-ends r turns c lines sayings one other (a, run_a, is_a) (b, run_b, is_b) =
     subst (λ s. IsAlike s other) (sym is_a) (subst (λ s. IsAlike (Gives (r.text_of c a)) s) (sym is_b) tt)
 
-alike-accepted : {A E : Type 0} (refuse : E → Refusal) (answer : Result A E) (After : A → Step → Type 0)
+pub alike-accepted : {A E : Type 0} (refuse : E → Refusal) (answer : Result A E) (After : A → Step → Type 0)
     → ((value : A) (one other : Step) → After value one → After value other → IsAlike one other)
     → (one other : Step) → Accepted refuse answer After one → Accepted refuse answer After other → IsAlike one other
 alike-accepted refuse (Ok value) After certain one other a b = certain value one other a b

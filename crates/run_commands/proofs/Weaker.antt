@@ -1,6 +1,7 @@
 -- What is told of each step holds of the steps that a command may take: so the end of a call that is told goes by the same
 -- words, files and causes.
-use Rattle.std.proofs.Common.{◌≡◌, ℕ, Bool, true, false, List, [], ◌∷◌, ◌++◌, Option, None, Some, Result, Ok, Err}
+use Rattle.std.proofs.Common.{◌≡◌, ℕ, Bool, true, false, List, [], ◌∷◌, ◌++◌, Option, None, Some, Result, Ok, Err, length}
+use Rattle.std.specs.Prelude.{slice_get}
 use Rattle.scenario_file.specs.Reading.{Contents}
 use Rattle.script_grammar.specs.Names.{who_of}
 use Rattle.script_lines.specs.Scripts.{script_in}
@@ -8,21 +9,22 @@ use Rattle.script_lines.specs.Sayings.{words_in}
 use Rattle.script_lines.specs.declared.script.Line.{Line}
 use Rattle.script_lines.specs.declared.saying.Saying.{Saying}
 use Rattle.command_words.specs.Wanted.{Wanted, play, run, replay, make, keys, verify, parts, rebuild, blame, trend, delays, page}
-use Rattle.command_words.specs.Wanted.{picture, plot, chart}
+use Rattle.command_words.specs.Wanted.{picture, plot, chart, merge}
 use Rattle.command_words.specs.Wanted.{is_command, wanted_in}
 use Rattle.command_ends.specs.Steps.{Step}
 use Rattle.command_ends.specs.Steps.Step.{Gives}
 use Rattle.command_ends.specs.Calls.{Call, Loaded, Comes, CauseOf, NothingOrBegun, PutsInMemory}
 use Rattle.command_ends.specs.Ended.{ErrorSink, Ends}
+use Rattle.command_ends.specs.declared.refusal.KeepFault.{KeepFault}
 use Rattle.command_ends.specs.declared.refusal.LineFault.{LineFault}
 use Rattle.command_ends.specs.declared.refusal.Refusal.{Refusal}
 use Rattle.command_ends.specs.declared.refusal.Refusal.TheVariants as refusal
-use Rattle.run_commands.specs.Readers.{Readers, are_in_range}
+use Rattle.run_commands.specs.Readers.{Readers, are_few, are_in_range}
 use Rattle.run_commands.specs.Reading.{accepted, scenario_at, scenario_refusal, script_refusal, words_refusal}
 use Rattle.run_commands.specs.Reading.{with_script, with_words, with_play, with_history}
-use Rattle.run_commands.specs.Course.{Accepted, RunEnds, RunStep, ScriptedCourse, CommandStep, AskedStep, NextStep}
+use Rattle.run_commands.specs.Course.{Accepted, MergeEnds, MergeNext, MergeStep, RunEnds, RunStep, ScriptedCourse, CommandStep, AskedStep, NextStep}
 use Rattle.run_commands.specs.Course.{play_step, replay_step}
-use Rattle.run_commands.specs.Told.{GivesTold, PlayEnds, ReplayEnds, ReplayCourse, ToldStep, ToldAsked, ToldNext, told_runs}
+use Rattle.run_commands.specs.Told.{GivesTold, PlayEnds, ReplayEnds, ReplayCourse, ToldStep, ToldAsked, ToldNext, told_merges, told_runs}
 
 -- ---- Steps that may come less often.
 
@@ -57,6 +59,7 @@ module _ (next other : List (List ℕ) → List (List ℕ) → Step → Type 0)
   weaker-cause (Err (refusal.Words fault number)) cause = (comes _ cause.0, cause.1)
   weaker-cause (Err (refusal.History fault number)) cause = (comes _ cause.0, cause.1)
   weaker-cause (Err (refusal.Pieces at)) cause = (comes _ cause.0, cause.1)
+  weaker-cause (Err (refusal.Keep kept_name kept_fault)) cause = (comes _ cause.0, cause.1)
   weaker-cause (Err refusal.NotVerified) cause = (comes _ cause.0, cause.1)
   weaker-cause (Err (refusal.NoAnswer lack)) cause = (comes _ cause.0, cause.1)
 
@@ -71,6 +74,7 @@ module _ (next other : List (List ℕ) → List (List ℕ) → Step → Type 0)
   weaker-memory (Err (refusal.Words fault number)) puts = tt
   weaker-memory (Err (refusal.History fault number)) puts = tt
   weaker-memory (Err (refusal.Pieces at)) puts = tt
+  weaker-memory (Err (refusal.Keep kept_name kept_fault)) puts = tt
   weaker-memory (Err refusal.NotVerified) puts = tt
   weaker-memory (Err (refusal.NoAnswer lack)) puts = tt
   weaker-memory (Err (refusal.Fault name)) puts = tt
@@ -161,6 +165,26 @@ module _ (r : Readers) where
       (λ lines. accepted-weaker words_refusal (words_in (who_of c) d) (RunEnds (told_runs r) turns c lines)
       (RunEnds r turns c lines) step (λ sayings. ran-told turns c lines sayings step))) told
 
+  merged-told : (c : Contents) (keeps kept : List (List ℕ)) (fault : Option (ℕ × KeepFault)) (step : Step) →
+      MergeEnds (told_merges r) c keeps kept fault step → MergeEnds r c keeps kept fault step
+  merged-told c keeps kept (Some fault) step told = told
+  merged-told c keeps kept None step (history, (may, tells), is) = (history, may, is)
+
+  merge-next-told : (c : Contents) (keeps kept : List (List ℕ)) (name : Option (List ℕ)) (step : Step) →
+      MergeNext (told_merges r) c keeps kept name step → MergeNext r c keeps kept name step
+  merge-next-told c keeps kept (Some name) step told = told
+  merge-next-told c keeps kept None step told = merged-told c keeps kept (r.join_fault c kept) step told
+
+  merge-told : (few : Bool) (scenario : List ℕ) (keeps contents : List (List ℕ)) (step : Step) →
+      MergeStep (told_merges r) few scenario keeps contents step → MergeStep r few scenario keeps contents step
+  merge-told false scenario keeps contents step told = told
+  merge-told true scenario keeps [] step told = told
+  merge-told true scenario keeps (a ∷ kept) step told =
+      accepted-weaker scenario_refusal (scenario_at a)
+      (λ c. MergeNext (told_merges r) c keeps kept (slice_get keeps (length kept)))
+      (λ c. MergeNext r c keeps kept (slice_get keeps (length kept))) step
+      (λ c. merge-next-told c keeps kept (slice_get keeps (length kept)) step) told
+
   told-command : (w : Wanted) (contents : List (List ℕ)) (step : Step) → ToldStep r w contents step →
       CommandStep r w contents step
   told-command (play scenario script words) contents step told =
@@ -180,6 +204,8 @@ module _ (r : Readers) where
   told-command (picture scenario history first last width) contents step told = told
   told-command (plot scenario history point width) contents step told = told
   told-command (chart scenario history width) contents step told = told
+  told-command (merge scenario keeps) contents step told =
+      merge-told (are_few (length keeps)) scenario keeps contents step told
 
   told-asked : (is : Bool) (asked : Option Wanted) (contents : List (List ℕ)) (step : Step) →
       ToldAsked r is asked contents step → AskedStep r is asked contents step

@@ -1,6 +1,6 @@
 -- What each command does, step by step. (This project's own.)
 use Rattle.std.specs.Prelude.{◌≡◌, ◌⊎◌, ℕ, Bool, true, false, List, [], ◌∷◌, Option, None, Some, Result, Ok, Err}
-use Rattle.std.specs.Prelude.{unwrap_or}
+use Rattle.std.specs.Prelude.{length, slice_get, unwrap_or}
 use Rattle.scenario_file.specs.Reading.{Contents}
 use Rattle.history_rules.specs.Events.{Entry}
 use Rattle.script_grammar.specs.Names.{who_of}
@@ -10,7 +10,7 @@ use Rattle.script_lines.specs.declared.script.Line.{Line}
 use Rattle.script_lines.specs.declared.saying.Saying.{Saying}
 use Rattle.hash_signatures.specs.Verification.{Verifies}
 use Rattle.command_words.specs.Wanted.{Wanted, play, run, replay, make, keys, verify, parts, rebuild, blame, trend, delays, page}
-use Rattle.command_words.specs.Wanted.{picture, plot, chart}
+use Rattle.command_words.specs.Wanted.{picture, plot, chart, merge}
 use Rattle.command_words.specs.Wanted.{is_command, wanted_in}
 use Rattle.run_commands.specs.MadeScenario.{made_scenario}
 use Rattle.run_commands.specs.MadeScript.{made_script}
@@ -19,11 +19,12 @@ use Rattle.run_commands.specs.Keys.{keys_text}
 use Rattle.run_commands.specs.Verifying.{public_in, verified_text}
 use Rattle.command_ends.specs.Steps.{Step}
 use Rattle.command_ends.specs.Steps.Step.{Load, Gives, Refuses}
+use Rattle.command_ends.specs.declared.refusal.KeepFault.{KeepFault}
 use Rattle.command_ends.specs.declared.refusal.Refusal.{Refusal}
 use Rattle.command_ends.specs.declared.refusal.Refusal.TheVariants as refusal
 use Rattle.run_commands.specs.declared.questions.Question.{Question}
 use Rattle.run_commands.specs.declared.questions.Question.TheVariants as question
-use Rattle.run_commands.specs.Readers.{Readers, are_in_range}
+use Rattle.run_commands.specs.Readers.{Readers, are_few, are_in_range, keep_refusal}
 use Rattle.run_commands.specs.Reading.{scenario_at, scenario_refusal, script_refusal, words_refusal}
 use Rattle.run_commands.specs.Reading.{with_scenario, with_script, with_words, with_play, with_history, with_answer}
 use Rattle.run_commands.specs.Reading.{with_pieces}
@@ -71,6 +72,28 @@ abbrev pub replay_step : Readers → List ℕ → List ℕ → List (List ℕ) �
 replay_step r scenario history [] = Load scenario
 replay_step r scenario history (a ∷ []) = with_scenario a (λ c. Load history)
 replay_step r scenario history (a ∷ b ∷ more) = with_scenario a (λ c. with_history r c b (λ h. Gives (r.text_of c h)))
+
+-- Of what stations kept: the text of one of the histories that join it, or the refusal of the first file that isn't such.
+abbrev pub MergeEnds : Readers → Contents → List (List ℕ) → List (List ℕ) → Option (ℕ × KeepFault) → Step → Type 0
+MergeEnds r c keeps kept (Some fault) step = step ≡ Refuses (keep_refusal keeps fault)
+MergeEnds r c keeps kept None step =
+    (history : List Entry) × r.may_join c kept history × (step ≡ Gives (r.text_of c history))
+
+-- the next of the files that stations kept, or what comes of all
+abbrev pub MergeNext : Readers → Contents → List (List ℕ) → List (List ℕ) → Option (List ℕ) → Step → Type 0
+MergeNext r c keeps kept (Some name) step = step ≡ Load name
+MergeNext r c keeps kept None step = MergeEnds r c keeps kept (r.join_fault c kept) step
+
+-- the files of a merge are the scenario and what stations kept, in the order of the words
+abbrev pub MergeCourse : Readers → List ℕ → List (List ℕ) → List (List ℕ) → Step → Type 0
+MergeCourse r scenario keeps [] step = step ≡ Load scenario
+MergeCourse r scenario keeps (a ∷ kept) step = Accepted scenario_refusal (scenario_at a)
+    (λ c. MergeNext r c keeps kept (slice_get keeps (length kept))) step
+
+-- more or fewer files are no command
+abbrev pub MergeStep : Readers → Bool → List ℕ → List (List ℕ) → List (List ℕ) → Step → Type 0
+MergeStep r true scenario keeps contents step = MergeCourse r scenario keeps contents step
+MergeStep r false scenario keeps contents step = step ≡ Refuses refusal.Usage
 
 -- a made run is a play of a made scenario and a made script without words, of which the summary is given
 abbrev pub made_history : Readers → Contents → ℕ → (List Entry → Step) → Step
@@ -122,8 +145,8 @@ rebuild_step r scenario pieces (a ∷ b ∷ more) = with_scenario a (λ c. with_
 abbrev pub RebuildCourse : Readers → List ℕ → List ℕ → List (List ℕ) → Step → Type 0
 RebuildCourse r scenario pieces contents step = step ≡ rebuild_step r scenario pieces contents
 
--- What may come next in a command, after the contents of the files loaded so far: of a run in threads one of several
--- texts, else one step.
+-- What may come next in a command, after the contents of the files loaded so far: of a run in threads and of a
+-- merge one of several texts, else one step.
 abbrev pub CommandStep : Readers → Wanted → List (List ℕ) → Step → Type 0
 CommandStep r (play scenario script words) contents step = step ≡ play_step r scenario script words contents
 CommandStep r (replay scenario history) contents step = step ≡ replay_step r scenario history contents
@@ -146,6 +169,7 @@ CommandStep r (plot scenario history point width) contents step =
     QuestionCourse r scenario history (question.Plot point (unwrap_or width 900)) contents step
 CommandStep r (chart scenario history width) contents step =
     QuestionCourse r scenario history (question.Chart (unwrap_or width 900)) contents step
+CommandStep r (merge scenario keeps) contents step = MergeStep r (are_few (length keeps)) scenario keeps contents step
 
 -- The same of words: those that aren't a command are refused at once.
 abbrev pub AskedStep : Readers → Bool → Option Wanted → List (List ℕ) → Step → Type 0

@@ -7,6 +7,7 @@ pub mod call;
 mod made;
 mod made_scenarios;
 mod made_scripts;
+mod merged;
 mod opening;
 mod program;
 mod questions;

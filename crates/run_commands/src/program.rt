@@ -6,6 +6,7 @@ ghost use Rattle.run_commands.specs.Told.{ToldStep, ToldNext};
 
 use crate::answering::{answer, rebuild};
 use crate::made::make;
+use crate::merged::merge;
 use crate::questions::posed;
 use crate::runs::Runs;
 use crate::scripted::{keys, play, replay};
@@ -17,7 +18,7 @@ use command_words::{Asked, WordsAnswer, read_words};
 use outside::Files;
 use std::alloc::Global;
 
-/// The program's commands, over plays, runs in threads, replays and what is asked over them.
+/// The program's commands, over plays, runs in threads, replays, merges and what is asked over them.
 #[derive(Drop)]
 pub struct Program<R: Runs + Drop> {
     pub runs: R,
@@ -53,7 +54,7 @@ fn command_text<R: Runs, F: Files>(
     ensures file_faults { FaultsOfFiles result (F.faults files.old) (F.faults files.new) }
     ensures cause { TextCause (ToldStep R.readers (wanted asked.entry)) (F.held files.old) (F.faults files.old) (F.faults files.new) [] result }
 {
-    match posed(asked) {
+    match posed(&asked) {
         Some((scenario, history, question)) => {
             answer(alloc, runs, scenario, history, question, files)
         }
@@ -106,6 +107,7 @@ fn unposed_text<R: Runs, F: Files>(
             },
             files,
         ),
+        Asked::Merge { scenario, keeps } => merge(alloc, runs, scenario, keeps.as_slice(), files),
         _ => Err(Refusal::Usage),
     }
 }

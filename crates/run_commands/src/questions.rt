@@ -45,10 +45,10 @@ pub enum Question {
 const USUAL_WIDTH: u32 = 900;
 
 /// The names of the scenario and the history that a question is asked over, where a question is asked.
-pub fn posed<'a>(asked: Asked<'a>) -> Option<(&'a str, &'a str, Question)>
-    ensures { option_map (λ p. (p.0.now, p.1.now, p.2)) result ≡ posed (wanted asked.entry) }
+pub fn posed<'a>(asked: &Asked<'a>) -> Option<(&'a str, &'a str, Question)>
+    ensures { option_map (λ p. (p.0.now, p.1.now, p.2)) result ≡ posed (wanted asked.now) }
 {
-    match asked {
+    match *asked {
         Asked::Parts {
             scenario,
             history,

@@ -1,16 +1,17 @@
 use crate::questions::Question;
 use command_ends::Refusal;
+use plain_lists::Bytes;
 use scenario_file::Scenario;
 use script_lines::{Script, Words};
 use std::alloc::Global;
 
-/// Plays, runs in threads, replays and what is asked over them, as texts. The commands stand over this, so that their causes, ends
+/// Plays, runs in threads, replays, merges and what is asked over them, as texts. The commands stand over this, so that their causes, ends
 /// and texts are proved without any history's crate.
 pub trait Runs {
-    ghost use Rattle.std.specs.Prelude.{◌≡◌, true};
+    ghost use Rattle.std.specs.Prelude.{◌≡◌, ◌≤◌, length, map, true};
     ghost use Rattle.scenario_file.specs.Reading.{contents};
     ghost use Rattle.scenario_file.specs.Valid.{IsScenario};
-    ghost use Rattle.run_commands.specs.Readers.{Readers, KeepsRules, IsScriptOf, AreWordsOf, PlayGives, RunGives, ReplayGives, AnswerGives, RebuildGives, are_in_range};
+    ghost use Rattle.run_commands.specs.Readers.{AreShort, Readers, KeepsRules, IsScriptOf, AreWordsOf, PlayGives, RunGives, ReplayGives, MergeGives, AnswerGives, RebuildGives, are_in_range};
 
     // The definitions that the texts go by.
     ghost readers: { Readers };
@@ -58,6 +59,20 @@ pub trait Runs {
     ) -> Result<Vec<u8>, Refusal>
         requires { IsScenario (contents scenario.now) }
         ensures { ReplayGives readers (contents scenario.now) text.now result };
+
+    /// The text of a history that joins what stations kept in files of these names, or why there is none.
+    fn merge_text(
+        &self,
+        alloc: Global,
+        scenario: &Scenario,
+        names: &[&str],
+        kept: &[Bytes],
+    ) -> Result<Vec<u8>, Refusal>
+        requires valid { IsScenario (contents scenario.now) }
+        requires all { length kept.now ≡ length names.now }
+        requires few { length kept.now ≤ 26 }
+        requires short { AreShort kept.now }
+        ensures { MergeGives readers (contents scenario.now) (map (λ name. name.now) names.now) kept.now result };
 
     /// The answer to a question over the history that a printed text spells, or why there is none.
     fn answer_text(

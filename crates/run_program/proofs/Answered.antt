@@ -35,6 +35,7 @@ gives_answer c bytes asked told (Err (refusal.Script fault number)) is answers =
 gives_answer c bytes asked told (Err (refusal.Words fault number)) is answers = absurd answers
 gives_answer c bytes asked told (Err (refusal.History fault number)) is answers = absurd answers
 gives_answer c bytes asked told (Err (refusal.Pieces number)) is answers = absurd answers
+gives_answer c bytes asked told (Err (refusal.Keep kept_name kept_fault)) is answers = absurd answers
 gives_answer c bytes asked told (Err refusal.NotVerified) is answers = absurd answers
 gives_answer c bytes asked told (Err refusal.Output) is answers = absurd answers
 

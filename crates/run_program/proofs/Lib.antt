@@ -5,6 +5,7 @@ mod RunTexts
 mod Legality
 mod Rules
 mod Giving
+mod Merging
 mod Answered
 mod Worth
 mod Requested

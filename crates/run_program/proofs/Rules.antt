@@ -41,5 +41,6 @@ keeps lines_read words_read legal unforged told runs = record {
       (lines_read c script.0 lines valid script.1) (words_read c words.0 sayings valid words.1)
       (played_of _ history is);
   run_legal = λ c lines sayings turns history run. runs c (inputs_given c lines sayings) turns history run;
+  merged_legal = λ c kept history joins. joins.joint.legal;
   read_legal = λ c text history valid is. read_is_legal c text history (read_of (history_in c text) history is);
 }

@@ -1,5 +1,6 @@
 pub mod Asked
 pub mod Faults
+pub mod Merges
 pub mod Whole
 pub mod Blame
 pub mod Trends

@@ -1,6 +1,6 @@
 -- The definitions that the program goes by: the one history of a script and words, the histories that a run in threads of
 -- them may make, in which each actor's list goes turn by turn for what they give it, the history that a printed text
--- tells, the text of a history and the history as that tells it, what is answered over one, and the request that parts
+-- tells, the histories that join what stations kept, the text of a history and the history as that tells it, what is answered over one, and the request that parts
 -- rebuild. (This project's own.)
 use Rattle.std.specs.Prelude.{◌≡◌, ◌<◌, ◌^◌, ℕ, List, length}
 use Rattle.scenario_file.specs.Reading.{Contents}
@@ -17,9 +17,12 @@ use Rattle.replica_threads.specs.Ended.{IsHistoryOf}
 use Rattle.printed_history.specs.Histories.{history_in}
 use Rattle.printed_run.specs.Printed.{text_of}
 use Rattle.printed_run.specs.Tellable.{as_told}
+use Rattle.joined_histories.specs.Files.{files_in}
+use Rattle.joined_histories.specs.Joins.{JoinsFiles}
 use Rattle.run_commands.specs.Readers.{Readers, Tells}
 use Rattle.run_program.specs.Asked.{answered, requested}
 use Rattle.run_program.specs.Faults.{played_or_fault, history_or_fault}
+use Rattle.run_program.specs.Merges.{first_fault}
 
 -- what the program reads and makes, by the names of its definitions
 abbrev pub program_readers : Readers
@@ -27,6 +30,8 @@ program_readers = record {
   played = λ c lines sayings. played_or_fault (played (record { scenario = c; sayings = sayings }) lines);
   may_run = λ c lines sayings turns history. IsHistoryOf c (inputs_given c lines sayings) turns history;
   history_in = λ c text. history_or_fault (history_in c text);
+  may_join = JoinsFiles;
+  join_fault = λ c kept. first_fault (files_in c kept);
   text_of = text_of;
   as_told = as_told;
   answered = answered;

@@ -5,6 +5,7 @@
 mod answering;
 pub mod call;
 mod faults;
+mod merged;
 mod played;
 mod replayed;
 mod runs;

@@ -1,9 +1,10 @@
 use crate::answering::{answered_text, request_text};
+use crate::merged::merged_text;
 use crate::played::played_text;
 use crate::replayed::replayed_text;
 use crate::threaded::run_text;
 use command_ends::Refusal;
-use plain_lists::Want;
+use plain_lists::{Bytes, Want};
 use printed_laws::played_is_told;
 use replica_threads::laws::runs_are_legal;
 use run_commands::{Question, Runs};
@@ -15,7 +16,7 @@ use std::alloc::Global;
 use std::sync::Wait;
 use std::thread::Threads;
 
-/// Plays, runs in these threads and replays of whole runs, and what is asked over them.
+/// Plays, runs in these threads, replays and merges of whole runs, and what is asked over them.
 #[derive(Drop)]
 pub struct ProgramRuns<'a, R: Threads + Wait + Sync> {
     pub rt: &'a R,
@@ -73,6 +74,16 @@ impl<R: Threads + Wait + Sync> Runs for ProgramRuns<'_, R> {
         text: &[u8],
     ) -> Result<Vec<u8>, Refusal> {
         replayed_text(alloc, scenario, text)
+    }
+
+    fn merge_text(
+        &self,
+        alloc: Global,
+        scenario: &Scenario,
+        names: &[&str],
+        kept: &[Bytes],
+    ) -> Result<Vec<u8>, Refusal> {
+        merged_text(alloc, scenario, names, kept)
     }
 
     fn answer_text(

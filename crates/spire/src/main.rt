@@ -8,6 +8,8 @@ mod devices;
 #[cfg(test)]
 mod made;
 #[cfg(test)]
+mod merged;
+#[cfg(test)]
 mod named_files;
 #[cfg(test)]
 mod ordered;

@@ -26,13 +26,17 @@ fn summary(first: u8) -> [u8; 36] {
 
 /// The frame of a master's summary, by the first leaf of its key.
 fn frame_by(alloc: Global, master: u32, first: u8) -> Result<Vec<u8>, Fail> {
-    let mut key = actor_key(alloc, &SEED, &[5], master)?;
-    let text = summary(first);
-    let sig = key.sign(&text)?;
+    frame_of(alloc, master, &summary(first))
+}
+
+/// The frame of a text, by the first leaf of its actor's key.
+pub(crate) fn frame_of(alloc: Global, actor: u32, text: &[u8]) -> Result<Vec<u8>, Fail> {
+    let mut key = actor_key(alloc, &SEED, &[5], actor)?;
+    let sig = key.sign(text)?;
     let mut bytes = Vec::new(alloc);
-    put_u32(&mut bytes, master)?;
-    put_u32(&mut bytes, 36)?;
-    put_bytes(&mut bytes, &text)?;
+    put_u32(&mut bytes, actor)?;
+    put_u32(&mut bytes, number_of(text))?;
+    put_bytes(&mut bytes, text)?;
     put_u32(&mut bytes, number_of(&sig))?;
     put_bytes(&mut bytes, &sig)?;
     Ok(bytes)

@@ -12,5 +12,6 @@ unplayed_keeps = record {
   played_unforged = λ c lines sayings history valid script words is raw. none _ history is;
   played_told = λ c lines sayings history valid script words is. none _ history is;
   run_legal = λ c lines sayings turns history run. absurd run;
+  merged_legal = λ c kept history joins. absurd joins;
   read_legal = λ c text history valid is. none _ history is;
 }

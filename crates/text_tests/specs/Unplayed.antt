@@ -1,5 +1,6 @@
--- Plays that stop at their first line, no runs, histories that are none, and parts of no text.
-use Rattle.std.specs.Prelude.{[], Err}
+-- Plays that stop at their first line, no runs, histories that are none, files that nobody kept, and parts of no text.
+use Rattle.std.specs.Prelude.{[], Some, Err}
+use Rattle.command_ends.specs.declared.refusal.KeepFault.TheVariants as keep
 use Rattle.command_ends.specs.declared.refusal.LineFault.TheVariants as line
 use Rattle.command_ends.specs.declared.refusal.NoAnswer.TheVariants as none
 use Rattle.run_commands.specs.Readers.{Readers, NoRequest}
@@ -9,6 +10,8 @@ unplayed = record {
   played = λ c lines sayings. Err (line.NoFrame, 1);
   may_run = λ c lines sayings turns history. ⊥;
   history_in = λ c text. Err (line.BadLine, 1);
+  may_join = λ c kept history. ⊥;
+  join_fault = λ c kept. Some (0, keep.BadLine 1);
   text_of = λ c history. [];
   as_told = λ c history. history;
   answered = λ c history question. Err none.NoMatch;

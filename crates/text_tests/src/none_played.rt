@@ -1,10 +1,11 @@
 use command_ends::{LineFault, NoAnswer, Refusal};
+use plain_lists::Bytes;
 use run_commands::{Question, Runs};
 use scenario_file::Scenario;
 use script_lines::{Script, Words};
 use std::alloc::Global;
 
-/// Plays that stop at their first line, runs without memory, histories that are none, and parts of no text.
+/// Plays that stop at their first line, runs and merges without memory, histories that are none, and parts of no text.
 #[derive(Drop)]
 pub struct Unplayed;
 
@@ -51,6 +52,16 @@ impl Runs for Unplayed {
             fault: LineFault::BadLine,
             number: 1,
         })
+    }
+
+    fn merge_text(
+        &self,
+        _alloc: Global,
+        _scenario: &Scenario,
+        _names: &[&str],
+        _kept: &[Bytes],
+    ) -> Result<Vec<u8>, Refusal> {
+        Err(Refusal::Memory)
     }
 
     fn answer_text(

@@ -121,6 +121,23 @@ fn commands_over_keys_and_parts(rt: HostRuntime) -> Result<(), Fail> {
 }
 
 #[test]
+fn a_merge_is_of_one_file_or_more(rt: HostRuntime) -> Result<(), Fail> {
+    let one = ["a"];
+    let three = ["a", "b", "a"];
+    for (line, keeps) in [
+        ("merge s a", one.as_slice()),
+        ("merge s a b a", three.as_slice()),
+    ] {
+        let asked = Asked::Merge {
+            scenario: "s",
+            keeps: Vec::from_slice(rt.alloc(), keeps)?,
+        };
+        asks(&rt, rt.alloc(), line, asked)?;
+    }
+    Ok(())
+}
+
+#[test]
 fn other_words_are_refused(rt: HostRuntime) -> Result<(), Fail> {
     let none = Vec::new(rt.alloc());
     assert_eq!(rt;
@@ -142,6 +159,7 @@ fn other_words_are_refused(rt: HostRuntime) -> Result<(), Fail> {
         "run s p w --hands 2 --hands 2 --turns 9",
         "play -x s p w",
         "plot s h",
+        "merge s",
         "picture s h --width 599",
         "chart s h --width 4001",
     ];

@@ -1,7 +1,7 @@
 -- The subcommands, joined in order, are the literal of the definitions.
 use Rattle.command_words.specs.CommandLine.{play_shape, run_shape, replay_shape, make_shape, keys_shape}
 use Rattle.command_words.specs.CommandLine.{verify_shape, parts_shape, rebuild_shape, blame_shape, trend_shape, delays_shape, page_shape}
-use Rattle.command_words.specs.CommandLine.{picture_shape, plot_shape, chart_shape}
+use Rattle.command_words.specs.CommandLine.{picture_shape, plot_shape, chart_shape, merge_shape}
 use Rattle.command_words.proofs.command_line.command_line.Goals as goal
 
 pub returns : goal.returns
@@ -20,4 +20,5 @@ returns c =
     let twelfth = c.joined-commands-12.ensures _ page_shape eleventh c.page.ensures in
     let thirteenth = c.joined-commands-13.ensures _ picture_shape twelfth c.picture.ensures in
     let fourteenth = c.joined-commands-14.ensures _ plot_shape thirteenth c.plot.ensures in
-    c.joined.ensures _ chart_shape fourteenth c.chart.ensures
+    let fifteenth = c.joined-commands-15.ensures _ chart_shape fourteenth c.chart.ensures in
+    c.joined.ensures _ merge_shape fifteenth c.merge.ensures

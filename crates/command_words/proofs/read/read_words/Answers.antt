@@ -1,13 +1,12 @@
 -- The command is the literal of the definitions, so that the kit's clauses on `Ok` and `Err` speak of its faults and
 -- rows.
 use Rattle.std.proofs.Common.{rules, ◌≡◌, ◌≢◌, ◌∙◌, ◌∷◌, ap, sym, [], Some, None, Option, List, false, true}
-use Rattle.std.proofs.Common.{true≢false, inl, inr, map, string_bytes, length, arith, option_map, Result, Ok, Err}
+use Rattle.std.proofs.Common.{true≢false, inl, inr, map, string_bytes, length, arith, subst, Result, Ok, Err}
 use Rattle.std.proofs.Common.{refl}
 use Rattle.std.proofs.lemmas.Bool.{ne_eqb}
 use Rattle.std.proofs.lemmas.Result.{IfOk-from_err, err_from_is_err_and}
 use Rattle.std.specs.Prelude.{unwrap_or}
-use Rattle.std.specs.Result.{IfOk, MatchResult}
-use Rattle.std.specs.Option.{ok_or}
+use Rattle.std.specs.Result.{IfErr, IfOk, MatchResult}
 use Rattle.clap.specs.Kinds.{HasKind, Kinds}
 use Rattle.clap.specs.Values.{kind_of}
 use Rattle.clap.specs.declared.error.kind.ErrorKind.TheVariants.{OutOfMemory}
@@ -27,21 +26,19 @@ use Rattle.command_words.proofs.read.read_words.Goals as goal
 
 -- ---- What the values say, where they were found.
 
-asked_is : (o : Option Asked) (r : Result Asked WordsAnswer) (want : Option Wanted) → r ≡ ok_or o Want → option_map
-    wanted o ≡ want
-    → IfOk r (λ a. want ≡ Some (wanted a))
-asked_is None r want is has = rw is tt
-asked_is (Some a) r want is has = rw is (sym has)
+asked_is : (r : Result Asked WordsAnswer) (found want : Option Wanted) → found ≡ want
+    → IfOk r (λ a. found ≡ Some (wanted a)) → IfOk r (λ a. want ≡ Some (wanted a))
+asked_is r found want same is = subst (λ o. IfOk r (λ a. o ≡ Some (wanted a))) same is
 
-plain_is : (o : Option Asked) (r : Result Asked WordsAnswer) (w : Wanted) → r ≡ ok_or o Want → option_map wanted o ≡
-    Some w
+plain_is : (r : Result Asked WordsAnswer) (found : Option Wanted) (w : Wanted) → found ≡ Some w
+    → IfOk r (λ a. found ≡ Some (wanted a)) → IfErr r (λ answer. answer ≡ Want)
     → MatchResult r (λ a. wanted a ≡ w) (λ answer. answer ≡ Want)
-plain_is None r w is has = rw is refl
-plain_is (Some a) r w is has = rw is (ap (λ (o : Option Wanted). unwrap_or o w) has)
+plain_is (Ok a) found w is has want = ap (λ (o : Option Wanted). unwrap_or o w) (sym has ∙ is)
+plain_is (Err e) found w is has want = want
 
-no_usage : (o : Option Asked) (r : Result Asked WordsAnswer) → r ≡ ok_or o Want → r ≡ Err Usage → ⊥
-no_usage None r is usage = cc
-no_usage (Some a) r is usage = cc
+no_usage : (r : Result Asked WordsAnswer) → IfErr r (λ answer. answer ≡ Want) → r ≡ Err Usage → ⊥
+no_usage (Ok a) want usage = cc
+no_usage (Err e) want usage = cc
 
 -- ---- What an error says.
 
@@ -76,7 +73,7 @@ returns-in-Ok-clause-taken c =
     c.in-Ok.ensures.kinds (ap is_simple_and_free app ∙ spire_is_free) in
     let taken : is_command words ≡ true = ap (λ (a : App). is_empty (fault_of a words)) (sym app) ∙ ap is_empty none
     in
-    all c.ok_or.result taken
+    all c.found_in.result taken
   where
     all : (r : Result Asked WordsAnswer) → is_command (map string_bytes c.args.words.now) ≡ true
         → IfOk r (λ asked. is_command (map string_bytes c.args.words.now) ≡ true)
@@ -89,11 +86,11 @@ returns-in-Ok-clause-asked c =
     let app : app_of c.in_ok-command.command ≡ spire_app = c.in_ok-command.ensures in
     let rows : subcommand_rows_of c.in-Ok.matches ≡ subcommand_of (app_of c.in_ok-command.command) words =
     (c.in-Ok.ensures.matches (ap is_simple app ∙ spire_is_simple)).1 in
-    asked_is c.asked_of.result c.ok_or.result (wanted_in words) c.ok_or.ensures.value
-    (c.asked_of.ensures ∙ ap asked_in (rows ∙ ap (λ (a : App). subcommand_of a words) app))
+    asked_is c.found_in.result (asked_in (subcommand_rows_of c.in-Ok.matches)) (wanted_in words)
+    (ap asked_in (rows ∙ ap (λ (a : App). subcommand_of a words) app)) c.found_in.ensures.asked
 
 pub returns-in-Ok-clause-usage : goal.returns-in-Ok-clause-usage
-returns-in-Ok-clause-usage c usage = absurd (no_usage c.asked_of.result c.ok_or.result c.ok_or.ensures.value usage)
+returns-in-Ok-clause-usage c usage = absurd (no_usage c.found_in.result c.found_in.ensures.want usage)
 
 pub returns-in-Ok-clause-plain : goal.returns-in-Ok-clause-plain
 returns-in-Ok-clause-plain c w plain is =
@@ -101,9 +98,9 @@ returns-in-Ok-clause-plain c w plain is =
     let app : app_of c.in_ok-command.command ≡ spire_app = c.in_ok-command.ensures in
     let rows : subcommand_rows_of c.in-Ok.matches ≡ subcommand_of (app_of c.in_ok-command.command) words =
     (c.in-Ok.ensures.matches (ap is_simple app ∙ spire_is_simple)).1 in
-    plain_is c.asked_of.result c.ok_or.result w c.ok_or.ensures.value
-    (c.asked_of.ensures ∙ ap asked_in (rows ∙ ap (λ (a : App). subcommand_of a words) app) ∙ ap wanted_in is
-    ∙ plain_wanted w plain)
+    plain_is c.found_in.result (asked_in (subcommand_rows_of c.in-Ok.matches)) w
+    (ap asked_in (rows ∙ ap (λ (a : App). subcommand_of a words) app) ∙ ap wanted_in is ∙ plain_wanted w plain)
+    c.found_in.ensures.asked c.found_in.ensures.want
 
 pub returns-in-Err-clause-usage : goal.returns-in-Err-clause-usage
 returns-in-Err-clause-usage c usage = cc

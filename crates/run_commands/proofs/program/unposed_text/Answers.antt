@@ -1,9 +1,9 @@
 -- Each command that asks no question takes the course of its own words, and each is answered by the function of
 -- that course. Any other command is refused for its words.
-use Rattle.std.proofs.Common.{◌≡◌, ℕ, List, [], Option, Result, sym, ap, subst}
+use Rattle.std.proofs.Common.{◌≡◌, ℕ, List, [], Option, Result, map, sym, ap, subst}
 use Rattle.std.specs.declared.vec.Vec.{Vec}
 use Rattle.std.specs.declared.alloc.Global.{Global}
-use Rattle.command_words.specs.Wanted.{Wanted, wanted}
+use Rattle.command_words.specs.Wanted.{Wanted, merge, wanted}
 use Rattle.command_ends.specs.Calls.{TextCause}
 use Rattle.command_ends.specs.declared.refusal.Refusal.{Refusal}
 use Rattle.run_commands.specs.Readers.{Readers}
@@ -41,3 +41,12 @@ returns-in-Rebuild-clause-cause g c =
 pub returns-in-Run-clause-cause : goal.returns-in-Run-clause-cause
 returns-in-Run-clause-cause g c =
     of-words g.R.Runs.readers _ _ _ _ _ c.run.result (ap wanted c.in-Run.is) c.run.ensures.cause
+
+pub returns-in-Merge-clause-cause : goal.returns-in-Merge-clause-cause
+returns-in-Merge-clause-cause g c =
+    let r = g.R.Runs.readers in
+    let scenario = c.in-Merge.scenario.now in
+    of-words r _ _ _ _ _ c.merge.result (ap wanted c.in-Merge.is)
+    (subst (λ keeps. TextCause (ToldStep r (merge scenario (map (λ keep. keep.now) keeps)))
+    (g.F.Files.held c.args.files.now) (g.F.Files.faults c.args.files.now) (g.F.Files.faults c.merge.new.files) []
+    c.merge.result) c.as_slice.ensures.value c.merge.ensures.cause)
