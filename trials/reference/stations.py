@@ -345,21 +345,43 @@ def station_command(scenario_name, actor, keep):
 
 
 def joined(scenario, stations):
-    """The entries of all stations in one order. In each round each actor, in the order of their numbers, adds its next entry if
-    that is due: if it takes no frame, or one that was said, or one of an actor that gave no file. A round that moves nobody has
-    the first actor that has entries left add its next one all the same."""
+    """The entries of all stations in one order. An actor's next entry waits where its frame, or one inside it, has a body of a correct
+    actor that this actor's file says, and at none of the entries that were added so far. The actors add one each, in the order of
+    their numbers and round again, passing over those whose next entry waits or whose frame, of an actor that gave a file, wasn't
+    said. Where that leaves nobody the first comes whose entry doesn't wait, and where all wait the first that has one left."""
     entries, places = [], {}
     next_of = {actor: 0 for actor in stations}
+    # of each actor the entry that says a body first
+    first_said = {actor: {} for actor in stations}
+    for actor, station in stations.items():
+        for number, entry in enumerate(station.entries):
+            for frame in entry.said:
+                first_said[actor].setdefault(frame.body.text, number)
 
     def next_entry(actor):
         own = stations[actor].entries
         return own[next_of[actor]] if next_of[actor] < len(own) else None
 
-    def is_due(entry):
-        if entry.event[0] != 'took':
+    def waits_for(part):
+        signer = part.signer
+        return scenario.correct(signer) and signer in stations and first_said[signer].get(part.body.text, -1) >= next_of[signer]
+
+    def is_ready(entry):
+        return entry is not None and not (entry.event[0] == 'took' and any(map(waits_for, entry.event[3].parts)))
+
+    def is_heard(entry):
+        if entry is None or entry.event[0] != 'took':
             return True
         frame = entry.event[3]
         return second.H(frame.bytes) in places or frame.signer not in stations
+
+    def next_actor(behind):
+        actors = sorted(stations)
+        for actor in [it for it in actors if it > behind] + actors:
+            if is_heard(next_entry(actor)) and is_ready(next_entry(actor)):
+                return actor
+        left = [it for it in actors if next_entry(it) is not None]
+        return next((it for it in left if is_ready(next_entry(it))), next(iter(left), None))
 
     def add(actor):
         old = next_entry(actor)
@@ -377,18 +399,11 @@ def joined(scenario, stations):
             places.setdefault(second.H(frame.bytes), (entry.stamp, place))
         entries.append(entry)
 
-    while True:
-        has_moved = False
-        for actor in sorted(stations):
-            entry = next_entry(actor)
-            if entry is not None and is_due(entry):
-                add(actor)
-                has_moved = True
-        if not has_moved:
-            left = [actor for actor in sorted(stations) if next_entry(actor) is not None]
-            if not left:
-                return entries
-            add(left[0])
+    actor = next_actor(-1)
+    while actor is not None:
+        add(actor)
+        actor = next_actor(actor)
+    return entries
 
 
 def load_kept(name):
