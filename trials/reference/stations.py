@@ -86,7 +86,7 @@ class Station:
             _, stamp, place = event
             frame = self.entries[stamp].frame(place) if stamp < len(self.entries) else None
         else:
-            # a frame that is told by its bytes counts as said at the entry before, so there has to be one
+            # a frame that is told by its bytes counts as said at the entry before: there is one once the station was started
             stamp, place = len(self.entries) - 1, second.U32MAX
             frame = second.try_read_frame(event[1]) if self.entries else None
         if frame is None or second.check(self.scenario.ring(), frame) is not None:
@@ -297,6 +297,21 @@ def lines_of(file):
 
 # The commands ------------------------------------------------------------------------------------------
 
+def enter(station, batch, come, event):
+    """Adds the entry of an event: its line is kept, and its words and notes are told."""
+    entry = station.add(event)
+    batch.keep(station.kept_line(entry))
+    batch.say(station.word_lines(entry))
+    batch.note(come.notes())
+
+
+def start(station, batch, come):
+    """What a station does before any line comes: it tells how far it is, and where it did nothing yet its start is an entry."""
+    batch.note(f'note begun {len(station.entries)} left {station.bench.leaves()}\n'.encode())
+    if not station.entries:
+        enter(station, batch, come, ('restart',))
+
+
 def answer(station, batch, come, line):
     """What a line comes to."""
     try:
@@ -313,13 +328,9 @@ def answer(station, batch, come, line):
         batch.note(b'note repeated\n')
         return
     try:
-        entry = station.add(event)
+        enter(station, batch, come, event)
     except Refused:
         batch.note(b'note refused\n')
-        return
-    batch.keep(station.kept_line(entry))
-    batch.say(station.word_lines(entry))
-    batch.note(come.notes())
 
 
 def station_command(scenario_name, actor, keep):
@@ -335,7 +346,7 @@ def station_command(scenario_name, actor, keep):
     if fault is not None:
         raise second.End(5, f'spire: keep {fault}')
     batch, come = Batch(file), Come(station)
-    batch.note(f'note begun {len(station.entries)} left {station.bench.leaves()}\n'.encode())
+    start(station, batch, come)
     batch.release()
     for line, is_ahead in lines_of(0):
         answer(station, batch, come, line)

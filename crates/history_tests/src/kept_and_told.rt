@@ -1,4 +1,5 @@
-//! Stations: what comes is answered, kept and told, each entry's words behind its line, and a failing file or output ends it.
+//! Stations: what comes is answered, kept and told, each entry's words behind its line, its notes behind these, and a failing file
+//! or output ends it.
 use outside::MemorySink;
 use scenario_file::Scenario;
 use station_files::{MemoryFile, ReadLines};
@@ -8,6 +9,14 @@ use std::test::Fail;
 
 const SCENARIO: &[u8] =
     b"f = 1\nseed = \"0000000000000000000000000000000000000000000000000000000000000000\"\nscreens = 1\n";
+
+// A group whose keys are quickly made.
+const GROUP: &[u8] =
+    b"f = 1\nseed = \"0000000000000000000000000000000000000000000000000000000000000000\"\nscreens = 1\nlevels = [5]\nrules = 2\n";
+
+const NAMES: [&str; 5] = ["m0", "m1", "m2", "m3", "s0"];
+
+const BEGUN: &[u8] = b"note begun 0 left 32768\n";
 
 const COMMANDS: &[u8] = b"command ack 0\ndance\npoll\nagain 0\ntorn";
 
@@ -29,7 +38,19 @@ fn life_of(
     failing: &[u64],
     failing_puts: &[u64],
 ) -> Result<Lived, Fail> {
-    let scenario = Scenario::read(alloc, SCENARIO)?;
+    life_in(alloc, SCENARIO, name, kept, input, failing, failing_puts)
+}
+
+fn life_in(
+    alloc: Global,
+    scenario: &[u8],
+    name: &str,
+    kept: &[u8],
+    input: &[u8],
+    failing: &[u64],
+    failing_puts: &[u64],
+) -> Result<Lived, Fail> {
+    let scenario = Scenario::read(alloc, scenario)?;
     let actor = actor_of(alloc, &scenario, name)?;
     let kept = Vec::from_slice(alloc, kept)?;
     let mut file = MemoryFile::make(alloc, kept, Vec::from_slice(alloc, failing)?, 5);
@@ -51,25 +72,26 @@ fn lines_of(alloc: Global, text: &[u8]) -> Result<Vec<&str>, Fail> {
     Ok(text.lines().collect(alloc)?)
 }
 
+// A file's first entry is its start.
 #[test]
 fn a_screen_says_its_command_once_it_is_kept(rt: HostRuntime) -> Result<(), Fail> {
     let alloc = rt.alloc();
     let first = life_of(alloc, "s0", b"", COMMANDS, &[], &[])?;
     assert_eq!(rt; first.answer, Ok(()));
-    assert!(rt;
-        first
-            .file
-            .starts_with(b"0 s0 command ack 0 says update digest ")
-    );
+    let kept = lines_of(alloc, first.file.as_slice())?;
+    assert_eq!(rt; kept.len(), 2);
+    assert!(rt; kept[0].starts_with("0 s0 restart digest "));
+    assert!(rt; kept[1].starts_with("1 s0 command ack 0 says update digest "));
     assert_eq!(rt; first.file.last(), Some(&10));
     assert_eq!(rt; first.durable, first.file.len());
     let put = lines_of(alloc, first.put.as_slice())?;
-    assert_eq!(rt; put.len(), 5);
-    assert!(rt; put[0].starts_with("say m0,m1 "));
-    assert_eq!(rt; put[1], "note badline");
-    assert_eq!(rt; put[2], "note refused");
-    assert_eq!(rt; put[3], put[0]);
-    assert_eq!(rt; put[4], "note badline");
+    assert_eq!(rt; put.len(), 6);
+    assert_eq!(rt; put[0], "note begun 0 left 32768");
+    assert!(rt; put[1].starts_with("say m0,m1 "));
+    assert_eq!(rt; put[2], "note badline");
+    assert_eq!(rt; put[3], "note refused");
+    assert_eq!(rt; put[4], put[1]);
+    assert_eq!(rt; put[5], "note badline");
     let second = life_of(
         alloc,
         "s0",
@@ -80,39 +102,36 @@ fn a_screen_says_its_command_once_it_is_kept(rt: HostRuntime) -> Result<(), Fail
     )?;
     assert!(rt; second.file.starts_with(first.file.as_slice()));
     let kept = lines_of(alloc, second.file.as_slice())?;
-    assert_eq!(rt; kept.len(), 2);
-    assert!(rt; kept[1].starts_with("1 s0 command ack 1 says update digest "));
+    assert_eq!(rt; kept.len(), 3);
+    assert!(rt; kept[2].starts_with("2 s0 command ack 1 says update digest "));
+    let put = lines_of(alloc, second.put.as_slice())?;
+    assert_eq!(rt; put.len(), 2);
+    assert_eq!(rt; put[0], "note begun 2 left 32767");
     Ok(())
 }
 
-// No frame is the first entry of a list.
+// The first line of its first life is a frame.
 #[test]
 fn a_master_takes_a_frame_once(rt: HostRuntime) -> Result<(), Fail> {
     let alloc = rt.alloc();
     let screen = life_of(alloc, "s0", b"", COMMANDS, &[], &[])?;
     let put = lines_of(alloc, screen.put.as_slice())?;
-    let frame = put.first().and_then(|word| word.strip_prefix("say m0,m1 "));
+    let frame = put.get(1).and_then(|word| word.strip_prefix("say m0,m1 "));
     let Some(frame) = frame else {
         return Err("no word".into());
     };
     let input = format!(in alloc; "took frame {frame}\ntook frame {frame}\ntook frame 00\n")?;
-    let first = life_of(alloc, "m0", b"", input.as_bytes(), &[], &[])?;
-    assert!(rt; first.file.is_empty());
-    let ticked = life_of(alloc, "m0", b"", b"tick\n", &[], &[])?;
-    let master = life_of(
-        alloc,
-        "m0",
-        ticked.file.as_slice(),
-        input.as_bytes(),
-        &[],
-        &[],
-    )?;
+    let master = life_of(alloc, "m0", b"", input.as_bytes(), &[], &[])?;
     assert_eq!(rt; master.answer, Ok(()));
+    let kept = lines_of(alloc, master.file.as_slice())?;
+    assert_eq!(rt; kept.len(), 2);
+    assert!(rt; kept[1].starts_with("1 m0 took frame "));
     let put = lines_of(alloc, master.put.as_slice())?;
-    assert_eq!(rt; put.len(), 3);
-    assert!(rt; put[0].starts_with("say m1,m2,m3 "));
-    assert_eq!(rt; put[1], "note repeated");
-    assert_eq!(rt; put[2], "note refused");
+    assert_eq!(rt; put.len(), 4);
+    assert_eq!(rt; put[0], "note begun 0 left 32768");
+    assert!(rt; put[1].starts_with("say m1,m2,m3 "));
+    assert_eq!(rt; put[2], "note repeated");
+    assert_eq!(rt; put[3], "note refused");
     let again = life_of(
         alloc,
         "m0",
@@ -123,24 +142,125 @@ fn a_master_takes_a_frame_once(rt: HostRuntime) -> Result<(), Fail> {
     )?;
     assert_eq!(rt;
         again.put.as_slice(),
-        b"note repeated\nnote repeated\nnote refused\n".as_slice()
+        b"note begun 2 left 32767\nnote repeated\nnote repeated\nnote refused\n".as_slice()
     );
     Ok(())
 }
 
-// Of the calls the first reads the file, the second appends and the third settles.
+/// Stations that are played round by round, each a life: their files, the lines that come to each next, and what they noted.
+#[derive(Drop)]
+struct Group {
+    files: Vec<Vec<u8>>,
+    inputs: Vec<String>,
+    notes: Vec<String>,
+}
+
+fn group(alloc: Global) -> Result<Group, Fail> {
+    let mut group = Group {
+        files: Vec::new(alloc),
+        inputs: Vec::new(alloc),
+        notes: Vec::new(alloc),
+    };
+    for _name in NAMES {
+        group.files.push(Vec::new(alloc))?;
+        group.inputs.push(String::new(alloc))?;
+        group.notes.push(String::new(alloc))?;
+    }
+    Ok(group)
+}
+
+// Gives the frame of a word to those to whom it goes.
+fn post(next: &mut [String], word: &str) -> Result<(), Fail> {
+    let Some((names, frame)) = word.split_once(' ') else {
+        return Err("no frame".into());
+    };
+    for name in names.split(',') {
+        for (place, other) in NAMES.iter().enumerate() {
+            if *other == name {
+                next[place].push_str("took frame ")?;
+                next[place].push_str(frame)?;
+                next[place].push_str("\n")?;
+            }
+        }
+    }
+    Ok(())
+}
+
+// A life of each: it takes what was said to it in the round before, and a master ticks.
+fn play_round(alloc: Global, group: &mut Group) -> Result<(), Fail> {
+    let mut next = Vec::new(alloc);
+    for name in NAMES {
+        let tick = if name.starts_with('m') { "tick\n" } else { "" };
+        next.push(String::from_str(alloc, tick)?)?;
+    }
+    for (place, name) in NAMES.iter().enumerate() {
+        let lived = life_in(
+            alloc,
+            GROUP,
+            name,
+            group.files[place].as_slice(),
+            group.inputs[place].as_bytes(),
+            &[],
+            &[],
+        )?;
+        for line in lines_of(alloc, lived.put.as_slice())? {
+            match line.strip_prefix("say ") {
+                Some(word) => post(next.as_mut_slice(), word)?,
+                None => {
+                    group.notes[place].push_str(line)?;
+                    group.notes[place].push_str("\n")?;
+                }
+            }
+        }
+        group.files[place] = Vec::from_slice(alloc, lived.file.as_slice())?;
+    }
+    group.inputs = next;
+    Ok(())
+}
+
+// By trials/reference/stations.py it takes nine rounds.
+#[test]
+fn what_an_entry_came_to_is_noted(rt: HostRuntime) -> Result<(), Fail> {
+    let alloc = rt.alloc();
+    let mut group = group(alloc)?;
+    group.inputs[4].push_str("command ack 0\n")?;
+    for _round in 0..10 {
+        play_round(alloc, &mut group)?;
+    }
+    for master in 0..4 {
+        let notes = group.notes[master].as_str();
+        assert!(rt; notes.starts_with("note begun 0 left 32\n"));
+        assert!(rt; notes.contains("\nnote executed 1 s0 1 ack 0\n"));
+        assert!(rt; !notes.contains("note executed 2"));
+        assert!(rt; !notes.contains("note view"));
+    }
+    assert!(rt;
+        group.notes[4]
+            .as_str()
+            .contains("\nnote notice 1 noalarm 1 0\n")
+    );
+    Ok(())
+}
+
+// Of the calls the first reads the file and the second appends the start, which says nothing; the third appends what came, and
+// the fourth settles. Of what is put the note of the start comes first.
 #[test]
 fn nothing_is_said_that_is_not_kept(rt: HostRuntime) -> Result<(), Fail> {
     let alloc = rt.alloc();
-    for failing in [2u64, 3] {
+    for failing in [2u64, 3, 4] {
         let stopped = life_of(alloc, "s0", b"", COMMANDS, &[failing], &[])?;
         assert_eq!(rt; stopped.answer, Err(Halt::Keep));
         assert_eq!(rt; stopped.durable, 0);
-        assert!(rt; stopped.put.is_empty());
+        let noted = if failing == 2 { b"".as_slice() } else { BEGUN };
+        assert_eq!(rt; stopped.put.as_slice(), noted);
     }
     let stopped = life_of(alloc, "s0", b"", COMMANDS, &[], &[1])?;
     assert_eq!(rt; stopped.answer, Err(Halt::Output));
-    assert_eq!(rt; stopped.durable, stopped.file.len());
+    assert_eq!(rt; stopped.durable, 0);
     assert!(rt; stopped.put.is_empty());
+    let stopped = life_of(alloc, "s0", b"", COMMANDS, &[], &[2])?;
+    assert_eq!(rt; stopped.answer, Err(Halt::Output));
+    assert_eq!(rt; stopped.durable, stopped.file.len());
+    assert_eq!(rt; stopped.put.as_slice(), BEGUN);
     Ok(())
 }

@@ -53,6 +53,13 @@ impl<F: Read + Write + Seek + OpenFile> RealFile<F> {
             faults: 0,
         }
     }
+
+    /// How many faults came so far.
+    pub fn faults(&self) -> u64
+        ensures { result ≡ self.now.faults }
+    {
+        self.faults
+    }
 }
 
 /// The file of that name, made where there is none. Another process can't open it so before this one lets go of it or ends: it is

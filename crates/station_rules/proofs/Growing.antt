@@ -14,8 +14,9 @@ use Rattle.printed_history.proofs.NextEntry.{MayCome, next_of, next_legal}
 use Rattle.printed_history.proofs.EventTold.{taken_well}
 use Rattle.joint_lists.specs.Stations.{IsStation}
 use Rattle.joint_lists.proofs.Alone.{alone_more}
-use Rattle.station_rules.specs.Coming.{is_given, is_repeated, entry_of_line, entry_given}
-use Rattle.station_rules.specs.Answers.{Given, Again, Unclear, entry_answer, line_asked, after_asked}
+use Rattle.run_lines.specs.declared.event_line.EventLine.TheVariants as line
+use Rattle.station_rules.specs.Coming.{is_given, is_repeated, entry_of_line, entry_given, first_entry}
+use Rattle.station_rules.specs.Answers.{Start, Given, Again, Unclear, entry_answer, start_answer, line_asked, after_asked}
 use Rattle.station_rules.specs.Laws.{AnsweredIsStation, LinesKeepStation}
 
 -- the entry of an event that an entry's words tell
@@ -55,7 +56,18 @@ given_stays c actor list l e is given = at (is_given l && not (is_repeated list 
     at true same = line_stays c actor list l e is same
     at false same = absurd (cc)
 
+started_stays : (c : Contents) (actor : ℕ) (list : List Entry) → IsStation c actor list →
+    IsStation c actor (list ++ (start_answer c actor list (first_entry c actor list)).entries)
+started_stays c actor [] is = by (entry_of_line c actor [] line.Restart) refl
+  where
+    by : (o : Option Entry) → entry_of_line c actor [] line.Restart ≡ o →
+        IsStation c actor ([] ++ (start_answer c actor [] o).entries)
+    by None same = is
+    by (Some e) same = line_stays c actor [] line.Restart e is same
+started_stays c actor (x ∷ list) is = subst (IsStation c actor) (sym (append-nil (x ∷ list))) is
+
 pub answered_is_station : AnsweredIsStation
+answered_is_station c actor list Start is = started_stays c actor list is
 answered_is_station c actor list (Given l) is = by (entry_given c actor list l) refl
   where
     by : (o : Option Entry) → entry_given c actor list l ≡ o →

@@ -1,2 +1,4 @@
 mod Growing
+pub mod Noting
 mod Answering
+mod Starting

@@ -1,4 +1,5 @@
--- What a line that comes to a station asks for, and what the station makes of it. (This project's own.)
+-- What a station is asked for, as it is started and by each line that comes, and what it makes of that. (This project's
+-- own.)
 use Rattle.std.specs.Prelude.{ℕ, Bool, if◌then◌else◌, List, [], ◌∷◌, ◌++◌, Option, Some, None, Ok, Err, codes}
 use Rattle.std.specs.Str.{bytes_eq, is_utf8}
 use Rattle.scenario_file.specs.Reading.{Contents}
@@ -8,10 +9,13 @@ use Rattle.script_grammar.specs.Numbers.{wide_in}
 use Rattle.history_rules.specs.Events.{Entry}
 use Rattle.run_lines.specs.declared.event_line.EventLine.{EventLine}
 use Rattle.run_lines.specs.Reading.{event_in}
-use Rattle.station_rules.specs.Coming.{is_given, is_repeated, entry_given}
+use Rattle.station_rules.specs.Coming.{is_given, is_repeated, entry_given, first_entry}
+use Rattle.station_rules.specs.Notes.{begun_note, entry_notes}
 use Rattle.station_lives.specs.Saying.{word_lines, words_since, note_line}
 
 pub data Asked : Type 0 where
+  -- that it begins to live
+  Start : Asked
   -- an event of the actor
   Given : EventLine → Asked
   -- the words of its entries from this stamp on once more, since a peer came back that may have lost them
@@ -50,11 +54,21 @@ pub record Outcome : Type 0 where
 abbrev pub refusal : Bool → List ℕ
 refusal is_known = note_line (if is_known then codes "repeated" else codes "refused")
 
+-- what an entry tells: its words, and then what its actor came to
+abbrev pub told_at : Contents → List Entry → Entry → List ℕ
+told_at c before e = word_lines c before e ++ entry_notes c before e
+
 abbrev pub entry_answer : Contents → List Entry → EventLine → Option Entry → Outcome
 entry_answer c list l None = record { entries = []; told = refusal (is_repeated list l) }
-entry_answer c list l (Some e) = record { entries = e ∷ []; told = word_lines c list e }
+entry_answer c list l (Some e) = record { entries = e ∷ []; told = told_at c list e }
+
+-- it tells how far it is
+abbrev pub start_answer : Contents → ℕ → List Entry → Option Entry → Outcome
+start_answer c actor list None = record { entries = []; told = begun_note c actor list }
+start_answer c actor list (Some e) = record { entries = e ∷ []; told = begun_note c actor list ++ told_at c list e }
 
 abbrev pub answer : Contents → ℕ → List Entry → Asked → Outcome
+answer c actor list Start = start_answer c actor list (first_entry c actor list)
 answer c actor list (Given l) = entry_answer c list l (entry_given c actor list l)
 answer c actor list (Again stamp) = record { entries = []; told = words_since c stamp [] list }
 answer c actor list Unclear = record { entries = []; told = note_line (codes "badline") }

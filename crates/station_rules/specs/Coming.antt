@@ -1,5 +1,5 @@
 -- Which entry an event makes that comes to a station: none but those that come from outside. (This project's own.)
-use Rattle.std.specs.Prelude.{ℕ, Bool, true, false, not, ◌&&◌, if◌then◌else◌, List, Option, None}
+use Rattle.std.specs.Prelude.{ℕ, Bool, true, false, not, ◌&&◌, if◌then◌else◌, List, [], ◌∷◌, Option, None}
 use Rattle.std.specs.List.{list_any}
 use Rattle.std.specs.Str.{bytes_eq}
 use Rattle.sha2.specs.Sha256.{sha256}
@@ -11,8 +11,7 @@ use Rattle.run_lines.specs.declared.event_line.EventLine.{EventLine}
 use Rattle.run_lines.specs.declared.event_line.EventLine.TheVariants as line
 use Rattle.printed_history.specs.Histories.{event_from, standing_event, entry_next}
 
--- Which events come from outside: a frame by its bytes, a tick, a command, a change in the field, a poll. That the
--- station was started again it notes itself.
+-- Which events come from outside: a frame by its bytes, a tick, a command, a change in the field, a poll.
 abbrev pub is_given : EventLine → Bool
 is_given (line.Frame bytes) = true
 is_given line.Tick = true
@@ -40,3 +39,9 @@ entry_of_line c actor list l =
 -- the entry that they make where they come from outside
 abbrev pub entry_given : Contents → ℕ → List Entry → EventLine → Option Entry
 entry_given c actor list l = if is_given l && not (is_repeated list l) then entry_of_line c actor list l else None
+
+-- What a station that did nothing yet does as it is started: it is made anew from what was kept, which is nothing. So there is
+-- an entry before the first frame that comes, and that frame may be taken: told by its bytes, it counts as said there.
+abbrev pub first_entry : Contents → ℕ → List Entry → Option Entry
+first_entry c actor [] = entry_of_line c actor [] line.Restart
+first_entry c actor (e ∷ list) = None

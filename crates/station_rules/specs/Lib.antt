@@ -1,3 +1,4 @@
 pub mod Coming
+pub mod Notes
 pub mod Answers
 pub mod Laws

@@ -1,16 +1,28 @@
 -- A station that begins with what its file's lines tell is ready, and just these lines are kept of it.
-use Rattle.std.proofs.Common.{◌≡◌, ℕ, ◌<◌, ◌≤◌, ◌^◌, true, List, Ok, length, sym, ◌∙◌, ap, subst, arith}
+use Rattle.std.proofs.Common.{◌≡◌, ℕ, ◌<◌, ◌≤◌, ◌^◌, Bool, true, false, List, [], ◌∷◌, Option, Some, None, Result, Ok, Err, IfSome}
+use Rattle.std.proofs.Common.{length, refl, sym, ◌∙◌, ap, subst, arith, inl, inr}
+use Rattle.std.specs.Prelude.{◌==◌, if◌then◌else◌}
+use Rattle.outside.specs.declared.files.LoadAnswer.{LoadAnswer}
+use Rattle.outside.specs.declared.files.LoadAnswer.TheVariants as load
 use Rattle.history_rules.specs.Events.{Entry}
 use Rattle.joint_lists.specs.Stations.{IsStation}
 use Rattle.kept_lines.specs.Lines.{kept_file}
-use Rattle.kept_lines.specs.Reading.{kept_in}
+use Rattle.kept_lines.specs.declared.refusal.KeptRefusal.{KeptRefusal}
+use Rattle.kept_lines.specs.declared.refusal.KeptRefusal.TheVariants as kept
+use Rattle.kept_lines.specs.Reading.{kept_in, Refuses}
 use Rattle.printed_history.specs.declared.reading.SoFar.{SoFar}
 use Rattle.printed_history.specs.Reading.{IsSoFar, contents_in}
 use Rattle.scenario_file.specs.Reading.{Contents}
 use Rattle.script_grammar.specs.Names.{is_correct, who_of}
-use Rattle.station_files.specs.WholeLines.{whole_lines}
+use Rattle.station_files.specs.Held.{Held, RecoverGives, without_torn}
+use Rattle.station_files.specs.WholeLines.{before_lines, whole_lines}
 use Rattle.world_rules.specs.Scenarios.{actors_in}
 use Rattle.stations.specs.declared.station.Station.{Station}
+use Rattle.std.specs.declared.alloc.Global.{Global}
+use Rattle.std.specs.declared.vec.Vec.{Vec}
+use Rattle.stations.specs.declared.beginning.BeginRefusal.{BeginRefusal}
+use Rattle.stations.specs.declared.beginning.BeginRefusal.TheVariants as refusal
+use Rattle.stations.specs.Beginning.{BeginsWith, HasItsLines, HoldsAll, IsHeldWhole, TellsWant, not_loaded, not_read}
 use Rattle.stations.specs.Station.{IsReady, list_of}
 use Rattle.stations.specs.Taken.{AreTaken}
 use Rattle.stations.proofs.Reading.{text_is}
@@ -45,3 +57,119 @@ begun_ready c actor so_far text s kept room hand same station there correct far 
       ∙ ap (λ (x : SoFar). length (kept_file (contents_in x) x.history)) (sym far);
   room = omega (arith, size, room);
 }
+
+-- what its file holds then is all that is kept of it
+holds_whole : (c : Contents) (list : List Entry) (before after : Option Held) → HoldsAll c list before after →
+    IsHeldWhole c list after
+holds_whole c list before None holds = tt
+holds_whole c list None (Some now) holds = absurd (none holds)
+  where
+    none : Some now ≡ None → ⊥
+    none e = cc
+holds_whole c list (Some held) (Some now) holds = holds
+
+pub begun_whole : (c : Contents) (so_far : SoFar) (s : Station) (before after : Option Held) →
+    HoldsAll c so_far.history before after → contents_in so_far ≡ c → s.so_far ≡ so_far →
+    IsHeldWhole (contents_in s.so_far) (list_of s) after
+begun_whole c so_far s before after holds same far =
+    subst (λ (x : SoFar). IsHeldWhole (contents_in x) x.history after) (sym far)
+    (subst (λ (k : Contents). IsHeldWhole k so_far.history after) (sym same)
+    (holds_whole c so_far.history before after holds))
+
+-- where the file couldn't be loaded
+pub loaded_so : (c : Contents) (actor : ℕ) (before after : Option Held) (e : LoadAnswer) →
+    RecoverGives before 4294967295 (Err e) after → IfSome before (λ h. BeginsWith c actor h.bytes (Err (not_loaded e)))
+loaded_so c actor None after e gives = tt
+loaded_so c actor (Some h) after load.Want gives = tt
+loaded_so c actor (Some h) after load.Failed gives = tt
+loaded_so c actor (Some h) after load.TooLong gives =
+    let long : 2 ^ 32 ≤ length h.bytes = omega (arith, gives.0) in
+    long
+
+pub loaded_wants : (e : LoadAnswer) → TellsWant (not_loaded e)
+loaded_wants load.Want = tt
+loaded_wants load.Failed = tt
+loaded_wants load.TooLong = tt
+
+-- where its lines aren't a station's
+pub refused_so : (c : Contents) (actor : ℕ) (bytes : List ℕ) (e : KeptRefusal) →
+    Refuses e (kept_in c actor (whole_lines bytes)) → BeginsWith c actor bytes (Err (not_read e))
+refused_so c actor bytes (kept.BadLine line) refused = refused
+refused_so c actor bytes (kept.NotLegal stamp) refused = refused
+refused_so c actor bytes (kept.OtherWords stamp) refused = refused
+refused_so c actor bytes kept.Want refused = tt
+
+pub refused_whole : (c : Contents) (actor room : ℕ) (before after : Option Held) (text : Vec ℕ Global) (bytes : List ℕ)
+    (e : KeptRefusal) → RecoverGives before room (Ok text) after → bytes ≡ text.items →
+    Refuses e (kept_in c actor bytes) → IfSome before (λ h. BeginsWith c actor h.bytes (Err (not_read e)))
+refused_whole c actor room None after text bytes e gives same refused = tt
+refused_whole c actor room (Some h) after text bytes e gives same refused =
+    refused_so c actor h.bytes e (subst (λ (bs : List ℕ). Refuses e (kept_in c actor bs)) (same ∙ gives.0) refused)
+
+-- a fault of the file is told as one, and nothing else is
+pub same_refusal : (x y : BeginRefusal) (r : Result Station BeginRefusal) → r ≡ Err x → r ≡ Err y → x ≡ y
+same_refusal x y r one other = cc
+
+pub loaded_failed : (e : LoadAnswer) → not_loaded e ≡ refusal.NotLoaded load.Failed → e ≡ load.Failed
+loaded_failed load.Failed is = refl
+loaded_failed load.Want is = absurd (cc)
+loaded_failed load.TooLong is = absurd (cc)
+
+pub read_failed : (e : KeptRefusal) → not_read e ≡ refusal.NotLoaded load.Failed → ⊥
+read_failed (kept.BadLine line) is = cc
+read_failed (kept.NotLegal stamp) is = cc
+read_failed (kept.OtherWords stamp) is = cc
+read_failed kept.Want is = cc
+
+pub refused_wants : (e : KeptRefusal) → TellsWant (not_read e)
+refused_wants (kept.BadLine line) = tt
+refused_wants (kept.NotLegal stamp) = tt
+refused_wants (kept.OtherWords stamp) = tt
+refused_wants kept.Want = tt
+
+-- whole lines have no torn line behind them
+lines_of_lines : (b : ℕ) (lines : List ℕ) → whole_lines lines ≡ lines →
+    whole_lines (before_lines b lines) ≡ before_lines b lines
+lines_of_lines b [] same = by (b == 10) refl
+  where
+    by : (ends : Bool) → (b == 10) ≡ ends → whole_lines (before_lines b []) ≡ before_lines b []
+    by true is =
+        subst (λ (t : Bool). whole_lines (if t then b ∷ [] else []) ≡ (if t then b ∷ [] else [])) (sym is)
+        (ap (λ (t : Bool). if t then b ∷ [] else []) is)
+    by false is =
+        subst (λ (t : Bool). whole_lines (if t then b ∷ [] else []) ≡ (if t then b ∷ [] else [])) (sym is) refl
+lines_of_lines b (x ∷ more) same = ap (before_lines b) same
+
+lines_stay : (bytes : List ℕ) → whole_lines (whole_lines bytes) ≡ whole_lines bytes
+lines_stay [] = refl
+lines_stay (b ∷ rest) = lines_of_lines b (whole_lines rest) (lines_stay rest)
+
+-- a file that wasn't recovered has its lines still
+pub unloaded_lines : (room : ℕ) (before after : Option Held) (e : LoadAnswer) → RecoverGives before room (Err e) after →
+    HasItsLines before after
+unloaded_lines room None after e gives = gives
+unloaded_lines room (Some h) None load.Want gives = absurd (cc)
+unloaded_lines room (Some h) None load.TooLong gives = absurd (cc)
+unloaded_lines room (Some h) None load.Failed (inl same) = absurd (cc)
+unloaded_lines room (Some h) None load.Failed (inr cut) = absurd (cc)
+unloaded_lines room (Some h) (Some now) load.Want gives =
+    let its : now ≡ h = cc in
+    ap (λ (x : Held). whole_lines x.bytes) its
+unloaded_lines room (Some h) (Some now) load.TooLong gives =
+    let its : now ≡ h = cc in
+    ap (λ (x : Held). whole_lines x.bytes) its
+unloaded_lines room (Some h) (Some now) load.Failed (inl same) =
+    let its : now ≡ h = cc in
+    ap (λ (x : Held). whole_lines x.bytes) its
+unloaded_lines room (Some h) (Some now) load.Failed (inr cut) =
+    let its : now ≡ without_torn h = cc in
+    ap (λ (x : Held). whole_lines x.bytes) its ∙ lines_stay h.bytes
+
+-- and so has one that was
+pub loaded_lines : (room : ℕ) (before after : Option Held) (text : Vec ℕ Global) → RecoverGives before room (Ok text) after →
+    HasItsLines before after
+loaded_lines room None after text gives = gives
+loaded_lines room (Some h) None text gives = absurd (cc)
+loaded_lines room (Some h) (Some now) text gives =
+    let its : now ≡ record { bytes = whole_lines h.bytes; durable = length (whole_lines h.bytes) } = cc in
+    ap (λ (x : Held). whole_lines x.bytes) its ∙ lines_stay h.bytes

@@ -1,6 +1,7 @@
 -- A station that answers goes on.
 use Rattle.std.proofs.Common.{◌≡◌, ℕ, ◌≤◌, Bool, true, false, List, [], ◌∷◌, ◌++◌, Option, Some, None, IfSome, length}
-use Rattle.std.proofs.Common.{take, append_assoc, append-nil, refl, sym, ◌∙◌, ap, subst, arith}
+use Rattle.std.proofs.Common.{◌+◌, ◌<◌, ◌^◌, take, append_assoc, append-nil, refl, sym, ◌∙◌, ap, subst, arith, inl, inr}
+use Rattle.std.proofs.lemmas.List.{length-append}
 use Rattle.std.specs.Option.{option_to_list}
 use Rattle.outside.specs.Piece.{with_piece as put_behind}
 use Rattle.scenario_file.specs.Reading.{Contents}
@@ -14,15 +15,17 @@ use Rattle.station_files.specs.Held.{Held}
 use Rattle.station_files.specs.Input.{ComesOf}
 use Rattle.station_lives.specs.Saying.{SaidBy, nothing}
 use Rattle.station_lives.proofs.Saying.{said_more, said_after}
-use Rattle.station_rules.specs.Answers.{Asked, Outcome, Work, answer, after_asked}
+use Rattle.station_rules.specs.Answers.{Asked, Start, Outcome, Work, answer, after_asked}
 use Rattle.station_rules.specs.Laws.{AnswerIsSaid}
 use Rattle.stations.specs.declared.station.Station.{Station}
 use Rattle.stations.specs.Asking.{AskedOf, input_asked}
 use Rattle.stations.specs.Beginning.{IsHeldWhole}
-use Rattle.stations.specs.Going.{after_each, Origin, origin, work_of, came_asked, AnswersIf, EndsAt, Goes, KeepsTo, IsGoing}
-use Rattle.stations.specs.Station.{IsReady, HasAnswered, list_of, answer_of}
+use Rattle.plain_lists.specs.Lists.{Begins}
+use Rattle.stations.specs.Going.{after_each, Origin, origin, asked_of_life, work_of, came_asked, AnswersIf, EndsAt, Goes}
+use Rattle.stations.specs.Going.{KeepsTo, IsGoing, IsFull, Overfills}
+use Rattle.stations.specs.Station.{IsReady, HasAnswered, list_after, list_of, answer_of}
 use Rattle.stations.proofs.Coming.{came_next}
-use Rattle.stations.proofs.Kept.{kept_behind}
+use Rattle.stations.proofs.Kept.{begins_all, kept_behind}
 
 -- work, by its parts
 abbrev pub made : List Entry → List ℕ → Work
@@ -47,7 +50,7 @@ put_nothing : (told : Option (List ℕ)) → told ≡ put_behind told []
 put_nothing None = refl
 put_nothing (Some bytes) = ap Some (sym (append-nil bytes))
 
--- before the first line
+-- before it starts
 pub first_going : (s : Station) (held : Option Held) (told : Option (List ℕ)) → IsReady s →
     IsHeldWhole (contents_in s.so_far) (list_of s) held → IsGoing (origin s held told) [] s none_waits held told
 first_going s held told ready whole = record {
@@ -58,6 +61,7 @@ first_going s held told ready whole = record {
   kept = [];
   fresh = [];
   out = [];
+  read = begins_all (list_of s);
   list = sym (append-nil (list_of s ++ []) ∙ append-nil (list_of s));
   work = refl;
   lines = refl;
@@ -92,6 +96,7 @@ one_going o asked last s new waits after held put g a = record {
   kept = g.kept;
   fresh = g.fresh ++ its.entries;
   out = g.out;
+  read = g.read;
   list = a.list ∙ ap (λ (es : List Entry). es ++ its.entries) g.list
       ∙ append_assoc (g.safe ++ g.kept) g.fresh its.entries;
   work = each_more o.contents o.actor (made o.list []) asked last
@@ -130,6 +135,14 @@ one_going o asked last s new waits after held put g a = record {
     more : SaidBy (contents_in s.so_far) [] its.told → SaidBy o.contents g.safe its.told
     more said = said_more g.safe (subst (λ (c : Contents). SaidBy c [] its.told) g.contents said)
 
+-- it has started
+pub started_going : (s new : Station) (waits after : Waiting) (held : Option Held) (told : Option (List ℕ)) →
+    IsReady s → IsHeldWhole (contents_in s.so_far) (list_of s) held → waits ≡ none_waits →
+    HasAnswered s Start waits new after → IsGoing (origin s held told) (Start ∷ []) new after held told
+started_going s new waits after held told ready whole none answered =
+    one_going (origin s held told) [] Start s new none_waits after held told (first_going s held told ready whole)
+    (subst (λ (w : Waiting). HasAnswered s Start w new after) none answered)
+
 -- whatever is next
 pub next_going : (o : Origin) (asked : List Asked) (next : Option Asked) (s new : Station) (waits after : Waiting)
     (held : Option Held) (put : Option (List ℕ)) → IsGoing o asked s waits held put →
@@ -159,14 +172,30 @@ unfolding input_asked
 input_none room = refl
 
 pub all_asked : (room : ℕ) (first mid left : Option (List ℕ)) (asked more : List Asked) → AskedOf room first asked mid →
-    AskedOf room mid more left → EndsAt mid left → IfSome first (λ bytes. (asked ++ more) ≡ input_asked room bytes)
+    AskedOf room mid more left → EndsAt mid left →
+    IfSome first (λ bytes. (Start ∷ (asked ++ more)) ≡ asked_of_life room bytes)
 all_asked room None mid left asked more before next end = tt
 all_asked room (Some bytes) None left asked more before next end = absurd before
 all_asked room (Some bytes) (Some rest) None asked more before next end = absurd next
 all_asked room (Some bytes) (Some rest) (Some last) asked more before next end =
-    sym (append-nil (asked ++ more))
+    ap (λ (xs : List Asked). Start ∷ xs)
+    (sym (append-nil (asked ++ more))
     ∙ ap (λ (xs : List Asked). (asked ++ more) ++ xs) (sym (ap (input_asked room) end ∙ input_none room))
-    ∙ sym (asked_more room (Some bytes) (Some rest) (Some last) asked more before next)
+    ∙ sym (asked_more room (Some bytes) (Some rest) (Some last) asked more before next))
+
+-- what was asked so far is a beginning of all
+pub asked_first : (room : ℕ) (first : Option (List ℕ)) → IfSome first (λ bytes. Begins [] (asked_of_life room bytes))
+asked_first room None = tt
+asked_first room (Some bytes) = record { rest = asked_of_life room bytes; same = refl }
+
+pub asked_begins : (room : ℕ) (first left : Option (List ℕ)) (asked : List Asked) → AskedOf room first asked left →
+    IfSome first (λ bytes. Begins (Start ∷ asked) (asked_of_life room bytes))
+asked_begins room None left asked next = tt
+asked_begins room (Some bytes) None asked next = absurd next
+asked_begins room (Some bytes) (Some rest) asked next = record {
+  rest = input_asked room rest;
+  same = ap (λ (xs : List Asked). Start ∷ xs) next;
+}
 
 -- at the end of an input nothing waits
 ends_so : (room : ℕ) (before left : Option (List ℕ)) (c : Came) → ComesOf room before c left → came_asked c ≡ None →
@@ -182,11 +211,82 @@ ends_so room (Some bytes) (Some rest) came.End comes none = comes.1
 pub goes_so : (room : ℕ) (before left : Option (List ℕ)) (c : Came) (ask : Option Asked) (s new : Station)
     (waits after : Waiting) (is_ended : Bool) → ComesOf room before c left → ask ≡ came_asked c →
     AnswersIf s ask waits new after → (is_ended ≡ true → ask ≡ None) →
-    Goes room before s waits is_ended left new after
-goes_so room before left c ask s new waits after is_ended comes same answers ended = record {
+    (is_ended ≡ false → 0 < length (option_to_list ask)) → Goes room before s waits is_ended left new after
+goes_so room before left c ask s new waits after is_ended comes same answers ended one = record {
   asked = ask;
   next = subst (λ (o : Option Asked). AskedOf room before (option_to_list o) left) (sym same)
       (came_next room before left c comes);
   answered = answers;
   ended = λ is. ends_so room before left c comes (sym same ∙ ended is);
+  one = one;
 }
+
+-- what came has no room in the file
+pub overfills_so : (room : ℕ) (before left : Option (List ℕ)) (c : Came) (asked : Asked) (s : Station) →
+    ComesOf room before c left → Some asked ≡ came_asked c →
+    2 ^ 32 ≤ length (kept_file (contents_in s.so_far) (list_after s asked)) → Overfills room before s left
+overfills_so room before left c asked s comes same over = record {
+  asked = asked;
+  next = subst (λ (o : Option Asked). AskedOf room before (option_to_list o) left) (sym same)
+      (came_next room before left c comes);
+  over = over;
+}
+
+-- the entries after one more is answered
+list_next : (o : Origin) (asked : List Asked) (last : Asked) (s : Station) (waits : Waiting) (held : Option Held)
+    (put : Option (List ℕ)) → IsGoing o asked s waits held put →
+    (work_of o (asked ++ last ∷ [])).list ≡ list_after s last
+list_next o asked last s waits held put g =
+    ap (λ (w : Work). w.list)
+    (each_more o.contents o.actor (made o.list []) asked last
+    ∙ ap (λ (w : Work). after_asked o.contents o.actor w last) g.work)
+    ∙ (λ i. list_of s ++ (answer (sym g.contents i) (sym g.actor i) (list_of s) last).entries)
+
+full_kept : (o : Origin) (asked : List Asked) (last : Asked) (s : Station) (waits : Waiting) (held : Option Held)
+    (put : Option (List ℕ)) → IsGoing o asked s waits held put →
+    2 ^ 32 ≤ length (kept_file (contents_in s.so_far) (list_after s last)) →
+    2 ^ 32 ≤ length (kept_file o.contents (work_of o (asked ++ last ∷ [])).list)
+full_kept o asked last s waits held put g over =
+    subst (λ (n : ℕ). 2 ^ 32 ≤ n)
+    (λ i. length (kept_file (g.contents i) (sym (list_next o asked last s waits held put g) i))) over
+
+-- full as it starts
+pub full_first : (room : ℕ) (waiting : Option (List ℕ)) (s : Station) (held : Option Held) (told : Option (List ℕ)) →
+    IsReady s → IsHeldWhole (contents_in s.so_far) (list_of s) held →
+    2 ^ 32 ≤ length (kept_file (contents_in s.so_far) (list_after s Start)) → IsFull (origin s held told) room waiting
+full_first room waiting s held told ready whole over = record {
+  asked = Start ∷ [];
+  came = asked_begins room waiting waiting [] (none_asked room waiting);
+  much = inl (full_kept (origin s held told) [] Start s none_waits held told (first_going s held told ready whole) over);
+}
+
+-- full as a line came
+pub full_next : (room : ℕ) (o : Origin) (first mid left : Option (List ℕ)) (asked : List Asked) (s : Station)
+    (waits : Waiting) (held : Option Held) (put : Option (List ℕ)) → IsGoing o (Start ∷ asked) s waits held put →
+    AskedOf room first asked mid → Overfills room mid s left → IsFull o room first
+full_next room o first mid left asked s waits held put g so_far full = record {
+  asked = Start ∷ (asked ++ full.asked ∷ []);
+  came =
+      asked_begins room first left (asked ++ full.asked ∷ [])
+      (asked_more room first mid left asked (full.asked ∷ []) so_far full.next);
+  much = inl (full_kept o (Start ∷ asked) full.asked s waits held put g full.over);
+}
+
+-- as often as is counted
+pub full_count : (room : ℕ) (o : Origin) (first mid : Option (List ℕ)) (asked : List Asked) →
+    AskedOf room first asked mid → 18446744073709551615 ≤ length asked → IsFull o room first
+full_count room o first mid asked so_far many =
+    let all : 2 ^ 64 ≤ length (Start ∷ asked) = omega (arith, many) in
+    record {
+      asked = Start ∷ asked;
+      came = asked_begins room first mid asked so_far;
+      much = inr all;
+    }
+
+-- one more was asked
+pub count_more : (turn : ℕ) (asked : List Asked) (next : Option Asked) → turn ≤ length asked →
+    0 < length (option_to_list next) → turn + 1 ≤ length (asked ++ option_to_list next)
+count_more turn asked next many one =
+    let long : length (asked ++ option_to_list next) ≡ length asked + length (option_to_list next) =
+    length-append asked (option_to_list next) in
+    omega (arith, many, one, long)

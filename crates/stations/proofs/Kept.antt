@@ -44,6 +44,12 @@ begins_all xs = record { rest = []; same = sym (append-nil xs) }
 pub begins_front : {X : Type 0} (xs ys : List X) → Begins xs (xs ++ ys)
 begins_front xs ys = record { rest = ys; same = refl }
 
+pub begins_more : {X : Type 0} (xs ys zs : List X) → Begins xs ys → Begins xs (ys ++ zs)
+begins_more {X} xs ys zs begins = record {
+  rest = begins.rest ++ zs;
+  same = ap (λ (us : List X). us ++ zs) begins.same ∙ append_assoc xs begins.rest zs;
+}
+
 -- a beginning of what is behind
 pub begins_behind : {X : Type 0} (xs ys : List X) (count : ℕ) → Begins (xs ++ take count ys) (xs ++ ys)
 begins_behind {X} xs ys count = record {

@@ -1,6 +1,7 @@
 mod Kept
 mod Naming
 mod Telling
+mod Noted
 mod Taking
 mod Standing
 mod Since

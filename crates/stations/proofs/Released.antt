@@ -18,9 +18,9 @@ use Rattle.station_lives.proofs.Saying.{said_more, said_after}
 use Rattle.station_rules.specs.Answers.{Asked, Work}
 use Rattle.station_rules.specs.Laws.{AnswerIsSaid}
 use Rattle.stations.specs.declared.station.Station.{Station}
-use Rattle.stations.specs.Going.{Origin, work_of, IsKeptOf, KeepsLife, HasLived, KeepsAll, KeepsTo, IsGoing}
+use Rattle.stations.specs.Going.{Origin, work_of, IsKeptOf, KeepsLife, IsLifeOf, KeepsAll, KeepsTo, IsGoing}
 use Rattle.stations.specs.Station.{list_of}
-use Rattle.stations.proofs.Kept.{kept_more, begins_all, begins_front, begins_behind, begins_durable, first_are}
+use Rattle.stations.proofs.Kept.{kept_more, begins_all, begins_front, begins_more, begins_behind, begins_durable, first_are}
 use Rattle.stations.proofs.Going.{each_said, made}
 
 -- a life of which the first entries are durable
@@ -29,17 +29,17 @@ life_with safe more out = record { list = safe ++ more; durable = length safe; o
 
 -- what it said stands by these
 lived_so : (o : Origin) (asked : List Asked) (safe more : List Entry) (out behind : List ℕ) (after : Option Held)
-    (put : Option (List ℕ)) → IsStation o.contents o.actor (safe ++ more) →
+    (put : Option (List ℕ)) → Begins o.list safe → IsStation o.contents o.actor (safe ++ more) →
     work_of o asked ≡ record { list = safe ++ more; told = out ++ behind } → BeginsToSay o.contents safe out →
-    KeepsLife o.contents (life_with safe more out) o.held after → put ≡ put_behind o.told out → HasLived o after put
-lived_so o asked safe more out behind after put station work said file is = record {
-  asked = asked;
+    KeepsLife o.contents (life_with safe more out) o.held after → put ≡ put_behind o.told out → IsLifeOf o asked after put
+lived_so o asked safe more out behind after put read station work said file is = record {
   life = life_with safe more out;
   is = record {
     station = station;
     said = subst (λ (es : List Entry). BeginsToSay o.contents es out) (sym (first_are safe more)) said;
   };
   list = sym (ap (λ (w : Work). w.list) work);
+  read = subst (Begins o.list) (sym (first_are safe more)) read;
   said = subst (Begins out) (sym (ap (λ (w : Work). w.told) work)) (begins_front out behind);
   file = file;
   output = is;
@@ -79,6 +79,7 @@ begun_so c safe kept fresh out front lines k are begins is durable =
 -- What is known of a station that goes on, with its lists apart.
 record Apart (o : Origin) (asked : List Asked) (waits : Waiting) (held : Option Held) (put : Option (List ℕ))
     (safe kept fresh : List Entry) (out : List ℕ) : Type 0 where
+  read : Begins o.list safe
   station : IsStation o.contents o.actor (safe ++ (kept ++ fresh))
   work : work_of o asked ≡ record { list = safe ++ (kept ++ fresh); told = out ++ waits.out }
   lines : waits.lines ≡ kept_from o.contents (safe ++ kept) fresh
@@ -91,6 +92,7 @@ apart : (o : Origin) (asked : List Asked) (s : Station) (waits : Waiting) (held 
     (put : Option (List ℕ)) (g : IsGoing o asked s waits held put) →
     Apart o asked waits held put g.safe g.kept g.fresh g.out
 apart o asked s waits held put g = record {
+  read = g.read;
   station =
       subst (IsStation o.contents o.actor) all
       (subst (λ (a : ℕ). IsStation o.contents a (list_of s)) g.actor
@@ -160,9 +162,9 @@ settled_file o asked waits held after put safe kept fresh out said a is = at o.h
 -- it said nothing more
 silent_life : (o : Origin) (asked : List Asked) (waits : Waiting) (held after : Option Held) (put : Option (List ℕ))
     (safe kept fresh : List Entry) (out front : List ℕ) → Apart o asked waits held put safe kept fresh out →
-    Begins front waits.lines → after ≡ with_piece held front → HasLived o after put
+    Begins front waits.lines → after ≡ with_piece held front → IsLifeOf o asked after put
 silent_life o asked waits held after put safe kept fresh out front a begins is =
-    lived_so o asked safe (kept ++ fresh) out waits.out after put a.station a.work
+    lived_so o asked safe (kept ++ fresh) out waits.out after put a.read a.station a.work
     record { whole = out; said = a.said; begins = begins_all out }
     (begun_file o asked waits held after put safe kept fresh out out front a begins is) a.output
 
@@ -172,7 +174,7 @@ unchanged (Some h) = ap Some (λ i. record { bytes = sym (append-nil h.bytes) i;
 
 -- a station as it goes on, were it to stop
 pub is_life : (o : Origin) (asked : List Asked) (s : Station) (waits : Waiting) (held : Option Held)
-    (put : Option (List ℕ)) → IsGoing o asked s waits held put → HasLived o held put
+    (put : Option (List ℕ)) → IsGoing o asked s waits held put → IsLifeOf o asked held put
 is_life o asked s waits held put g =
     silent_life o asked waits held held put g.safe g.kept g.fresh g.out [] (apart o asked s waits held put g)
     record { rest = waits.lines; same = refl } (unchanged held)
@@ -195,7 +197,7 @@ put_more (Some bytes) put after out piece is more =
 loud_life : AnswerIsSaid → (o : Origin) (asked : List Asked) (waits : Waiting) (held after : Option Held)
     (put then : Option (List ℕ)) (safe kept fresh : List Entry) (out piece rest : List ℕ) →
     Apart o asked waits held put safe kept fresh out → waits.out ≡ piece ++ rest →
-    after ≡ kept_with held waits.lines waits.has_words → then ≡ put_behind put piece → HasLived o after then
+    after ≡ kept_with held waits.lines waits.has_words → then ≡ put_behind put piece → IsLifeOf o asked after then
 loud_life law o asked waits held after put then safe kept fresh out piece rest a cut is more = by waits.has_words refl
   where
     all : List Entry
@@ -211,11 +213,11 @@ loud_life law o asked waits held after put then safe kept fresh out piece rest a
     work list same =
         a.work ∙ (λ i. made (sym same i) (begins.same i))
 
-    by : (b : Bool) → waits.has_words ≡ b → HasLived o after then
+    by : (b : Bool) → waits.has_words ≡ b → IsLifeOf o asked after then
     by true words =
         let settled : after ≡ all_durable (with_piece held waits.lines) =
         is ∙ ap (kept_with held waits.lines) words in
-        lived_so o asked all [] (out ++ piece) rest after then
+        lived_so o asked all [] (out ++ piece) rest after then (begins_more o.list safe (kept ++ fresh) a.read)
         (subst (IsStation o.contents o.actor) (sym (append-nil all)) a.station)
         (work (all ++ []) (append-nil all))
         record {
@@ -227,7 +229,7 @@ loud_life law o asked waits held after put then safe kept fresh out piece rest a
         (put_more o.told put then out piece a.output more)
     by false quiet =
         let added : after ≡ with_piece held waits.lines = is ∙ ap (kept_with held waits.lines) quiet in
-        lived_so o asked safe (kept ++ fresh) (out ++ piece) rest after then a.station (work all refl)
+        lived_so o asked safe (kept ++ fresh) (out ++ piece) rest after then a.read a.station (work all refl)
         record {
           whole = out ++ waits.out;
           said = said_after out a.said (a.notes quiet);
@@ -240,19 +242,19 @@ loud_life law o asked waits held after put then safe kept fresh out piece rest a
 -- a station that couldn't release what waits
 pub refused_life : AnswerIsSaid → (o : Origin) (asked : List Asked) (s : Station) (waits : Waiting)
     (held after : Option Held) (put then : Option (List ℕ)) (e : ReleaseAnswer) → IsGoing o asked s waits held put →
-    Releases waits held put (Err e) after then → HasLived o after then
+    Releases waits held put (Err e) after then → IsLifeOf o asked after then
 refused_life law o asked s waits held after put then e g gives = by e gives
   where
     a : Apart o asked waits held put g.safe g.kept g.fresh g.out
     a = apart o asked s waits held put g
 
-    silent : then ≡ put → HasBegun held waits.lines after → HasLived o after then
+    silent : then ≡ put → HasBegun held waits.lines after → IsLifeOf o asked after then
     silent same begun =
-        subst (HasLived o after) (sym same)
+        subst (IsLifeOf o asked after) (sym same)
         (silent_life o asked waits held after put g.safe g.kept g.fresh g.out (take begun.0 waits.lines) a
         (begins_behind [] waits.lines begun.0) begun.1)
 
-    kept : then ≡ put → after ≡ kept_with held waits.lines waits.has_words → HasLived o after then
+    kept : then ≡ put → after ≡ kept_with held waits.lines waits.has_words → IsLifeOf o asked after then
     kept same is =
         loud_life law o asked waits held after put then g.safe g.kept g.fresh g.out [] waits.out a refl is
         (same ∙ nothing_more put)
@@ -261,7 +263,7 @@ refused_life law o asked s waits held after put then e g gives = by e gives
         nothing_more None = refl
         nothing_more (Some bytes) = ap Some (sym (append-nil bytes))
 
-    by : (r : ReleaseAnswer) → Releases waits held put (Err r) after then → HasLived o after then
+    by : (r : ReleaseAnswer) → Releases waits held put (Err r) after then → IsLifeOf o asked after then
     by release.NotKept r = silent r.1 r.0
     by release.NotPut r =
         loud_life law o asked waits held after put then g.safe g.kept g.fresh g.out (take r.1.0 waits.out)
@@ -328,6 +330,7 @@ released law o asked s waits held after put then g is more = by waits.has_words 
       kept = [];
       fresh = [];
       out = g.out ++ waits.out;
+      read = subst (Begins o.list) (sym all) (begins_more o.list g.safe (g.kept ++ g.fresh) g.read);
       list = sym (append-nil (list_of s ++ []) ∙ append-nil (list_of s));
       work = work;
       lines = refl;
@@ -344,6 +347,7 @@ released law o asked s waits held after put then g is more = by waits.has_words 
       kept = g.kept ++ g.fresh;
       fresh = [];
       out = g.out ++ waits.out;
+      read = g.read;
       list = all ∙ sym (append-nil (g.safe ++ (g.kept ++ g.fresh)));
       work = work;
       lines = refl;

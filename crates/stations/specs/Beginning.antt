@@ -5,6 +5,8 @@ use Rattle.outside.specs.declared.files.LoadAnswer.TheVariants as load
 use Rattle.scenario_file.specs.Reading.{Contents}
 use Rattle.history_rules.specs.Events.{Entry}
 use Rattle.kept_lines.specs.Lines.{kept_file}
+use Rattle.kept_lines.specs.declared.refusal.KeptRefusal.{KeptRefusal}
+use Rattle.kept_lines.specs.declared.refusal.KeptRefusal.TheVariants as kept
 use Rattle.kept_lines.specs.Reading.{kept_in, Refuses}
 use Rattle.station_files.specs.Held.{Held}
 use Rattle.station_files.specs.WholeLines.{whole_lines}
@@ -16,6 +18,21 @@ use Rattle.stations.specs.declared.beginning.BeginRefusal.TheVariants as refusal
 abbrev pub begun_list : Result Station BeginRefusal → Result (List Entry) BeginRefusal
 begun_list (Ok station) = Ok station.so_far.history
 begun_list (Err e) = Err e
+
+-- why it doesn't begin, be it that memory is wanting or that the file is no station's
+abbrev pub not_loaded : LoadAnswer → BeginRefusal
+not_loaded load.Want = refusal.Want
+not_loaded other = refusal.NotLoaded other
+
+abbrev pub not_read : KeptRefusal → BeginRefusal
+not_read kept.Want = refusal.Want
+not_read other = refusal.NotRead other
+
+-- Want of memory is told as such, and as no refusal of the file.
+abbrev pub TellsWant : BeginRefusal → Type 0
+TellsWant (refusal.NotLoaded load.Want) = ⊥
+TellsWant (refusal.NotRead kept.Want) = ⊥
+TellsWant other = Unit {0}
 
 -- It begins with the entries that the file's whole lines tell, and is refused for their first fault, or where the bytes are
 -- more than are read.
@@ -36,3 +53,9 @@ abbrev pub HoldsAll : Contents → List Entry → Option Held → Option Held �
 HoldsAll c list None after = after ≡ None
 HoldsAll c list (Some held) None = ⊥
 HoldsAll c list (Some held) (Some now) = IsHeldWhole c list (Some now)
+
+-- The file has its lines still: of what it held a torn line at most is cut off.
+abbrev pub HasItsLines : Option Held → Option Held → Type 0
+HasItsLines None after = after ≡ None
+HasItsLines (Some held) None = ⊥
+HasItsLines (Some held) (Some now) = whole_lines now.bytes ≡ whole_lines held.bytes

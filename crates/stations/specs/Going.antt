@@ -1,6 +1,6 @@
 -- What a station does with all that comes, and what is known of its file and of what it said when it stops, at whatever
 -- moment and for whatever reason. (This project's own.)
-use Rattle.std.specs.Prelude.{◌≡◌, ℕ, ◌≤◌, Bool, true, false, List, [], ◌∷◌, ◌++◌, Option, Some, None, IfSome, length}
+use Rattle.std.specs.Prelude.{◌≡◌, ◌⊎◌, ◌^◌, ℕ, ◌≤◌, ◌<◌, Bool, true, false, List, [], ◌∷◌, ◌++◌, Option, Some, None, IfSome, length}
 use Rattle.std.specs.Prelude.{take}
 use Rattle.std.specs.Option.{option_to_list}
 use Rattle.plain_lists.specs.Lists.{Begins}
@@ -19,14 +19,14 @@ use Rattle.station_files.specs.Batch.{Waiting}
 use Rattle.station_files.specs.Held.{Held}
 use Rattle.station_lives.specs.Lives.{Life, kept_by, IsLife}
 use Rattle.station_lives.specs.Saying.{SaidBy}
-use Rattle.station_rules.specs.Answers.{Asked, Unclear, Work, line_asked, after_asked}
+use Rattle.station_rules.specs.Answers.{Asked, Start, Unclear, Work, line_asked, after_asked}
 use Rattle.stations.specs.declared.living.Halt.{Halt}
 use Rattle.stations.specs.declared.living.Halt.TheVariants as halt
 use Rattle.stations.specs.declared.station.Station.{Station}
 use Rattle.stations.specs.declared.station.TakeRefusal.{TakeRefusal}
 use Rattle.stations.specs.declared.station.TakeRefusal.TheVariants as refusal
 use Rattle.stations.specs.Asking.{AskedOf, input_asked}
-use Rattle.stations.specs.Station.{IsReady, HasAnswered, list_of}
+use Rattle.stations.specs.Station.{IsReady, HasAnswered, list_after, list_of}
 
 -- a station's work after it answered these in turn
 abbrev pub after_each : Contents → ℕ → Work → List Asked → Work
@@ -46,6 +46,10 @@ abbrev pub origin : Station → Option Held → Option (List ℕ) → Origin
 origin s held told =
     record { contents = contents_in s.so_far; actor = s.actor; list = list_of s; held = held; told = told }
 
+-- All that is asked of it where these bytes come: that it starts, and what they ask for.
+abbrev pub asked_of_life : ℕ → List ℕ → List Asked
+asked_of_life room bytes = Start ∷ input_asked room bytes
+
 -- its work after it answered these
 abbrev pub work_of : Origin → List Asked → Work
 work_of o asked = after_each o.contents o.actor (record { list = o.list; told = [] }) asked
@@ -63,13 +67,14 @@ KeepsLife c life None after = Unit {0}
 KeepsLife c life (Some held) None = ⊥
 KeepsLife c life (Some held) (Some now) = IsKeptOf c life now
 
--- However a station stopped, it was a life: its entries are those that it made of what was asked, it said a beginning of
--- what it was to tell, nothing of it before it was kept, and the file has what was durable.
-pub record HasLived (o : Origin) (after : Option Held) (put : Option (List ℕ)) : Type 0 where
-  pub asked : List Asked
+-- However a station stopped, it was a life of what it was asked: its entries are those that it made of that, those that it
+-- began with are durable, it said a beginning of what it was to tell, nothing of it before it was kept, and the file has what
+-- was durable.
+pub record IsLifeOf (o : Origin) (asked : List Asked) (after : Option Held) (put : Option (List ℕ)) : Type 0 where
   pub life : Life
   pub is : IsLife o.contents o.actor life
   pub list : life.list ≡ (work_of o asked).list
+  pub read : Begins o.list (kept_by life)
   pub said : Begins life.out (work_of o asked).told
   pub file : KeepsLife o.contents life o.held after
   pub output : put ≡ put_behind o.told life.out
@@ -80,11 +85,25 @@ KeepsAll c list None after = Unit {0}
 KeepsAll c list (Some held) None = ⊥
 KeepsAll c list (Some held) (Some now) = now.bytes ≡ kept_file c list
 
+-- It was asked for a beginning of what waited.
+pub record HasLived (o : Origin) (room : ℕ) (waiting : Option (List ℕ)) (after : Option Held)
+    (put : Option (List ℕ)) : Type 0 where
+  pub asked : List Asked
+  pub came : IfSome waiting (λ bytes. Begins asked (asked_of_life room bytes))
+  pub lived : IsLifeOf o asked after put
+
+-- A station is full: with the answer to the last that it was asked its file would have more bytes than are read again, or it
+-- was asked as often as is counted.
+pub record IsFull (o : Origin) (room : ℕ) (waiting : Option (List ℕ)) : Type 0 where
+  pub asked : List Asked
+  pub came : IfSome waiting (λ bytes. Begins asked (asked_of_life room bytes))
+  pub much : (2 ^ 32 ≤ length (kept_file o.contents (work_of o asked).list)) ⊎ (2 ^ 64 ≤ length asked)
+
 -- All that waited was answered, told and kept.
 pub record HasAnsweredAll (o : Origin) (room : ℕ) (waiting : Option (List ℕ)) (after : Option Held)
     (put : Option (List ℕ)) : Type 0 where
   pub asked : List Asked
-  pub all : IfSome waiting (λ bytes. asked ≡ input_asked room bytes)
+  pub all : IfSome waiting (λ bytes. asked ≡ asked_of_life room bytes)
   pub kept : KeepsAll o.contents (work_of o asked).list o.held after
   pub output : put ≡ put_behind o.told (work_of o asked).told
 
@@ -113,6 +132,13 @@ pub record Goes (room : ℕ) (waiting : Option (List ℕ)) (s : Station) (waits 
   pub next : AskedOf room waiting (option_to_list asked) left
   pub answered : AnswersIf s asked waits new after
   pub ended : is_ended ≡ true → EndsAt waiting left
+  pub one : is_ended ≡ false → 0 < length (option_to_list asked)
+
+-- with the answer to what came next the file would have more bytes than are read again
+pub record Overfills (room : ℕ) (waiting : Option (List ℕ)) (s : Station) (left : Option (List ℕ)) : Type 0 where
+  pub asked : Asked
+  pub next : AskedOf room waiting (asked ∷ []) left
+  pub over : 2 ^ 32 ≤ length (kept_file (contents_in s.so_far) (list_after s asked))
 
 -- the file has what is kept of the entries up to these, and that of the safe ones is durable
 abbrev pub KeepsTo : Contents → List Entry → List Entry → Option Held → Option Held → Type 0
@@ -132,6 +158,7 @@ pub record IsGoing (o : Origin) (asked : List Asked) (s : Station) (waits : Wait
   pub kept : List Entry
   pub fresh : List Entry
   pub out : List ℕ
+  pub read : Begins o.list safe
   pub list : list_of s ≡ (safe ++ kept) ++ fresh
   pub work : work_of o asked ≡ record { list = list_of s; told = out ++ waits.out }
   pub lines : waits.lines ≡ kept_from o.contents (safe ++ kept) fresh

@@ -8,8 +8,11 @@ use Rattle.printed_history.specs.Reading.{IsSoFar, contents_in}
 use Rattle.joint_lists.specs.Stations.{IsStation}
 use Rattle.kept_lines.specs.Lines.{kept_line, kept_from, kept_file}
 use Rattle.station_files.specs.Batch.{Waiting}
-use Rattle.station_lives.specs.Saying.{SaidBy, word_lines}
-use Rattle.station_rules.specs.Answers.{Asked, Outcome, answer}
+use Rattle.station_lives.specs.Saying.{SaidBy}
+use Rattle.station_rules.specs.Answers.{Asked, Outcome, told_at, answer}
+use Rattle.station_rules.specs.Notes.{Reached, reached}
+use Rattle.world_history.specs.Benches.{bench_in}
+use Rattle.world_history.specs.State.{BenchState}
 use Rattle.stations.specs.declared.station.Station.{Station}
 use Rattle.stations.specs.Taken.{AreTaken}
 
@@ -31,12 +34,17 @@ pub record IsReadyFor (counted : List Entry) (s : Station) : Type 0 where
 abbrev pub IsReady : Station → Type 0
 IsReady s = IsReadyFor (list_of s) s
 
--- the last of its entries isn't counted yet
-pub record IsAhead (s : Station) : Type 0 where
+-- what its actor came to
+abbrev pub bench_of : Station → BenchState
+bench_of s = bench_in (contents_in s.so_far) (list_of s) s.actor
+
+-- The last of its entries isn't counted yet. Before that its actor was so far.
+pub record IsAhead (s : Station) (since : Reached) : Type 0 where
   pub before : List Entry
   pub entry : Entry
   pub whole : list_of s ≡ before ++ entry ∷ []
   pub ready : IsReadyFor before s
+  pub since_is : since ≡ reached (bench_in (contents_in s.so_far) before s.actor)
 
 -- what a station makes of what is asked
 abbrev pub answer_of : Station → Asked → Outcome
@@ -63,13 +71,13 @@ pub record HasAnswered (old : Station) (asked : Asked) (waits : Waiting) (new : 
   pub notes : after.has_words ≡ false → (waits.has_words ≡ false)
       × SaidBy (contents_in old.so_far) [] (answer_of old asked).told
 
--- The last entry is counted: its line waits to be kept, and its words wait to be put out.
+-- The last entry is counted: its line waits to be kept, and its words and notes wait to be put out.
 pub record Enters (before : List Entry) (e : Entry) (old : Station) (waits : Waiting) (new : Station)
     (after : Waiting) : Type 0 where
   pub ready : IsReady new
   pub same : IsTheSame old new
   pub list : list_of new ≡ list_of old
   pub lines : after.lines ≡ waits.lines ++ (kept_line (contents_in old.so_far) before e ++ codes "\n")
-  pub told : after.out ≡ waits.out ++ word_lines (contents_in old.so_far) before e
+  pub told : after.out ≡ waits.out ++ told_at (contents_in old.so_far) before e
   pub notes : after.has_words ≡ false → (waits.has_words ≡ false)
-      × SaidBy (contents_in old.so_far) [] (word_lines (contents_in old.so_far) before e)
+      × SaidBy (contents_in old.so_far) [] (told_at (contents_in old.so_far) before e)

@@ -5,6 +5,7 @@
 mod asking;
 mod beginning;
 mod living;
+mod notes;
 mod station;
 mod taken;
 mod words;

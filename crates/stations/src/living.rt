@@ -1,15 +1,16 @@
 //! The life of a station: line by line it takes what comes, and what is to be said is put out once it is kept.
-ghost use Rattle.std.specs.Prelude.{◌≡◌, ◌≢◌, List, true, Err, IfOk, IfSome, OnOk, OnErr, IsErrOf};
+ghost use Rattle.std.specs.Prelude.{◌≡◌, ◌≢◌, ◌≤◌, ◌^◌, ◌∷◌, [], ℕ, length, List, Option, true, Err, IfOk, IfSome, OnOk, OnErr, IsErrOf};
 ghost use Rattle.std.specs.Option.{option_map};
 ghost use Rattle.outside.specs.Faults.{HasRisen};
 ghost use Rattle.printed_history.specs.Reading.{contents_in};
 ghost use Rattle.station_files.specs.Batch.{none_waits};
-ghost use Rattle.station_rules.specs.Answers.{Asked};
+ghost use Rattle.station_rules.specs.Answers.{Asked, Start};
 ghost use Rattle.stations.specs.declared.station.Station.{Station as StationWord};
 ghost use Rattle.stations.specs.Asking.{IsGivenAt, asked_by};
 ghost use Rattle.stations.specs.Beginning.{IsHeldWhole};
-ghost use Rattle.stations.specs.Going.{Origin, Goes, HasAnsweredAll, HasLived, IsGoing, came_asked, origin};
-ghost use Rattle.stations.specs.Station.{IsReady, list_of};
+ghost use Rattle.stations.specs.Going.{Origin, Goes, HasAnsweredAll, HasLived, IsFull, IsGoing, IsLifeOf, Overfills, came_asked, origin};
+ghost use Rattle.kept_lines.specs.Lines.{kept_file};
+ghost use Rattle.stations.specs.Station.{IsReady, list_after, list_of};
 
 use crate::asking::{Ask, line_ask};
 use crate::station::{Station, TakeRefusal};
@@ -34,7 +35,7 @@ pub enum Halt {
     /// What was kept last may have been said or not.
     #[error("output fault")]
     Output,
-    /// The file would have more bytes than are read again.
+    /// The file would have more bytes than are read again. (Or 2^64 lines came.)
     #[error("keep full")]
     Full,
     #[error("want of memory")]
@@ -95,7 +96,7 @@ impl From<ReleaseAnswer> for Halt {
     }
 }
 
-/// Lives until the input ends. Lines that came together are kept together, and their words are put out behind that. Whatever
+/// Starts, and lives until the input ends. Lines that came together are kept together, and their words are put out behind that. Whatever
 /// happens, nothing is said that isn't kept; where the input ended, all that came is answered and kept. The station is of no
 /// use afterwards.
 pub fn live<L: Lines, F: KeptFile, S: Sink>(
@@ -106,13 +107,15 @@ pub fn live<L: Lines, F: KeptFile, S: Sink>(
 ) -> Result<(), Halt>
     requires ready { IsReady station.old }
     requires held { IsHeldWhole (contents_in station.old.so_far) (list_of station.old) (F.held file.old) }
-    ensures lived { HasLived (origin station.old (F.held file.old) (S.told sink.old)) (F.held file.new) (S.told sink.new) }
+    ensures lived { HasLived (origin station.old (F.held file.old) (S.told sink.old)) MOST_LINE (L.waiting lines.old) (F.held file.new) (S.told sink.new) }
     ensures answered { OnOk result (HasAnsweredAll (origin station.old (F.held file.old) (S.told sink.old)) MOST_LINE (L.waiting lines.old) (F.held file.new) (S.told sink.new)) }
     ensures input { IsErrOf result Halt.Input → HasRisen (L.faults lines.old) (L.faults lines.new) }
     ensures keep { IsErrOf result Halt.Keep → HasRisen (F.faults file.old) (F.faults file.new) }
     ensures output { IsErrOf result Halt.Output → HasRisen (S.faults sink.old) (S.faults sink.new) }
+    ensures full { IsErrOf result Halt.Full → IsFull (origin station.old (F.held file.old) (S.told sink.old)) MOST_LINE (L.waiting lines.old) }
 {
     let mut batch = Batch::new(station.so_far.alloc);
+    start_life(station, &mut batch, file, sink)?;
     for _turn in 0..u64::MAX {
         let is_ended = take_next(station, &mut batch, lines)?;
         release_if(is_due(lines, is_ended), &mut batch, file, sink)?;
@@ -121,6 +124,29 @@ pub fn live<L: Lines, F: KeptFile, S: Sink>(
         }
     }
     Err(Halt::Full)
+}
+
+/// Starts: what it tells then, and the entry where it did nothing before, is kept and put out at once.
+fn start_life<F: KeptFile, S: Sink>(
+    station: &mut Station<'_>,
+    batch: &mut Batch,
+    file: &mut F,
+    sink: &mut S,
+) -> Result<(), Halt>
+    requires ready { IsReady station.old }
+    requires held { IsHeldWhole (contents_in station.old.so_far) (list_of station.old) (F.held file.old) }
+    requires none { batch.old ≡ none_waits }
+    ensures going { OnOk result (IsGoing (origin station.old (F.held file.old) (S.told sink.old)) (Start ∷ []) station.new batch.new (F.held file.new) (S.told sink.new)) }
+    ensures lived { (room : ℕ) (waiting : Option (List ℕ)) → HasLived (origin station.old (F.held file.old) (S.told sink.old)) room waiting (F.held file.new) (S.told sink.new) }
+    ensures counted { OnOk result ((F.faults file.new ≡ F.faults file.old) × (S.faults sink.new ≡ S.faults sink.old)) }
+    ensures keep { IsErrOf result Halt.Keep → HasRisen (F.faults file.old) (F.faults file.new) }
+    ensures output { IsErrOf result Halt.Output → HasRisen (S.faults sink.old) (S.faults sink.new) }
+    ensures others { result ≢ Err Halt.Input }
+    ensures full { IsErrOf result Halt.Full → 2 ^ 32 ≤ length (kept_file (contents_in station.old.so_far) (list_after station.old Start)) }
+{
+    station.start(batch)?;
+    release_if(true, batch, file, sink)?;
+    Ok(())
 }
 
 /// What came, as what is asked; nothing at the end.
@@ -146,6 +172,7 @@ fn take_next<L: Lines>(
     ensures counted { OnOk result (L.faults lines.new ≡ L.faults lines.old) }
     ensures input { IsErrOf result Halt.Input → HasRisen (L.faults lines.old) (L.faults lines.new) }
     ensures others { (result ≢ Err Halt.Keep) × (result ≢ Err Halt.Output) }
+    ensures full { IsErrOf result Halt.Full → Overfills MOST_LINE (L.waiting lines.old) station.old (L.waiting lines.new) }
 {
     let came = lines.next_line(MOST_LINE)?;
     match came_ask(station.so_far.alloc, came)? {
@@ -174,12 +201,12 @@ fn release_if<F: KeptFile, S: Sink>(
     ensures going { OnOk result ((o : Origin) (asked : List Asked) (s : StationWord) → IsGoing o asked s batch.old (F.held file.old) (S.told sink.old)
         → IsGoing o asked s batch.new (F.held file.new) (S.told sink.new)) }
     ensures lived { OnErr result ((o : Origin) (asked : List Asked) (s : StationWord) → IsGoing o asked s batch.old (F.held file.old) (S.told sink.old)
-        → HasLived o (F.held file.new) (S.told sink.new)) }
+        → IsLifeOf o asked (F.held file.new) (S.told sink.new)) }
     ensures emptied { OnOk result (is_due ≡ true → batch.new ≡ none_waits) }
     ensures counted { OnOk result ((F.faults file.new ≡ F.faults file.old) × (S.faults sink.new ≡ S.faults sink.old)) }
     ensures keep { IsErrOf result Halt.Keep → HasRisen (F.faults file.old) (F.faults file.new) }
     ensures output { IsErrOf result Halt.Output → HasRisen (S.faults sink.old) (S.faults sink.new) }
-    ensures others { result ≢ Err Halt.Input }
+    ensures others { (result ≢ Err Halt.Input) × (result ≢ Err Halt.Full) }
 {
     answer_is_said();
     if is_due {

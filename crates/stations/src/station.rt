@@ -1,5 +1,5 @@
 //! A station: what its actor did, and what it makes of what comes.
-ghost use Rattle.std.specs.Prelude.{◌≡◌, ◌≤◌, ◌<◌, ◌^◌, ◌++◌, ◌∷◌, [], List, true, length, map, IfOk, OnOk, IsErrOf};
+ghost use Rattle.std.specs.Prelude.{◌≡◌, ◌≤◌, ◌<◌, ◌^◌, ◌++◌, ◌∷◌, [], List, true, length, map, nat_lt, IfOk, OnOk, IsErrOf};
 ghost use Rattle.client_roles.specs.Roles.{carries_well};
 ghost use Rattle.history_rules.specs.Events.{Entry as HistoryEntry};
 ghost use Rattle.world_entries.specs.Entries.{entry_of};
@@ -8,15 +8,19 @@ ghost use Rattle.run_lines.specs.declared.event_line.EventLine.TheVariants as li
 ghost use Rattle.scenario_file.specs.Reading.{contents};
 ghost use Rattle.printed_history.specs.Reading.{contents_in};
 ghost use Rattle.station_rules.specs.Coming.{is_given, is_repeated};
-ghost use Rattle.station_rules.specs.Answers.{Given};
+ghost use Rattle.station_rules.specs.Answers.{Start, Given};
+ghost use Rattle.station_rules.specs.Notes.{begun_note, notes_since, reached};
 ghost use Rattle.station_lives.specs.Saying.{word_lines, words_since};
 ghost use Rattle.stations.specs.Asking.{IsGivenAt, asked_by};
-ghost use Rattle.stations.specs.Station.{IsReady, IsAhead, HasAnswered, Enters, list_after, list_of};
+ghost use Rattle.kept_lines.specs.Adding.{cast_in};
+ghost use Rattle.stations.specs.Marks.{reached_by};
+ghost use Rattle.stations.specs.Station.{IsReady, IsAhead, HasAnswered, Enters, bench_of, list_after, list_of};
 ghost use Rattle.stations.specs.Taken.{AreTaken};
 ghost use Rattle.stations.specs.Telling.{Tells};
 
 use crate::asking::Ask;
 use crate::beginning::MOST_KEPT;
+use crate::notes::{Marks, marks_of, note_begun, note_since};
 use crate::taken::Taken;
 use crate::words::say_frames;
 use checked_frames::RingMemory;
@@ -105,6 +109,27 @@ impl<'a> Station<'a> {
         })
     }
 
+    /// Begins to live: tells how far its actor is. Where that has done nothing yet, the start is its first entry.
+    pub(crate) fn start(&mut self, batch: &mut Batch) -> Result<(), TakeRefusal>
+        requires ready { IsReady self.old }
+        ensures answered { OnOk result (HasAnswered self.old Start batch.old self.new batch.new) }
+        ensures full { IsErrOf result TakeRefusal.Full → 2 ^ 32 ≤ length (kept_file (contents_in self.old.so_far) (list_after self.old Start)) }
+    {
+        answered_is_station();
+        self.tell_begun(batch)?;
+        if self.has_begun() {
+            return Ok(());
+        }
+        let since = self.how_far();
+        let comes = self
+            .so_far
+            .take(&mut self.memory, self.actor, EventLine::Restart)?;
+        if !comes {
+            return Ok(());
+        }
+        self.keep_last(batch, since)
+    }
+
     /// Answers what is asked: the line that is kept of the entry that it makes, if it makes one, and what is told, are added to
     /// what waits. After a refusal neither the station nor what waits is of any use.
     pub(crate) fn take(&mut self, batch: &mut Batch, ask: Ask) -> Result<(), TakeRefusal>
@@ -138,12 +163,13 @@ impl<'a> Station<'a> {
             batch.note(b"note repeated\n")?;
             return Ok(());
         }
+        let since = self.how_far();
         let comes = self.so_far.take(&mut self.memory, self.actor, line)?;
         if !comes {
             batch.note(b"note refused\n")?;
             return Ok(());
         }
-        self.keep_last(batch)
+        self.keep_last(batch, since)
     }
 
     /// Whether the frame of this line was taken before.
@@ -156,10 +182,20 @@ impl<'a> Station<'a> {
         }
     }
 
-    /// Adds the line of the last entry, which isn't counted yet, and its words to what waits.
-    fn keep_last(&mut self, batch: &mut Batch) -> Result<(), TakeRefusal>
-        requires { IsAhead self.old }
-        ensures entered { OnOk result ((ahead : IsAhead self.old) → Enters ahead.before ahead.entry self.old batch.old self.new batch.new) }
+    /// How far its actor has come.
+    fn how_far(&self) -> Marks
+        requires { IsReady self.now }
+        ensures { reached_by result ≡ reached (bench_of self.now) }
+    {
+        let bench = self.so_far.bench(self.actor);
+        marks_of(bench)
+    }
+
+    /// Adds the line of the last entry, which isn't counted yet, its words, and what its actor came to at it since it was so far,
+    /// to what waits.
+    fn keep_last(&mut self, batch: &mut Batch, since: Marks) -> Result<(), TakeRefusal>
+        requires { IsAhead self.old (reached_by since) }
+        ensures entered { OnOk result ((ahead : IsAhead self.old (reached_by since)) → Enters ahead.before ahead.entry self.old batch.old self.new batch.new) }
         ensures full { IsErrOf result TakeRefusal.Full → 2 ^ 32 ≤ length (kept_file (contents_in self.old.so_far) (list_of self.old)) }
     {
         let alloc = self.so_far.alloc;
@@ -173,7 +209,35 @@ impl<'a> Station<'a> {
         self.taken.add(alloc, self.so_far.last())?;
         self.size = size;
         self.say_at(batch, self.so_far.history.len() - 1)?;
+        self.tell_since(batch, since)?;
         Ok(())
+    }
+
+    /// Whether its actor did anything yet.
+    fn has_begun(&self) -> bool
+        ensures { result ≡ nat_lt 0 (length (list_of self.now)) }
+    {
+        self.so_far.history.len() > 0
+    }
+
+    /// Adds the note of how far its actor is to what is to be put out.
+    fn tell_begun(&self, batch: &mut Batch) -> Result<(), Want>
+        requires { IsReady self.now }
+        ensures { OnOk result (batch.new ≡ record batch.old { out = batch.old.out ++ begun_note (contents_in self.now.so_far) self.now.actor (list_of self.now) }) }
+    {
+        let bench = self.so_far.bench(self.actor);
+        let entries = self.so_far.history.len() as u64;
+        note_begun(self.so_far.alloc, batch, entries, bench.left())
+    }
+
+    /// Adds what its actor came to since it was so far to what is to be put out.
+    fn tell_since(&self, batch: &mut Batch, since: Marks) -> Result<(), Want>
+        requires { IsReady self.now }
+        ensures { OnOk result (Tells (contents_in self.now.so_far) (notes_since (cast_in self.now.so_far) (reached_by since) (bench_of self.now)) batch.old batch.new) }
+    {
+        let bench = self.so_far.bench(self.actor);
+        let cast = self.so_far.scenario.cast();
+        note_since(self.so_far.alloc, batch, cast, since, bench)
     }
 
     /// Adds the words of the entry at a place of the list to what is to be put out.

@@ -1,0 +1,15 @@
+-- Line by line.
+use Rattle.std.proofs.Common.{arith}
+use Rattle.run_lines.proofs.Parts.{lines-more-at, lines-end}
+use Rattle.station_rules.specs.Notes.{notice_note}
+use Rattle.stations.proofs.notes.put_notices.Goals as goal
+
+pub loop-place-preserved : goal.loop-place-preserved
+loop-place-preserved c =
+    lines-more-at notice_note c.loop-place.place c.args.notices.now _ _ _ _ (omega (arith, c.loop-place-test.true))
+    c.loop-place.invariant c.in_ok-put_one_notice.ensures
+
+pub returns : goal.returns
+returns c =
+    lines-end notice_note _ c.loop-place.place c.args.notices.now _ _ (omega (arith, c.loop-place-test.false))
+    c.loop-place.invariant
