@@ -149,24 +149,24 @@ fn a_master_takes_a_frame_once(rt: HostRuntime) -> Result<(), Fail> {
 
 /// Stations that are played round by round, each a life: their files, the lines that come to each next, and what they noted.
 #[derive(Drop)]
-struct Group {
+struct Fleet {
     files: Vec<Vec<u8>>,
     inputs: Vec<String>,
     notes: Vec<String>,
 }
 
-fn group(alloc: Global) -> Result<Group, Fail> {
-    let mut group = Group {
+fn new_fleet(alloc: Global) -> Result<Fleet, Fail> {
+    let mut fleet = Fleet {
         files: Vec::new(alloc),
         inputs: Vec::new(alloc),
         notes: Vec::new(alloc),
     };
     for _name in NAMES {
-        group.files.push(Vec::new(alloc))?;
-        group.inputs.push(String::new(alloc))?;
-        group.notes.push(String::new(alloc))?;
+        fleet.files.push(Vec::new(alloc))?;
+        fleet.inputs.push(String::new(alloc))?;
+        fleet.notes.push(String::new(alloc))?;
     }
-    Ok(group)
+    Ok(fleet)
 }
 
 // Gives the frame of a word to those to whom it goes.
@@ -187,7 +187,7 @@ fn post(next: &mut [String], word: &str) -> Result<(), Fail> {
 }
 
 // A life of each: it takes what was said to it in the round before, and a master ticks.
-fn play_round(alloc: Global, group: &mut Group) -> Result<(), Fail> {
+fn play_round(alloc: Global, fleet: &mut Fleet) -> Result<(), Fail> {
     let mut next = Vec::new(alloc);
     for name in NAMES {
         let tick = if name.starts_with('m') { "tick\n" } else { "" };
@@ -198,8 +198,8 @@ fn play_round(alloc: Global, group: &mut Group) -> Result<(), Fail> {
             alloc,
             GROUP,
             name,
-            group.files[place].as_slice(),
-            group.inputs[place].as_bytes(),
+            fleet.files[place].as_slice(),
+            fleet.inputs[place].as_bytes(),
             &[],
             &[],
         )?;
@@ -207,14 +207,14 @@ fn play_round(alloc: Global, group: &mut Group) -> Result<(), Fail> {
             match line.strip_prefix("say ") {
                 Some(word) => post(next.as_mut_slice(), word)?,
                 None => {
-                    group.notes[place].push_str(line)?;
-                    group.notes[place].push_str("\n")?;
+                    fleet.notes[place].push_str(line)?;
+                    fleet.notes[place].push_str("\n")?;
                 }
             }
         }
-        group.files[place] = Vec::from_slice(alloc, lived.file.as_slice())?;
+        fleet.files[place] = Vec::from_slice(alloc, lived.file.as_slice())?;
     }
-    group.inputs = next;
+    fleet.inputs = next;
     Ok(())
 }
 
@@ -222,20 +222,20 @@ fn play_round(alloc: Global, group: &mut Group) -> Result<(), Fail> {
 #[test]
 fn what_an_entry_came_to_is_noted(rt: HostRuntime) -> Result<(), Fail> {
     let alloc = rt.alloc();
-    let mut group = group(alloc)?;
-    group.inputs[4].push_str("command ack 0\n")?;
+    let mut fleet = new_fleet(alloc)?;
+    fleet.inputs[4].push_str("command ack 0\n")?;
     for _round in 0..10 {
-        play_round(alloc, &mut group)?;
+        play_round(alloc, &mut fleet)?;
     }
     for master in 0..4 {
-        let notes = group.notes[master].as_str();
+        let notes = fleet.notes[master].as_str();
         assert!(rt; notes.starts_with("note begun 0 left 32\n"));
         assert!(rt; notes.contains("\nnote executed 1 s0 1 ack 0\n"));
         assert!(rt; !notes.contains("note executed 2"));
         assert!(rt; !notes.contains("note view"));
     }
     assert!(rt;
-        group.notes[4]
+        fleet.notes[4]
             .as_str()
             .contains("\nnote notice 1 noalarm 1 0\n")
     );
