@@ -10,12 +10,6 @@ use std::test::Fail;
 const SCENARIO: &[u8] =
     b"f = 1\nseed = \"0000000000000000000000000000000000000000000000000000000000000000\"\nscreens = 1\n";
 
-// A group whose keys are quickly made.
-const GROUP: &[u8] =
-    b"f = 1\nseed = \"0000000000000000000000000000000000000000000000000000000000000000\"\nscreens = 1\nlevels = [5]\nrules = 2\n";
-
-const NAMES: [&str; 5] = ["m0", "m1", "m2", "m3", "s0"];
-
 const BEGUN: &[u8] = b"note begun 0 left 32768\n";
 
 const COMMANDS: &[u8] = b"command ack 0\ndance\npoll\nagain 0\ntorn";
@@ -38,19 +32,7 @@ fn life_of(
     failing: &[u64],
     failing_puts: &[u64],
 ) -> Result<Lived, Fail> {
-    life_in(alloc, SCENARIO, name, kept, input, failing, failing_puts)
-}
-
-fn life_in(
-    alloc: Global,
-    scenario: &[u8],
-    name: &str,
-    kept: &[u8],
-    input: &[u8],
-    failing: &[u64],
-    failing_puts: &[u64],
-) -> Result<Lived, Fail> {
-    let scenario = Scenario::read(alloc, scenario)?;
+    let scenario = Scenario::read(alloc, SCENARIO)?;
     let actor = actor_of(alloc, &scenario, name)?;
     let kept = Vec::from_slice(alloc, kept)?;
     let mut file = MemoryFile::make(alloc, kept, Vec::from_slice(alloc, failing)?, 5);
@@ -143,101 +125,6 @@ fn a_master_takes_a_frame_once(rt: HostRuntime) -> Result<(), Fail> {
     assert_eq!(rt;
         again.put.as_slice(),
         b"note begun 2 left 32767\nnote repeated\nnote repeated\nnote refused\n".as_slice()
-    );
-    Ok(())
-}
-
-/// Stations that are played round by round, each a life: their files, the lines that come to each next, and what they noted.
-#[derive(Drop)]
-struct Fleet {
-    files: Vec<Vec<u8>>,
-    inputs: Vec<String>,
-    notes: Vec<String>,
-}
-
-fn new_fleet(alloc: Global) -> Result<Fleet, Fail> {
-    let mut fleet = Fleet {
-        files: Vec::new(alloc),
-        inputs: Vec::new(alloc),
-        notes: Vec::new(alloc),
-    };
-    for _name in NAMES {
-        fleet.files.push(Vec::new(alloc))?;
-        fleet.inputs.push(String::new(alloc))?;
-        fleet.notes.push(String::new(alloc))?;
-    }
-    Ok(fleet)
-}
-
-// Gives the frame of a word to those to whom it goes.
-fn post(next: &mut [String], word: &str) -> Result<(), Fail> {
-    let Some((names, frame)) = word.split_once(' ') else {
-        return Err("no frame".into());
-    };
-    for name in names.split(',') {
-        for (place, other) in NAMES.iter().enumerate() {
-            if *other == name {
-                next[place].push_str("took frame ")?;
-                next[place].push_str(frame)?;
-                next[place].push_str("\n")?;
-            }
-        }
-    }
-    Ok(())
-}
-
-// A life of each: it takes what was said to it in the round before, and a master ticks.
-fn play_round(alloc: Global, fleet: &mut Fleet) -> Result<(), Fail> {
-    let mut next = Vec::new(alloc);
-    for name in NAMES {
-        let tick = if name.starts_with('m') { "tick\n" } else { "" };
-        next.push(String::from_str(alloc, tick)?)?;
-    }
-    for (place, name) in NAMES.iter().enumerate() {
-        let lived = life_in(
-            alloc,
-            GROUP,
-            name,
-            fleet.files[place].as_slice(),
-            fleet.inputs[place].as_bytes(),
-            &[],
-            &[],
-        )?;
-        for line in lines_of(alloc, lived.put.as_slice())? {
-            match line.strip_prefix("say ") {
-                Some(word) => post(next.as_mut_slice(), word)?,
-                None => {
-                    fleet.notes[place].push_str(line)?;
-                    fleet.notes[place].push_str("\n")?;
-                }
-            }
-        }
-        fleet.files[place] = Vec::from_slice(alloc, lived.file.as_slice())?;
-    }
-    fleet.inputs = next;
-    Ok(())
-}
-
-// By trials/reference/stations.py it takes nine rounds.
-#[test]
-fn what_an_entry_came_to_is_noted(rt: HostRuntime) -> Result<(), Fail> {
-    let alloc = rt.alloc();
-    let mut fleet = new_fleet(alloc)?;
-    fleet.inputs[4].push_str("command ack 0\n")?;
-    for _round in 0..10 {
-        play_round(alloc, &mut fleet)?;
-    }
-    for master in 0..4 {
-        let notes = fleet.notes[master].as_str();
-        assert!(rt; notes.starts_with("note begun 0 left 32\n"));
-        assert!(rt; notes.contains("\nnote executed 1 s0 1 ack 0\n"));
-        assert!(rt; !notes.contains("note executed 2"));
-        assert!(rt; !notes.contains("note view"));
-    }
-    assert!(rt;
-        fleet.notes[4]
-            .as_str()
-            .contains("\nnote notice 1 noalarm 1 0\n")
     );
     Ok(())
 }
