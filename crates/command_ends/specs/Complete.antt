@@ -1,5 +1,5 @@
 -- What a call comes to where nothing is in its way.
-use Rattle.std.specs.Prelude.{◌≡◌, ◌≤◌, ℕ, List, [], ◌∷◌, ◌++◌, Some, length}
+use Rattle.std.specs.Prelude.{◌≡◌, ◌⊎◌, ◌≤◌, ℕ, List, [], ◌∷◌, ◌++◌, Some, length}
 use Rattle.outside.specs.Faults.{HasRisen}
 use Rattle.outside.specs.Piece.{with_piece}
 use Rattle.command_ends.specs.Refusals.{status_of}
@@ -46,3 +46,17 @@ abbrev pub Completes : (List (List ℕ) → List (List ℕ) → Step → Type 0)
 Completes next call err status =
     (last : Step) (free : IsUntroubled next call last) → (end : Step) × IsAlike last end
     × next call.words free.contents end × IsDueOrWant call err status end
+
+-- Nothing is in the way of a call: the files that its words name tell what they hold, one by one as
+-- they are due, none is too long, none failed, these are the contents of the first of them, and the output didn't fail.
+pub record IsFree (next : List (List ℕ) → List (List ℕ) → Step → Type 0) (call : Call)
+    (contents : List (List ℕ)) : Type 0 where
+  pub files : Lies (next call.words) call [] contents
+  pub out : HasRisen call.out_faults_before call.out_faults_after → ⊥
+
+-- Where nothing is in its way, a call ends for want of memory, or with a step that may come of its words and files: that
+-- there is such a step is no premise. (Where a file more is due than these, that one's loading comes, and nothing is said.)
+abbrev pub EndsFreely : (List (List ℕ) → List (List ℕ) → Step → Type 0) → Call → ErrorSink → ℕ → Type 0
+EndsFreely next call err status =
+    (contents : List (List ℕ)) → IsFree next call contents → (status ≡ 7)
+    ⊎ ((end : Step) × next call.words contents end × IsDue call err status end)

@@ -2,7 +2,7 @@ mod Numbers
 mod Seats
 mod Passes
 pub mod Lengths
-mod Fitting
+pub mod Fitting
 mod Given
 mod Ends
 mod Threads

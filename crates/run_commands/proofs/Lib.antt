@@ -10,5 +10,6 @@ pub mod Merging
 pub mod Certain
 pub mod Weaker
 pub mod Headlines
+pub mod RunsThere
 pub mod Answered
 pub mod Keeping

@@ -74,8 +74,8 @@ abbrev pub Tells : Readers → Contents → List Entry → Type 0
 Tells r c history = r.history_in c (r.text_of c history) ≡ Ok (r.as_told c history)
 
 -- What holds of these: a history played from files is legal and told as it is, and without raw words nothing in it is
--- forged; a history of a run in threads is legal, and so is one that a text spells, and one that joins what
--- stations kept.
+-- forged; a history of a run in threads is legal, and there is one of whatever files are read; and one is legal that a text
+-- spells, or that joins what stations kept.
 pub record KeepsRules (r : Readers) : Type 0 where
   pub played_legal : (c : Contents) (lines : List Line) (sayings : List Saying) (history : List Entry) → IsScenario c
       → IsScriptOf c lines → AreWordsOf c sayings → r.played c lines sayings ≡ Ok history
@@ -88,6 +88,8 @@ pub record KeepsRules (r : Readers) : Type 0 where
       → r.as_told c history ≡ history
   pub run_legal : (c : Contents) (lines : List Line) (sayings : List Saying) (turns : ℕ) (history : List Entry) →
       r.may_run c lines sayings turns history → IsLegal (setup_of c) history
+  pub run_there : (c : Contents) (lines : List Line) (sayings : List Saying) (turns : ℕ) → IsScenario c → IsScriptOf c lines
+      → AreWordsOf c sayings → (history : List Entry) × r.may_run c lines sayings turns history
   pub merged_legal : (c : Contents) (kept : List (List ℕ)) (history : List Entry) → r.may_join c kept history →
       IsLegal (setup_of c) history
   pub read_legal : (c : Contents) (text : List ℕ) (history : List Entry) → IsScenario c →

@@ -9,6 +9,7 @@ use Rattle.printed_history.specs.Histories.{history_in}
 use Rattle.replica_threads.specs.Courses.{inputs_given}
 use Rattle.replica_threads.specs.Ended.{HistoriesAreLegal}
 use Rattle.printed_laws.specs.PlayLaws.{PlayedIsTold}
+use Rattle.run_laws.specs.Laws.{ScriptsHaveRuns}
 use Rattle.run_commands.specs.Readers.{KeepsRules}
 use Rattle.run_program.specs.Faults.{played_or_fault, history_or_fault}
 use Rattle.run_program.specs.Whole.{program_readers}
@@ -26,8 +27,8 @@ read_of (Ok made) history is = let same : made ≡ history = cc in ap Ok same
 read_of (Err why) history is = absurd (cc)
 
 pub keeps : ReadLinesAreOfScenario → ReadWordsAreOfScenario → plays.PlayedIsLegal →
-    plays.PlayedIsUnforged → PlayedIsTold → HistoriesAreLegal → KeepsRules program_readers
-keeps lines_read words_read legal unforged told runs = record {
+    plays.PlayedIsUnforged → PlayedIsTold → HistoriesAreLegal → ScriptsHaveRuns → KeepsRules program_readers
+keeps lines_read words_read legal unforged told runs there = record {
   played_legal = λ c lines sayings history valid script words is.
       (legal (record { scenario = c; sayings = sayings }) lines history valid
       (lines_read c script.0 lines valid script.1) (words_read c words.0 sayings valid words.1)
@@ -41,6 +42,9 @@ keeps lines_read words_read legal unforged told runs = record {
       (lines_read c script.0 lines valid script.1) (words_read c words.0 sayings valid words.1)
       (played_of _ history is);
   run_legal = λ c lines sayings turns history run. runs c (inputs_given c lines sayings) turns history run;
+  run_there = λ c lines sayings turns valid script words.
+      there c lines sayings turns (lines_read c script.0 lines valid script.1)
+      (words_read c words.0 sayings valid words.1);
   merged_legal = λ c kept history joins. joins.joint.legal;
   read_legal = λ c text history valid is. read_is_legal c text history (read_of (history_in c text) history is);
 }

@@ -8,6 +8,7 @@ use plain_lists::{Bytes, Want};
 use printed_laws::played_is_told;
 use replica_threads::laws::runs_are_legal;
 use run_commands::{Question, Runs};
+use run_laws::laws::runs_exist;
 use run_scripts::laws::{played_is_legal, played_is_unforged};
 use scenario_file::Scenario;
 use script_laws::laws::{read_lines_are_of_scenario, read_words_are_of_scenario};
@@ -112,5 +113,6 @@ impl<R: Threads + Wait + Sync> Runs for ProgramRuns<'_, R> {
         played_is_unforged();
         played_is_told();
         runs_are_legal();
+        runs_exist();
     }
 }
