@@ -15,7 +15,7 @@ import sys
 import tomllib
 
 HERE = os.path.dirname(os.path.realpath(__file__))
-MOST_BYTES = 16777216        # of a file that the program loads (`most_bytes` of crates/command_ends/specs/Calls)
+MOST_KEPT_BYTES = 4294967295     # of a file that a station keeps, and that `merge` loads (crates/command_ends/src/limits.rt)
 DEFAULTS = {
     'group': 'spire',        # what topics begin with
     'host': '127.0.0.1',     # where the broker is

@@ -11,10 +11,6 @@ use Rattle.command_ends.specs.Steps.Step.{Load, Gives, Refuses}
 use Rattle.command_ends.specs.declared.refusal.Refusal.{Refusal}
 use Rattle.command_ends.specs.declared.refusal.Refusal.TheVariants as refusal
 
--- files are loaded with this room
-abbrev pub most_bytes : ℕ
-most_bytes = 16777216
-
 -- the words, and what the files and the output tell before and after the call
 pub record Call : Type 0 where
   pub words : List (List ℕ)
@@ -46,32 +42,33 @@ abbrev pub IsContent : Option (List ℕ) → List ℕ → Type 0
 IsContent None content = Unit {0}
 IsContent (Some held) content = content ≡ held
 
--- a file that is too long, where the file tells what it holds
-abbrev pub IsTooLong : Option (List ℕ) → Type 0
-IsTooLong held = IfSome held (λ content. most_bytes < length content)
+-- a file that has more bytes than it may have, where the file tells what it holds
+abbrev pub IsTooLong : ℕ → Option (List ℕ) → Type 0
+IsTooLong most held = IfSome held (λ content. most < length content)
 
 -- After the contents loaded before, these more were loaded, one by one: each is the content of the file that was due
--- then, and isn't too long. What is due is told by the contents loaded before it.
+-- then, and has no more bytes than that may have. What is due is told by the contents loaded before it.
 abbrev pub Loaded : (List (List ℕ) → Step → Type 0) → (List ℕ → Option (List ℕ)) →
     List (List ℕ) → List (List ℕ) → Type 0
 Loaded next held before [] = Unit {0}
 Loaded next held before (content ∷ more) =
-    (name : List ℕ) × next before (Load name) × IsContent (held name) content × (length content ≤ most_bytes)
+    (name : List ℕ) × (most : ℕ) × next before (Load name most) × IsContent (held name) content × (length content ≤ most)
     × Loaded next held (before ++ content ∷ []) more
 
 -- After the contents loaded before, these were loaded, and this step came next.
 abbrev pub Comes : (List (List ℕ) → Step → Type 0) → (List ℕ → Option (List ℕ)) → List (List ℕ) → Step → Type 0
 Comes next held before step = (more : List (List ℕ)) × Loaded next held before more × next (before ++ more) step
 
--- Why there is this text, or none, after the contents loaded before. Want of memory alone is free.
+-- Why there is this text, or none, after the contents loaded before: a file that couldn't be loaded, or has more bytes than
+-- it may have, was due. Want of memory alone is free.
 abbrev pub TextCause : (List (List ℕ) → Step → Type 0) → (List ℕ → Option (List ℕ)) → (List ℕ → ℕ) → (List ℕ → ℕ)
     → List (List ℕ) → Result (Vec ℕ Global) Refusal → Type 0
 TextCause next held faults_before faults_after before (Ok text) = Comes next held before (Gives text.items)
 TextCause next held faults_before faults_after before (Err refusal.Memory) = Unit {0}
 TextCause next held faults_before faults_after before (Err (refusal.Fault name)) =
-    Comes next held before (Load name) × HasRisen (faults_before name) (faults_after name)
+    (most : ℕ) × Comes next held before (Load name most) × HasRisen (faults_before name) (faults_after name)
 TextCause next held faults_before faults_after before (Err (refusal.TooLong name)) =
-    Comes next held before (Load name) × IsTooLong (held name)
+    (most : ℕ) × Comes next held before (Load name most) × IsTooLong most (held name)
 TextCause next held faults_before faults_after before (Err refusal.Output) = ⊥
 TextCause next held faults_before faults_after before (Err why) = Comes next held before (Refuses why)
 
@@ -86,10 +83,11 @@ CauseOf next call (Ok _) =
     (text : List ℕ) × Comes (next call.words) call.held [] (Gives text)
     × (call.put_after ≡ with_piece call.put_before text)
 CauseOf next call (Err (refusal.Fault name)) =
-    Comes (next call.words) call.held [] (Load name) × HasRisen (call.faults_before name) (call.faults_after name)
-    × PutsNothing call
+    (most : ℕ) × Comes (next call.words) call.held [] (Load name most)
+    × HasRisen (call.faults_before name) (call.faults_after name) × PutsNothing call
 CauseOf next call (Err (refusal.TooLong name)) =
-    Comes (next call.words) call.held [] (Load name) × IsTooLong (call.held name) × PutsNothing call
+    (most : ℕ) × Comes (next call.words) call.held [] (Load name most) × IsTooLong most (call.held name)
+    × PutsNothing call
 CauseOf next call (Err refusal.Output) =
     (text : List ℕ) × Comes (next call.words) call.held [] (Gives text)
     × HasRisen call.out_faults_before call.out_faults_after × PutsBeginning call.put_before text call.put_after

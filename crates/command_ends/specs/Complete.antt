@@ -5,7 +5,7 @@ use Rattle.outside.specs.Piece.{with_piece}
 use Rattle.command_ends.specs.Refusals.{status_of}
 use Rattle.command_ends.specs.Steps.{Step}
 use Rattle.command_ends.specs.Steps.Step.{Load, Gives, Refuses}
-use Rattle.command_ends.specs.Calls.{Call, PutsNothing, most_bytes}
+use Rattle.command_ends.specs.Calls.{Call, PutsNothing}
 use Rattle.command_ends.specs.Ended.{ErrorSink}
 
 -- the same step, or another text
@@ -13,12 +13,14 @@ abbrev pub IsAlike : Step → Step → Type 0
 IsAlike (Gives one) (Gives other) = Unit {0}
 IsAlike one other = one ≡ other
 
--- Each file that is due tells what it holds, isn't too long, and was loaded without a fault: these are their contents.
+-- Each file that is due tells what it holds, has no more bytes than it may have, and was loaded without a fault: these are
+-- their contents.
 abbrev pub Lies : (List (List ℕ) → Step → Type 0) → Call → List (List ℕ) → List (List ℕ) → Type 0
 Lies next call before [] = Unit {0}
 Lies next call before (content ∷ more) =
-    (name : List ℕ) × next before (Load name) × (call.held name ≡ Some content) × (length content ≤ most_bytes)
-    × (HasRisen (call.faults_before name) (call.faults_after name) → ⊥) × Lies next call (before ++ content ∷ []) more
+    (name : List ℕ) × (most : ℕ) × next before (Load name most) × (call.held name ≡ Some content)
+    × (length content ≤ most) × (HasRisen (call.faults_before name) (call.faults_after name) → ⊥)
+    × Lies next call (before ++ content ∷ []) more
 
 -- The files that the words name are there, nothing failed in the call, and this is what comes of them.
 pub record IsUntroubled (next : List (List ℕ) → List (List ℕ) → Step → Type 0) (call : Call)
@@ -31,7 +33,7 @@ pub record IsUntroubled (next : List (List ℕ) → List (List ℕ) → Step →
 -- the whole text was put and nothing told to the error output; or nothing was put, and the status is that of the
 -- refusal
 abbrev pub IsDue : Call → ErrorSink → ℕ → Step → Type 0
-IsDue call err status (Load name) = Unit {0}
+IsDue call err status (Load name most) = Unit {0}
 IsDue call err status (Gives text) =
     (status ≡ 0) × (call.put_after ≡ with_piece call.put_before text) × (err.put_after ≡ err.put_before)
 IsDue call err status (Refuses why) = (status ≡ status_of why) × PutsNothing call

@@ -5,17 +5,17 @@ use Rattle.std.specs.declared.alloc.Global.{Global}
 use Rattle.outside.specs.Faults.{HasRisen}
 use Rattle.outside.specs.Piece.{with_piece}
 use Rattle.command_ends.specs.Output.{PutsBeginning}
-use Rattle.command_ends.specs.Calls.{IsContent, IsTooLong, most_bytes}
+use Rattle.command_ends.specs.Calls.{IsContent, IsTooLong}
 use Rattle.command_ends.specs.declared.refusal.Refusal.{Refusal}
 use Rattle.command_ends.specs.declared.refusal.Refusal.TheVariants as refusal
 
--- what a load of a file gives, and why
-abbrev pub LoadCause : Option (List ℕ) → ℕ → ℕ → List ℕ → Result (Vec ℕ Global) Refusal → Type 0
-LoadCause held before after name (Ok loaded) = IsContent held loaded.items × (length loaded.items ≤ most_bytes)
-LoadCause held before after name (Err (refusal.Fault named)) = (named ≡ name) × HasRisen before after
-LoadCause held before after name (Err (refusal.TooLong named)) = (named ≡ name) × IsTooLong held
-LoadCause held before after name (Err refusal.Memory) = Unit {0}
-LoadCause held before after name (Err _) = ⊥
+-- what a load of a file gives that may have so many bytes, and why
+abbrev pub LoadCause : ℕ → Option (List ℕ) → ℕ → ℕ → List ℕ → Result (Vec ℕ Global) Refusal → Type 0
+LoadCause most held before after name (Ok loaded) = IsContent held loaded.items × (length loaded.items ≤ most)
+LoadCause most held before after name (Err (refusal.Fault named)) = (named ≡ name) × HasRisen before after
+LoadCause most held before after name (Err (refusal.TooLong named)) = (named ≡ name) × IsTooLong most held
+LoadCause most held before after name (Err refusal.Memory) = Unit {0}
+LoadCause most held before after name (Err _) = ⊥
 
 -- what a text that is put leaves, and why
 abbrev pub PutCause : ℕ → ℕ → Option (List ℕ) → Option (List ℕ) → List ℕ → Result (Unit {0}) Refusal → Type 0

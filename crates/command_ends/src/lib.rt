@@ -3,11 +3,14 @@
 #![tactic(auto)]
 
 pub mod call;
+pub mod laws;
+pub mod limits;
 mod loads;
 pub mod no_words;
 mod output;
 mod refusal;
-mod report;
+pub mod report;
 
-pub use crate::loads::load;
+pub use crate::limits::{MOST_BYTES, MOST_KEPT_BYTES};
+pub use crate::loads::{load, load_kept};
 pub use crate::refusal::{KeepFault, LineFault, NoAnswer, Refusal, ScenarioFault};

@@ -68,7 +68,7 @@ pub enum Refusal {
     Usage,
     /// The file could not be loaded.
     Fault { name: Text },
-    /// The file is longer than files may be.
+    /// The file is longer than it may be.
     TooLong { name: Text },
     Scenario { fault: ScenarioFault },
     /// The script is refused, or its play is. Lines are counted from 1.

@@ -8,4 +8,5 @@ mod command_line;
 mod read;
 
 pub use crate::asked::Asked;
+pub use crate::command_line::MOST_KEEPS;
 pub use crate::read::{WordsAnswer, read_words};

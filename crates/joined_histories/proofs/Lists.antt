@@ -1,5 +1,5 @@
 -- Lists of stations stay such as files come.
-use Rattle.std.proofs.Common.{◌≡◌, ◌≤◌, ◌<◌, ◌+◌, ℕ, zero, suc, List, [], ◌∷◌, length, set, refl, sym, ◌∙◌, ap, subst, arith}
+use Rattle.std.proofs.Common.{◌≡◌, ◌≤◌, ◌<◌, ◌+◌, ◌*◌, ℕ, zero, suc, List, [], ◌∷◌, length, set, refl, sym, ◌∙◌, ap, subst, arith}
 use Rattle.std.proofs.Common.{inl, inr, ◌⊎◌, true}
 use Rattle.std.specs.Prelude.{replicate, slice_get}
 use Rattle.std.proofs.lemmas.Bool.{cases_eq}
@@ -81,11 +81,11 @@ stations_set c lists actor list are there is = record {
 -- one list more
 pub one_kept : (c : Contents) (bytes more actor : ℕ) (list : List Entry) (old new : Kept) → AreKept c bytes old →
     new.lists.items ≡ set old.lists.items actor list → new.gave.items ≡ set old.gave.items actor true →
-    actor < length old.lists.items → IsStation c actor list → length list ≤ more → AreKept c (bytes + more) new
+    actor < length old.lists.items → IsStation c actor list → length list * 72 ≤ more → AreKept c (bytes + more) new
 one_kept c bytes more actor list old new are lists gave there is short =
     let few : count (set old.lists.items actor list) ≤ count old.lists.items + length list =
     count_set old.lists.items actor list in
-    let before : count old.lists.items ≤ bytes = are.few in
+    let before : count old.lists.items * 72 ≤ bytes = are.few in
     let now : count new.lists.items ≡ count (set old.lists.items actor list) = ap count lists in
     record {
       stations = subst (AreStations c) (sym lists) (stations_set c old.lists.items actor list are.stations there is);
@@ -98,6 +98,6 @@ one_kept c bytes more actor list old new are lists gave there is short =
 pub none_more : (c : Contents) (bytes more : ℕ) (old new : Kept) → new ≡ old → AreKept c bytes old →
     AreKept c (bytes + more) new
 none_more c bytes more old new same are =
-    let few : count old.lists.items ≤ bytes = are.few in
+    let few : count old.lists.items * 72 ≤ bytes = are.few in
     subst (AreKept c (bytes + more)) (sym same)
     (record { stations = are.stations; alike = are.alike; few = omega arith })

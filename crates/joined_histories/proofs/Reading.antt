@@ -1,7 +1,9 @@
 -- Files read in turn.
 use Rattle.std.proofs.Common.{◌≡◌, ◌+◌, ◌-◌, ℕ, suc, Bool, false, List, [], ◌∷◌, Option, None, Some, Ok, Err}
 use Rattle.std.proofs.Common.{length, sym, ◌∙◌, ap, subst, arith}
+use Rattle.std.proofs.lemmas.List.Elements.{All-head, All-tail}
 use Rattle.std.specs.Prelude.{replicate, slice_get}
+use Rattle.std.specs.List.{All}
 use Rattle.scenario_file.specs.declared.actors.Cast.{Cast}
 use Rattle.scenario_file.specs.Actors.{actors_of}
 use Rattle.scenario_file.specs.Reading.{Contents, cast_of}
@@ -12,7 +14,7 @@ use Rattle.kept_lines.specs.declared.refusal.KeptRefusal.TheVariants as kept
 use Rattle.kept_lines.specs.Reading as one
 use Rattle.kept_lines.specs.Reading.{kept_in}
 use Rattle.joined_histories.specs.declared.files.Kept.{Kept}
-use Rattle.joined_histories.specs.Files.{Answered, AreKept, Given, KeepsStations, Refuses, bytes_in, files_from}
+use Rattle.joined_histories.specs.Files.{Answered, AreKept, Given, IsShort, KeepsStations, Refuses, bytes_in, files_from}
 use Rattle.joined_histories.specs.Files.{given_of, none_given, owner_in, refusal_of, with_file, with_list, with_more}
 use Rattle.joined_histories.specs.Files.{with_owner, with_read}
 use Rattle.joined_histories.proofs.Lists.{none_kept}
@@ -52,13 +54,14 @@ module _ (c : Contents) (given : Given) (file : ℕ) (bytes : List ℕ) where
 
 -- ---- All files.
 
--- What is left tells the rest of what all tell, and there are no more entries than bytes.
+-- What is left tells the rest of what all tell, each entry took a line, and each file that is left is short.
 pub record IsAmidFiles (c : Contents) (files rest : List (List ℕ)) (file : ℕ) (read : Kept) : Type 0 where
   pub left : files_from c (given_of read) file rest ≡ files_from c (none_given c) 0 files
   pub seen : ℕ
   pub are : AreKept c seen read
   pub all : seen + bytes_in rest ≡ bytes_in files
   pub place : file + length rest ≡ length files
+  pub short : All IsShort rest
 
 -- as many actors as the scenario has
 pub none_of_cast : (c : Contents) (cast : Cast) (actors : ℕ) (read : Kept) → cast ≡ cast_of c.settings c.plant →
@@ -69,21 +72,28 @@ none_of_cast c cast actors read is all none =
     let same : actors ≡ actors_in c = omega arith in
     none ∙ (λ i. record { lists = replicate (same i) []; gave = replicate (same i) false })
 
-first_file : (c : Contents) (files : List (List ℕ)) (read : Kept) → given_of read ≡ none_given c →
+first_file : (c : Contents) (files : List (List ℕ)) (read : Kept) → All IsShort files → given_of read ≡ none_given c →
     IsAmidFiles c files files 0 read
-first_file c files read is = record {
+first_file c files read short is = record {
   left = ap (λ g. files_from c g 0 files) is;
   seen = 0;
   are = none_kept c read is;
   all = omega arith;
   place = omega arith;
+  short = short;
 }
 
-pub no_file_yet : (c : Contents) (files : List (List ℕ)) (read : Kept) → given_of read ≡ none_given c →
+pub no_file_yet : (c : Contents) (files : List (List ℕ)) (read : Kept) → All IsShort files → given_of read ≡ none_given c →
     IsAmidFiles c files files (length files - length files) read
-no_file_yet c files read is =
+no_file_yet c files read short is =
     let zero : 0 ≡ length files - length files = omega arith in
-    subst (λ n. IsAmidFiles c files files n read) zero (first_file c files read is)
+    subst (λ n. IsAmidFiles c files files n read) zero (first_file c files read short is)
+
+-- the file that comes next
+pub is_short : (c : Contents) (files rest after : List (List ℕ)) (file : ℕ) (bytes : List ℕ) (read : Kept) →
+    IsAmidFiles c files rest file read → rest ≡ bytes ∷ after → IsShort bytes
+is_short c files rest after file bytes read amid is =
+    All-head IsShort bytes after (subst (All IsShort) is amid.short)
 
 -- what files come to behind one
 abbrev after_file : Contents → ℕ → List (List ℕ) → Answered → Answered
@@ -109,6 +119,7 @@ next_file c files rest after file bytes old new amid is added keeps =
       are = keeps amid.seen amid.are;
       all = omega arith;
       place = omega arith;
+      short = All-tail IsShort bytes after (subst (All IsShort) is amid.short);
     }
 
 pub one_file_more : (c : Contents) (files rest after : List (List ℕ)) (bytes : List ℕ) (old new : Kept) →

@@ -1,6 +1,6 @@
 -- What the files of stations tell, one after another. Each is of the actor that its first line names, and of each actor there
 -- is one at most. (This project's own.)
-use Rattle.std.specs.Prelude.{◌≡◌, ◌≤◌, ℕ, ◌+◌, Bool, true, false, List, [], ◌∷◌, Option, Some, None, Result, Ok, Err, length}
+use Rattle.std.specs.Prelude.{◌≡◌, ◌≤◌, ◌<◌, ℕ, ◌+◌, ◌*◌, ◌^◌, Bool, true, false, List, [], ◌∷◌, Option, Some, None, Result, Ok, Err, length}
 use Rattle.std.specs.Prelude.{replicate, set, slice_get}
 use Rattle.scenario_file.specs.declared.actors.Cast.{Cast}
 use Rattle.scenario_file.specs.Reading.{Contents, cast_of}
@@ -112,11 +112,15 @@ abbrev pub bytes_in : List (List ℕ) → ℕ
 bytes_in [] = 0
 bytes_in (bytes ∷ rest) = length bytes + bytes_in rest
 
--- Lists of stations stay such with one file's more, and there are no more entries than bytes.
+-- a file that a station could read again
+abbrev pub IsShort : List ℕ → Type 0
+IsShort bytes = length bytes < 2 ^ 32
+
+-- Lists of stations stay such with one file's more, and each entry took a line, whose digest alone has 72 bytes.
 pub record AreKept (c : Contents) (bytes : ℕ) (read : Kept) : Type 0 where
   pub stations : AreStations c read.lists.items
   pub alike : length read.lists.items ≡ length read.gave.items
-  pub few : count read.lists.items ≤ bytes
+  pub few : count read.lists.items * 72 ≤ bytes
 
 abbrev pub KeepsStations : Contents → ℕ → Kept → Kept → Type 0
 KeepsStations c more old new = (bytes : ℕ) → AreKept c bytes old → AreKept c (bytes + more) new

@@ -1,11 +1,12 @@
 //! What the files of stations tell.
-ghost use Rattle.std.specs.Prelude.{◌≡◌, ◌↔◌, ◌≤◌, ◌<◌, ◌^◌, [], IsTrue, IfOk, OnOk, false, length, replicate, slice_get};
+ghost use Rattle.std.specs.Prelude.{◌≡◌, ◌<◌, [], IfOk, OnOk, false, length, replicate, slice_get};
+ghost use Rattle.std.specs.List.{All};
 ghost use Rattle.scenario_file.specs.Reading.{contents};
 ghost use Rattle.scenario_file.specs.Valid.{IsScenario};
 ghost use Rattle.script_grammar.specs.Names.{who_of};
 ghost use Rattle.run_lines.specs.Runs.{pieces};
 ghost use Rattle.kept_lines.specs.Reading.{Reads, entry_part, fault_at};
-ghost use Rattle.joined_histories.specs.Files.{AddsFile, AreKept, KeepsStations, ReadsFiles, bytes_in, files_in, given_of, owner_by, there, with_file, with_list, with_more};
+ghost use Rattle.joined_histories.specs.Files.{AddsFile, AreKept, IsShort, KeepsStations, ReadsFiles, bytes_in, files_in, given_of, owner_by, there, with_file, with_list, with_more};
 
 use crate::refusal::{JoinRefusal, of_file};
 use kept_lines::{KeptRefusal, reopen};
@@ -126,7 +127,7 @@ fn add_list(
     bytes: &[u8],
 ) -> Result<(), JoinRefusal>
     requires scenario { IsScenario (contents scenario.now) }
-    requires short { length bytes.now < 2 ^ 32 }
+    requires short { IsShort bytes.now }
     requires alike { length kept.old.lists.items ≡ length kept.old.gave.items }
     ensures adds { AddsFile (with_more (contents scenario.now) (given_of kept.old) file actor bytes.now (slice_get kept.old.gave.items actor)) result kept.new }
     ensures keeps { OnOk result (KeepsStations (contents scenario.now) (length bytes.now) kept.old kept.new) }
@@ -157,7 +158,7 @@ fn add_file(
 ) -> Result<(), JoinRefusal>
     requires scenario { IsScenario (contents scenario.now) }
     requires company { company.now ≡ who_of (contents scenario.now) }
-    requires short { length bytes.now < 2 ^ 32 }
+    requires short { IsShort bytes.now }
     requires alike { length kept.old.lists.items ≡ length kept.old.gave.items }
     ensures adds { AddsFile (with_file (contents scenario.now) (given_of kept.old) file bytes.now) result kept.new }
     ensures keeps { OnOk result (KeepsStations (contents scenario.now) (length bytes.now) kept.old kept.new) }
@@ -169,23 +170,6 @@ fn add_file(
     }
 }
 
-/// Whether files have few enough bytes to be joined.
-pub fn are_short(files: &[Bytes]) -> bool
-    ensures { IsTrue result ↔ (bytes_in files.now < 2 ^ 32) }
-{
-    let mut room = u64::from(u32::MAX);
-    let mut rest = files;
-    while let Some((bytes, after)) = rest.split_first() {
-        let length = bytes.len() as u64;
-        if room < length {
-            return false;
-        }
-        room -= length;
-        rest = after;
-    }
-    true
-}
-
 /// What files tell.
 #[tactic(auto, unfolding(crate::specs::Files::files_in))]
 pub(crate) fn read_files(
@@ -194,7 +178,7 @@ pub(crate) fn read_files(
     files: &[Bytes],
 ) -> Result<Kept, JoinRefusal>
     requires scenario { IsScenario (contents scenario.now) }
-    requires short { bytes_in files.now < 2 ^ 32 }
+    requires short { All IsShort files.now }
     ensures read { ReadsFiles result (files_in (contents scenario.now) files.now) }
     ensures stations { IfOk result (AreKept (contents scenario.now) (bytes_in files.now)) }
 {

@@ -1,5 +1,6 @@
 //! Lists joined to one history.
-ghost use Rattle.std.specs.Prelude.{◌≡◌, ◌≤◌, ◌<◌, ◌+◌, ◌^◌, IfOk, OnOk, length, set, slice_index, true};
+ghost use Rattle.std.specs.Prelude.{◌≡◌, ◌≤◌, ◌<◌, ◌+◌, ◌*◌, ◌^◌, IfOk, OnOk, length, set, slice_index, true};
+ghost use Rattle.std.specs.List.{All};
 ghost use Rattle.scenario_file.specs.Reading.{contents};
 ghost use Rattle.scenario_file.specs.Valid.{IsScenario};
 ghost use Rattle.world_entries.specs.Entries.{event_of};
@@ -8,7 +9,7 @@ ghost use Rattle.world_rules.specs.Scenarios.{setup_of};
 ghost use Rattle.printed_history.specs.Reading.{IsSoFar, contents_in, world_in};
 ghost use Rattle.joint_lists.specs.Joint.{AreStations, IsJoint, count};
 ghost use Rattle.joint_lists.specs.Joining.{placed};
-ghost use Rattle.joined_histories.specs.Files.{bytes_in};
+ghost use Rattle.joined_histories.specs.Files.{IsShort, bytes_in};
 ghost use Rattle.joined_histories.specs.Amid.{IsAmid};
 ghost use Rattle.joined_histories.specs.Order.{AllWait, is_left, next_waits};
 ghost use Rattle.joined_histories.specs.Early.{EarlyOnlyWhereAllAre};
@@ -30,7 +31,8 @@ use world_entries::Event;
 /// says in no file counts as said by nobody, wherever it stands. The actors' benches come with it.
 pub fn join(alloc: Global, scenario: &Scenario, files: &[Bytes]) -> Result<Replay, JoinRefusal>
     requires scenario { IsScenario (contents scenario.now) }
-    requires short { bytes_in files.now < 2 ^ 32 }
+    requires short { All IsShort files.now }
+    requires together { bytes_in files.now < 72 * 2 ^ 32 }
     ensures joins { Joins (contents scenario.now) files.now result }
     ensures short { IfOk result (λ replay. length replay.history < 2 ^ 32) }
     ensures benches { IfOk result (λ replay. replay.benches.items ≡ benches_of (contents scenario.now) replay.history) }

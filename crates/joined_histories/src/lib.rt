@@ -10,6 +10,6 @@ mod order;
 mod refusal;
 mod waits;
 
-pub use files::{Kept, are_short};
+pub use files::Kept;
 pub use joining::join;
 pub use refusal::JoinRefusal;

@@ -15,6 +15,7 @@ use Rattle.command_words.specs.Wanted.{is_command, wanted_in}
 use Rattle.command_ends.specs.Refusals.{status_of}
 use Rattle.command_ends.specs.Steps.{Step}
 use Rattle.command_ends.specs.Steps.Step.{Load, Gives, Refuses}
+use Rattle.command_ends.specs.declared.limits.TheConstants.{MOST_BYTES}
 use Rattle.command_ends.specs.Calls.{Call, CauseOf, Comes, Loaded, IsContent, PutsNothing}
 use Rattle.command_ends.specs.Ended.{ErrorSink, Ends, Finishes, Told}
 use Rattle.command_ends.specs.declared.refusal.LineFault.{LineFault}
@@ -50,7 +51,7 @@ lack_in other _ = other
 
 no-usage : (step : Step) → is_last step ≡ true → is_usage step ≡ false
 no-usage (Gives text) last = refl
-no-usage (Load name) last = absurd (true≢false (sym last))
+no-usage (Load name most) last = absurd (true≢false (sym last))
 no-usage (Refuses (refusal.NoAnswer why)) last = refl
 no-usage (Refuses refusal.Usage) last = absurd (true≢false (sym last))
 no-usage (Refuses (refusal.Fault name)) last = refl
@@ -65,7 +66,7 @@ no-usage (Refuses refusal.NotVerified) last = refl
 no-usage (Refuses refusal.Output) last = refl
 no-usage (Refuses refusal.Memory) last = refl
 
-no-load : (step : Step) (name : List ℕ) → is_last step ≡ true → step ≡ Load name → ⊥
+no-load : (step : Step) (name : List ℕ) {most : ℕ} → is_last step ≡ true → step ≡ Load name most → ⊥
 no-load step name last is = true≢false (sym last ∙ ap is_last is)
 
 -- where the last step comes of an answer whose faults are others, there was a value
@@ -91,9 +92,10 @@ of-scenario first onward step last is =
     accepted-last scenario_refusal not-of-scenario (scenario_at first) onward step last is
 
 -- the second file is the one that is due, where the first is a scenario
-second-due : (first name other : List ℕ) (c : Contents) → scenario_at first ≡ Ok c →
-    Load other ≡ with_scenario first (λ d. Load name) → Load other ≡ Load name
-second-due first name other c one is = is ∙ ap (λ a. accepted scenario_refusal a (λ (d : Contents). Load name)) one
+second-due : (first name other : List ℕ) {most : ℕ} (c : Contents) → scenario_at first ≡ Ok c →
+    Load other most ≡ with_scenario first (λ d. Load name MOST_BYTES) → Load other most ≡ Load name MOST_BYTES
+second-due first name other c one is =
+    is ∙ ap (λ a. accepted scenario_refusal a (λ (d : Contents). Load name MOST_BYTES)) one
 
 -- ---- A question.
 
@@ -142,8 +144,8 @@ ComesLast r call asked step = (c : Contents) × (history : List Entry) × Spells
 
 question-whole : (r : Readers) → KeepsRules r → (call : Call) (scenario name : List ℕ) (asked : Question)
     → option_and_then posed (wanted_in call.words) ≡ Some (scenario, name, asked)
-    → (a b first second : List ℕ) (step : Step) → IsContent (call.held a) first → IsContent (call.held b) second
-    → Load a ≡ Load scenario → Load b ≡ with_scenario first (λ c. Load name)
+    → (a b first second : List ℕ) {at bt : ℕ} (step : Step) → IsContent (call.held a) first → IsContent (call.held b) second
+    → Load a at ≡ Load scenario MOST_BYTES → Load b bt ≡ with_scenario first (λ c. Load name MOST_BYTES)
     → is_last step ≡ true → step ≡ with_scenario first (λ c. with_history r c second (λ h. with_answer r c h asked)) →
     ComesLast r call asked step
 question-whole r laws call scenario name asked named a b first second step at_a at_b due_a due_b last is =
@@ -180,16 +182,16 @@ question-run r laws call scenario name asked step named last [] loaded next =
     (next-question r (is_command call.words) (wanted_in call.words) (scenario, name, asked) [] step named
     (no-usage step last) next))
 question-run r laws call scenario name asked step named last (first ∷ []) loaded next =
-    let one = of-scenario first (λ c. Load name) step last
+    let one = of-scenario first (λ c. Load name MOST_BYTES) step last
     (next-question r (is_command call.words) (wanted_in call.words) (scenario, name, asked) (first ∷ []) step named
     (no-usage step last) next) in
     absurd (no-load step name last one.2)
 question-run r laws call scenario name asked step named last (first ∷ second ∷ more) loaded next =
-    question-whole r laws call scenario name asked named loaded.0 loaded.4.0 first second step loaded.2 loaded.4.2
+    question-whole r laws call scenario name asked named loaded.0 loaded.5.0 first second step loaded.3 loaded.5.3
     (next-question r (is_command call.words) (wanted_in call.words) (scenario, name, asked) []
-    (Load loaded.0) named refl loaded.1)
+    (Load loaded.0 loaded.1) named refl loaded.2)
     (next-question r (is_command call.words) (wanted_in call.words) (scenario, name, asked) (first ∷ [])
-    (Load loaded.4.0) named refl loaded.4.1)
+    (Load loaded.5.0 loaded.5.1) named refl loaded.5.2)
     last (next-question r (is_command call.words) (wanted_in call.words) (scenario, name, asked)
     (first ∷ second ∷ more) step named (no-usage step last) next)
 
@@ -323,7 +325,7 @@ rebuild-run r call scenario pieces step named last [] loaded next =
     (next-rebuild r (is_command call.words) (wanted_in call.words) scenario pieces [] step named
     (no-usage step last) next))
 rebuild-run r call scenario pieces step named last (first ∷ []) loaded next =
-    let one = of-scenario first (λ c. Load pieces) step last
+    let one = of-scenario first (λ c. Load pieces MOST_BYTES) step last
     (next-rebuild r (is_command call.words) (wanted_in call.words) scenario pieces (first ∷ []) step named
     (no-usage step last) next) in
     absurd (no-load step pieces last one.2)
@@ -333,16 +335,16 @@ rebuild-run r call scenario pieces step named last (first ∷ second ∷ more) l
     (no-usage step last) next) in
     let c : Contents = one.0 in
     let due_a = next-rebuild r (is_command call.words) (wanted_in call.words) scenario pieces []
-    (Load loaded.0) named refl loaded.1 in
+    (Load loaded.0 loaded.1) named refl loaded.2 in
     let due_b = next-rebuild r (is_command call.words) (wanted_in call.words) scenario pieces (first ∷ [])
-    (Load loaded.4.0) named refl loaded.4.1 in (
+    (Load loaded.5.0 loaded.5.1) named refl loaded.5.2 in (
       c,
       second,
       record {
         first = first;
-        first_held = same-file call.held loaded.0 scenario first due_a loaded.2;
-        second_held = same-file call.held loaded.4.0 pieces second (second-due first pieces loaded.4.0 c one.1 due_b)
-            loaded.4.2;
+        first_held = same-file call.held loaded.0 scenario first due_a loaded.3;
+        second_held = same-file call.held loaded.5.0 pieces second (second-due first pieces loaded.5.0 c one.1 due_b)
+            loaded.5.3;
         scenario_read = one.1;
         valid = scenario-valid first c one.1;
       },

@@ -23,6 +23,7 @@ use Rattle.command_words.specs.Wanted.{Wanted, play, run, replay, make, keys, ve
 use Rattle.command_words.specs.Wanted.{picture, plot, chart, merge}
 use Rattle.command_words.specs.Wanted.{is_command, wanted_in}
 use Rattle.command_ends.specs.Refusals.{status_of}
+use Rattle.command_ends.specs.declared.limits.TheConstants.{MOST_BYTES}
 use Rattle.command_ends.specs.Steps.{Step}
 use Rattle.command_ends.specs.Steps.Step.{Load, Gives, Refuses}
 use Rattle.command_ends.specs.Calls.{Call, CauseOf, Loaded, IsContent}
@@ -53,7 +54,7 @@ pub accepted-gives : {A E : Type 0} (refuse : E → Refusal) (answer : Result A 
 accepted-gives refuse (Ok value) onward text is = (value, refl, is)
 accepted-gives refuse (Err e) onward text is = absurd (true≢false (ap is_text is))
 
-pub no-text : (name text : List ℕ) → Gives text ≡ Load name → ⊥
+pub no-text : (name text : List ℕ) {most : ℕ} → Gives text ≡ Load name most → ⊥
 no-text name text is = true≢false (ap is_text is)
 
 text-valid : (text : List ℕ) (c : Contents) → scenario_in text ≡ Ok c → IsScenario c
@@ -98,29 +99,33 @@ told-command r words w contents step asked other next =
     (subst (λ (o : Option Wanted). ToldAsked r (is_command words) o contents step) asked next)
 
 -- the content is that of the file that is due
-pub same-file : (held : List ℕ → Option (List ℕ)) (name due content : List ℕ) → Load name ≡ Load due →
+pub same-file : (held : List ℕ → Option (List ℕ)) (name due content : List ℕ) {most room : ℕ} →
+    Load name most ≡ Load due room →
     IsContent (held name) content → IsContent (held due) content
 same-file held name due content is told = subst (λ n. IsContent (held n) content) (ap file_of is) told
 
 -- ---- A play.
 
 -- the file that is due after an accepted scenario, and after an accepted script
-pub due-second : (due first name : List ℕ) (c : Contents) → scenario_at first ≡ Ok c →
-    Load name ≡ with_scenario first (λ d. Load due) → Load name ≡ Load due
-due-second due first name c one is = is ∙ ap (λ a. accepted scenario_refusal a (λ (d : Contents). Load due)) one
+pub due-second : (due first name : List ℕ) {most : ℕ} (c : Contents) → scenario_at first ≡ Ok c →
+    Load name most ≡ with_scenario first (λ d. Load due MOST_BYTES) → Load name most ≡ Load due MOST_BYTES
+due-second due first name c one is =
+    is ∙ ap (λ a. accepted scenario_refusal a (λ (d : Contents). Load due MOST_BYTES)) one
 
-pub due-third : (due first second name : List ℕ) (c : Contents) (lines : List Line) → scenario_at first ≡ Ok c →
-    script_in (who_of c) second ≡ Ok lines
-    → Load name ≡ with_scenario first (λ d. with_script d second (λ ls. Load due)) → Load name ≡ Load due
+pub due-third : (due first second name : List ℕ) {most : ℕ} (c : Contents) (lines : List Line) →
+    scenario_at first ≡ Ok c → script_in (who_of c) second ≡ Ok lines
+    → Load name most ≡ with_scenario first (λ d. with_script d second (λ ls. Load due MOST_BYTES)) →
+    Load name most ≡ Load due MOST_BYTES
 due-third due first second name c lines one two is =
-    is ∙ ap (λ a. accepted scenario_refusal a (λ (d : Contents). with_script d second (λ ls. Load due))) one
-    ∙ ap (λ a. accepted script_refusal a (λ (ls : List Line). Load due)) two
+    is
+    ∙ ap (λ a. accepted scenario_refusal a (λ (d : Contents). with_script d second (λ ls. Load due MOST_BYTES))) one
+    ∙ ap (λ a. accepted script_refusal a (λ (ls : List Line). Load due MOST_BYTES)) two
 
 play-whole : (r : Readers) → KeepsRules r → (call : Call) (scenario script words text first second third : List ℕ)
-    → wanted_in call.words ≡ Some (play scenario script words) → (a b d : List ℕ) → IsContent (call.held a) first →
+    → wanted_in call.words ≡ Some (play scenario script words) → (a b d : List ℕ) {at bt dt : ℕ} → IsContent (call.held a) first →
     IsContent (call.held b) second → IsContent (call.held d) third
-    → Load a ≡ play_step r scenario script words [] → Load b ≡ play_step r scenario script words (first ∷ []) →
-    Load d ≡ play_step r scenario script words (first ∷ second ∷ [])
+    → Load a at ≡ play_step r scenario script words [] → Load b bt ≡ play_step r scenario script words (first ∷ []) →
+    Load d dt ≡ play_step r scenario script words (first ∷ second ∷ [])
     → Gives text ≡ play_step r scenario script words (first ∷ second ∷ third ∷ [])
     → ScriptedCourse r (PlayEnds r) scenario script words (first ∷ second ∷ third ∷ []) (Gives text)
     → call.put_after ≡ with_piece call.put_before text → Headline r call
@@ -171,30 +176,30 @@ play-run r laws call scenario script words text asked [] loaded next told put =
     absurd (no-text scenario text
     (next-command r call.words (play scenario script words) [] (Gives text) asked refl next))
 play-run r laws call scenario script words text asked (first ∷ []) loaded next told put =
-    let one = accepted-gives scenario_refusal (scenario_at first) (λ c. Load script) text
+    let one = accepted-gives scenario_refusal (scenario_at first) (λ c. Load script MOST_BYTES) text
     (next-command r call.words (play scenario script words) (first ∷ []) (Gives text) asked refl next) in
     absurd (no-text script text one.2)
 play-run r laws call scenario script words text asked (first ∷ second ∷ []) loaded next told put =
-    let one = accepted-gives scenario_refusal (scenario_at first) (λ c. with_script c second (λ lines. Load words)) text
+    let one = accepted-gives scenario_refusal (scenario_at first) (λ c. with_script c second (λ lines. Load words MOST_BYTES)) text
     (next-command r call.words (play scenario script words) (first ∷ second ∷ []) (Gives text) asked refl next) in
-    let two = accepted-gives script_refusal (script_in (who_of one.0) second) (λ lines. Load words) text one.2 in
+    let two = accepted-gives script_refusal (script_in (who_of one.0) second) (λ lines. Load words MOST_BYTES) text one.2 in
     absurd (no-text words text two.2)
 play-run r laws call scenario script words text asked (first ∷ second ∷ third ∷ more) loaded next told put =
     let w : Wanted = play scenario script words in
-    play-whole r laws call scenario script words text first second third asked loaded.0 loaded.4.0 loaded.4.4.0
-    loaded.2 loaded.4.2 loaded.4.4.2
-    (next-command r call.words w [] (Load loaded.0) asked refl loaded.1)
-    (next-command r call.words w (first ∷ []) (Load loaded.4.0) asked refl loaded.4.1)
-    (next-command r call.words w (first ∷ second ∷ []) (Load loaded.4.4.0) asked refl loaded.4.4.1)
+    play-whole r laws call scenario script words text first second third asked loaded.0 loaded.5.0 loaded.5.5.0
+    loaded.3 loaded.5.3 loaded.5.5.3
+    (next-command r call.words w [] (Load loaded.0 loaded.1) asked refl loaded.2)
+    (next-command r call.words w (first ∷ []) (Load loaded.5.0 loaded.5.1) asked refl loaded.5.2)
+    (next-command r call.words w (first ∷ second ∷ []) (Load loaded.5.5.0 loaded.5.5.1) asked refl loaded.5.5.2)
     (next-command r call.words w (first ∷ second ∷ third ∷ more) (Gives text) asked refl next)
     (told-command r call.words w (first ∷ second ∷ third ∷ more) (Gives text) asked refl told) put
 
 -- ---- A replay.
 
 replay-whole : (r : Readers) → KeepsRules r → (call : Call) (scenario spelt text first second : List ℕ)
-    → wanted_in call.words ≡ Some (replay scenario spelt) → (a b : List ℕ) → IsContent (call.held a) first →
+    → wanted_in call.words ≡ Some (replay scenario spelt) → (a b : List ℕ) {at bt : ℕ} → IsContent (call.held a) first →
     IsContent (call.held b) second
-    → Load a ≡ replay_step r scenario spelt [] → Load b ≡ replay_step r scenario spelt (first ∷ [])
+    → Load a at ≡ replay_step r scenario spelt [] → Load b bt ≡ replay_step r scenario spelt (first ∷ [])
     → Gives text ≡ replay_step r scenario spelt (first ∷ second ∷ [])
     → ReplayCourse r scenario spelt (first ∷ second ∷ []) (Gives text)
     → call.put_after ≡ with_piece call.put_before text → Headline r call
@@ -230,14 +235,14 @@ replay-run : (r : Readers) → KeepsRules r → (call : Call) (scenario spelt te
 replay-run r laws call scenario spelt text asked [] loaded next told put =
     absurd (no-text scenario text (next-command r call.words (replay scenario spelt) [] (Gives text) asked refl next))
 replay-run r laws call scenario spelt text asked (first ∷ []) loaded next told put =
-    let one = accepted-gives scenario_refusal (scenario_at first) (λ c. Load spelt) text
+    let one = accepted-gives scenario_refusal (scenario_at first) (λ c. Load spelt MOST_BYTES) text
     (next-command r call.words (replay scenario spelt) (first ∷ []) (Gives text) asked refl next) in
     absurd (no-text spelt text one.2)
 replay-run r laws call scenario spelt text asked (first ∷ second ∷ more) loaded next told put =
     let w : Wanted = replay scenario spelt in
-    replay-whole r laws call scenario spelt text first second asked loaded.0 loaded.4.0 loaded.2 loaded.4.2
-    (next-command r call.words w [] (Load loaded.0) asked refl loaded.1)
-    (next-command r call.words w (first ∷ []) (Load loaded.4.0) asked refl loaded.4.1)
+    replay-whole r laws call scenario spelt text first second asked loaded.0 loaded.5.0 loaded.3 loaded.5.3
+    (next-command r call.words w [] (Load loaded.0 loaded.1) asked refl loaded.2)
+    (next-command r call.words w (first ∷ []) (Load loaded.5.0 loaded.5.1) asked refl loaded.5.2)
     (next-command r call.words w (first ∷ second ∷ more) (Gives text) asked refl next)
     (told-command r call.words w (first ∷ second ∷ more) (Gives text) asked refl told) put
 
@@ -263,10 +268,11 @@ as-run r false scenario script words turns contents step other next =
 run-whole : (r : Readers) → KeepsRules r → (call : Call) (scenario script words : List ℕ) (hands turns : ℕ)
     (text first second third : List ℕ)
     → wanted_in call.words ≡ Some (run scenario script words hands turns)
-    → (a b d : List ℕ) → IsContent (call.held a) first → IsContent (call.held b) second → IsContent (call.held d) third
-    → RunCourse r scenario script words turns [] (Load a)
-    → RunCourse r scenario script words turns (first ∷ []) (Load b)
-    → RunCourse r scenario script words turns (first ∷ second ∷ []) (Load d)
+    → (a b d : List ℕ) {at bt dt : ℕ} → IsContent (call.held a) first → IsContent (call.held b) second →
+    IsContent (call.held d) third
+    → RunCourse r scenario script words turns [] (Load a at)
+    → RunCourse r scenario script words turns (first ∷ []) (Load b bt)
+    → RunCourse r scenario script words turns (first ∷ second ∷ []) (Load d dt)
     → RunCourse (told_runs r) scenario script words turns (first ∷ second ∷ third ∷ []) (Gives text)
     → call.put_after ≡ with_piece call.put_before text → Headline r call
 run-whole r laws call scenario script words hands turns text first second third asked a b d at_a at_b
@@ -322,21 +328,21 @@ run-run r laws call scenario script words hands turns text asked [] loaded next 
     absurd (no-text scenario text
     (next-run r call.words scenario script words hands turns [] (Gives text) asked refl next))
 run-run r laws call scenario script words hands turns text asked (first ∷ []) loaded next told put =
-    let one = accepted-gives scenario_refusal (scenario_at first) (λ c. Load script) text
+    let one = accepted-gives scenario_refusal (scenario_at first) (λ c. Load script MOST_BYTES) text
     (next-run r call.words scenario script words hands turns (first ∷ []) (Gives text) asked refl next) in
     absurd (no-text script text one.2)
 run-run r laws call scenario script words hands turns text asked (first ∷ second ∷ []) loaded next told put =
-    let one = accepted-gives scenario_refusal (scenario_at first) (λ c. with_script c second (λ lines. Load words)) text
+    let one = accepted-gives scenario_refusal (scenario_at first) (λ c. with_script c second (λ lines. Load words MOST_BYTES)) text
     (next-run r call.words scenario script words hands turns (first ∷ second ∷ []) (Gives text) asked refl next) in
-    let two = accepted-gives script_refusal (script_in (who_of one.0) second) (λ lines. Load words) text one.2 in
+    let two = accepted-gives script_refusal (script_in (who_of one.0) second) (λ lines. Load words MOST_BYTES) text one.2 in
     absurd (no-text words text two.2)
 run-run r laws call scenario script words hands turns text asked (first ∷ second ∷ third ∷ more) loaded next told put =
     let course = next-run r call.words scenario script words hands turns in
     run-whole r laws call scenario script words hands turns text first second third asked
-    loaded.0 loaded.4.0 loaded.4.4.0 loaded.2 loaded.4.2 loaded.4.4.2
-    (course [] (Load loaded.0) asked refl loaded.1)
-    (course (first ∷ []) (Load loaded.4.0) asked refl loaded.4.1)
-    (course (first ∷ second ∷ []) (Load loaded.4.4.0) asked refl loaded.4.4.1)
+    loaded.0 loaded.5.0 loaded.5.5.0 loaded.3 loaded.5.3 loaded.5.5.3
+    (course [] (Load loaded.0 loaded.1) asked refl loaded.2)
+    (course (first ∷ []) (Load loaded.5.0 loaded.5.1) asked refl loaded.5.2)
+    (course (first ∷ second ∷ []) (Load loaded.5.5.0 loaded.5.5.1) asked refl loaded.5.5.2)
     (told-run r call.words scenario script words hands turns (first ∷ second ∷ third ∷ more) (Gives text) asked refl
     told) put
 
@@ -355,18 +361,18 @@ next-merge r words scenario keeps contents step asked other next =
     (next-command r words (merge scenario keeps) contents step asked other next)
 
 -- where a file is loaded of an answer, there was a value
-load-after : {A E : Type 0} (refuse : E → Refusal) (answer : Result A E) (After : A → Step → Type 0) (name : List ℕ) →
-    Accepted refuse answer After (Load name) → (value : A) × After value (Load name)
+load-after : {A E : Type 0} (refuse : E → Refusal) (answer : Result A E) (After : A → Step → Type 0) (name : List ℕ)
+    {most : ℕ} → Accepted refuse answer After (Load name most) → (value : A) × After value (Load name most)
 load-after refuse (Ok value) After name gives = (value, gives)
 load-after refuse (Err e) After name gives = absurd (true≢false (ap is_load gives))
 
 -- the file that is loaded is the next of those that stations kept
-next-kept : (r : Readers) (c : Contents) (keeps kept : List (List ℕ)) (o : Option (List ℕ)) (name : List ℕ) →
-    MergeNext r c keeps kept o (Load name) → o ≡ Some name
-next-kept r c keeps kept (Some due) name is = ap Some (sym (ap file_of is))
-next-kept r c keeps kept None name ends = by (r.join_fault c kept) ends
+next-kept : (r : Readers) (c : Contents) (keeps kept : List (List ℕ)) (o : Option (List ℕ)) (name : List ℕ) (most : ℕ)
+    → MergeNext r c keeps kept o (Load name most) → o ≡ Some name
+next-kept r c keeps kept (Some due) name most is = ap Some (sym (ap file_of is))
+next-kept r c keeps kept None name most ends = by (r.join_fault c kept) ends
   where
-    by : (fault : Option (ℕ × KeepFault)) → MergeEnds r c keeps kept fault (Load name) → None ≡ Some name
+    by : (fault : Option (ℕ × KeepFault)) → MergeEnds r c keeps kept fault (Load name most) → None ≡ Some name
     by (Some fault) is = absurd (true≢false (ap is_load is))
     by None (history, may, is) = absurd (true≢false (ap is_load is))
 
@@ -377,15 +383,16 @@ at-front (x ∷ front) left = at-front front left
 -- the contents that were loaded behind the scenario's are those of the files that stations kept
 module _ (r : Readers) (call : Call) (scenario : List ℕ) (keeps : List (List ℕ))
     (asked : wanted_in call.words ≡ Some (merge scenario keeps)) (first : List ℕ) where
-  next-left : (front left done : List (List ℕ)) (name : List ℕ) → keeps ≡ front ++ left → length front ≡ length done →
-      NextStep r call.words (first ∷ done) (Load name) → slice_get left 0 ≡ Some name
-  next-left front left done name all at due =
-      let course : MergeCourse r scenario keeps (first ∷ done) (Load name) =
-      next-merge r call.words scenario keeps (first ∷ done) (Load name) asked refl due in
+  next-left : (front left done : List (List ℕ)) (name : List ℕ) (most : ℕ) → keeps ≡ front ++ left →
+      length front ≡ length done →
+      NextStep r call.words (first ∷ done) (Load name most) → slice_get left 0 ≡ Some name
+  next-left front left done name most all at due =
+      let course : MergeCourse r scenario keeps (first ∷ done) (Load name most) =
+      next-merge r call.words scenario keeps (first ∷ done) (Load name most) asked refl due in
       let one = load-after scenario_refusal (scenario_at first)
       (λ c. MergeNext r c keeps done (slice_get keeps (length done))) name course in
       sym (at-front front left) ∙ sym (ap (λ ks. slice_get ks (length front)) all) ∙ ap (λ n. slice_get keeps n) at
-      ∙ next-kept r one.0 keeps done (slice_get keeps (length done)) name one.1
+      ∙ next-kept r one.0 keeps done (slice_get keeps (length done)) name most one.1
 
   kept-contents : (front left done more : List (List ℕ)) → keeps ≡ front ++ left → length front ≡ length done →
       slice_get keeps (length (done ++ more)) ≡ None → Loaded (NextStep r call.words) call.held (first ∷ done) more →
@@ -398,16 +405,16 @@ module _ (r : Readers) (call : Call) (scenario : List ℕ) (keeps : List (List �
       ∙ none in
       absurd (cc)
   kept-contents front [] done (content ∷ more) all at none loaded =
-      let there = next-left front [] done loaded.0 all at loaded.1 in
+      let there = next-left front [] done loaded.0 loaded.1 all at loaded.2 in
       absurd (cc)
   kept-contents front (keep ∷ left) done (content ∷ more) all at none loaded =
-      let there = next-left front (keep ∷ left) done loaded.0 all at loaded.1 in
+      let there = next-left front (keep ∷ left) done loaded.0 loaded.1 all at loaded.2 in
       let same : loaded.0 ≡ keep = cc in (
-        subst (λ n. IsContent (call.held n) content) same loaded.2,
+        subst (λ n. IsContent (call.held n) content) same loaded.3,
         kept-contents (front ++ keep ∷ []) left (done ++ content ∷ []) more
             (all ∙ sym (append_assoc front (keep ∷ []) left))
             (length-append front (keep ∷ []) ∙ ap (λ n. n + 1) at ∙ sym (length-append done (content ∷ [])))
-            (ap (λ ds. slice_get keeps (length ds)) (append_assoc done (content ∷ []) more) ∙ none) loaded.4,
+            (ap (λ ds. slice_get keeps (length ds)) (append_assoc done (content ∷ []) more) ∙ none) loaded.5,
       )
 
 -- what a merge gives that gives a text
@@ -442,14 +449,14 @@ merge-run r laws call scenario keeps text asked (first ∷ kept) loaded next tol
     let history : List Entry = all.1.0 in
     let valid : IsScenario c = scenario-valid first c one.1 in
     let legal = laws.merged_legal c kept history all.1.1.0 in
-    let due_first : Load loaded.0 ≡ Load scenario =
-    next-merge r call.words scenario keeps [] (Load loaded.0) asked refl loaded.1 in
+    let due_first : Load loaded.0 loaded.1 ≡ Load scenario MOST_BYTES =
+    next-merge r call.words scenario keeps [] (Load loaded.0 loaded.1) asked refl loaded.2 in
     record {
       scenario = c;
       history = history;
       run = IsRun.merges scenario keeps asked first kept
-          (same-file call.held loaded.0 scenario first due_first loaded.2)
-          (kept-contents r call scenario keeps asked first [] keeps [] kept refl refl all.0 loaded.4)
+          (same-file call.held loaded.0 scenario first due_first loaded.3)
+          (kept-contents r call scenario keeps asked first [] keeps [] kept refl refl all.0 loaded.5)
           one.1 all.1.1.0;
       legal = legal;
       put = put ∙ ap (λ (s : Step). with_piece call.put_before (text_in s)) all.1.2;

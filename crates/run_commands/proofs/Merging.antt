@@ -7,6 +7,8 @@ use Rattle.std.specs.Prelude.{option_map, slice_get}
 use Rattle.std.specs.declared.vec.Vec.{Vec}
 use Rattle.std.specs.declared.alloc.Global.{Global}
 use Rattle.scenario_file.specs.Reading.{Contents}
+use Rattle.command_words.specs.declared.command_line.TheConstants.{MOST_KEEPS}
+use Rattle.command_ends.specs.declared.limits.TheConstants.{MOST_KEPT_BYTES}
 use Rattle.command_ends.specs.Steps.{Step}
 use Rattle.command_ends.specs.Steps.Step.{Load, Gives, Refuses}
 use Rattle.command_ends.specs.Calls.{TextCause, CountsStay, FaultsOfFiles}
@@ -42,11 +44,12 @@ none-there v xs i n at past =
 
 module _ (r : Readers) (scenario : List ℕ) (keeps : List (List ℕ)) (first : List ℕ) where
   pub merge-due : (kept : List (List ℕ)) (name : List ℕ) (c : Contents) → scenario_at first ≡ Ok c →
-      slice_get keeps (length kept) ≡ Some name → MergeCourse r scenario keeps (first ∷ kept) (Load name)
+      slice_get keeps (length kept) ≡ Some name →
+      MergeCourse r scenario keeps (first ∷ kept) (Load name MOST_KEPT_BYTES)
   merge-due kept name c one there =
       accepted-value scenario_refusal (scenario_at first) c
-      (λ d. MergeNext r d keeps kept (slice_get keeps (length kept))) (Load name) one
-      (subst (λ o. MergeNext r c keeps kept o (Load name)) (sym there) refl)
+      (λ d. MergeNext r d keeps kept (slice_get keeps (length kept))) (Load name MOST_KEPT_BYTES) one
+      (subst (λ o. MergeNext r c keeps kept o (Load name MOST_KEPT_BYTES)) (sym there) refl)
 
   pub merge-refused : (w : Refusal) → ((onward : Contents → Step) → with_scenario first onward ≡ Refuses w) →
       MergeCourse r scenario keeps (first ∷ []) (Refuses w)
@@ -100,8 +103,8 @@ module _ (next : List (List ℕ) → Step → Type 0) (held : List ℕ → Optio
   merge-now (Err refusal.Output) gives = absurd (let is = gives.2 in cc)
 
 -- so many files as there may be
-pub at-most : (count : ℕ) → are_few count ≡ true → count ≤ 26
-at-most count few = leb-true count 26 (and_parts (nat_le 1 count) (nat_le count 26) few).1
+pub at-most : (count : ℕ) → are_few count ≡ true → count ≤ MOST_KEEPS
+at-most count few = leb-true count MOST_KEEPS (and_parts (nat_le 1 count) (nat_le count MOST_KEEPS) few).1
 
 -- nothing is loaded any more
 pub merge-faults : (before after : List ℕ → ℕ) (result : Result (Vec ℕ Global) Refusal) → CountsStay before after →

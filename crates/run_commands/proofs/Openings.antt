@@ -5,7 +5,8 @@ use Rattle.std.specs.declared.vec.Vec.{Vec}
 use Rattle.std.specs.declared.alloc.Global.{Global}
 use Rattle.command_ends.specs.Steps.{Step}
 use Rattle.command_ends.specs.Steps.Step.{Load, Gives, Refuses}
-use Rattle.command_ends.specs.Calls.{IsContent, TextCause, CountsStay, most_bytes}
+use Rattle.command_ends.specs.Calls.{IsContent, TextCause, CountsStay}
+use Rattle.command_ends.specs.declared.limits.TheConstants.{MOST_BYTES}
 use Rattle.command_ends.specs.Loaded.{LoadCause}
 use Rattle.command_ends.specs.declared.refusal.Refusal.{Refusal}
 use Rattle.command_ends.specs.declared.refusal.Refusal.TheVariants as refusal
@@ -16,7 +17,7 @@ use Rattle.run_commands.specs.Made.{Makes}
 -- a content that was loaded and read
 pub opened : {A V : Type 0} (reads : List ℕ → (V → Step) → Step) (shown : A → V) (held : Option (List ℕ))
     (before after : ℕ) (name : List ℕ)
-    (loaded : Vec ℕ Global) (result : Result A Refusal) → LoadCause held before after name (Ok loaded) →
+    (loaded : Vec ℕ Global) (result : Result A Refusal) → LoadCause MOST_BYTES held before after name (Ok loaded) →
     Leads reads shown loaded.items result
     → OpenCause reads shown held before after name result
 opened reads shown held before after name loaded (Ok value) cause leads = (loaded.items, cause.0, cause.1, leads)
@@ -46,7 +47,7 @@ opened reads shown held before after name loaded (Err (refusal.Keep kept_name ke
 -- what was read from a content that was loaded is the file's
 pub found-in : {A : Type 0} (Holds : A → List ℕ → Type 0) (held : Option (List ℕ)) (content read : List ℕ)
     (result : Result A Refusal) → read ≡ content
-    → IsContent held content → length content ≤ most_bytes → IfOk result (λ x. Holds x read) →
+    → IsContent held content → length content ≤ MOST_BYTES → IfOk result (λ x. Holds x read) →
     IfOk result (λ x. IsOf held (Holds x))
 found-in Holds held content read (Ok value) same told short is = (content, told, short, subst (Holds value) same is)
 found-in Holds held content read (Err why) same told short is = tt
@@ -56,7 +57,7 @@ pub after-open : {A V : Type 0} (next : List (List ℕ) → Step → Type 0) (he
     (first second last : List ℕ → ℕ)
     (before : List (List ℕ)) (name : List ℕ) (reads : List ℕ → (V → Step) → Step) (shown : A → V) (value : A)
     (result : Result (Vec ℕ Global) Refusal)
-    → next before (Load name) → IsRead reads shown (held name) (Ok value) →
+    → next before (Load name MOST_BYTES) → IsRead reads shown (held name) (Ok value) →
     ((other : List ℕ) → later other ≡ held other) → CountsStay first second
     → ((content : List ℕ) → LeadsTo reads content (shown value) →
     TextCause next later second last (before ++ content ∷ []) result)
@@ -69,7 +70,7 @@ after-open next held later first second last before name reads shown value resul
 pub open-refused : {A V : Type 0} (next : List (List ℕ) → Step → Type 0) (held : List ℕ → Option (List ℕ))
     (first last : List ℕ → ℕ)
     (before : List (List ℕ)) (name : List ℕ) (reads : List ℕ → (V → Step) → Step) (shown : A → V) (why : Refusal)
-    → next before (Load name) → OpenCause reads shown (held name) (first name) (last name) name (Err why)
+    → next before (Load name MOST_BYTES) → OpenCause reads shown (held name) (first name) (last name) name (Err why)
     → ((content : List ℕ) → (w : Refusal) → ((onward : V → Step) → reads content onward ≡ Refuses w) →
     next (before ++ content ∷ []) (Refuses w))
     → TextCause next held first last before (Err why)
@@ -80,23 +81,23 @@ open-refused next held first last before name reads shown (refusal.TooLong named
 open-refused next held first last before name reads shown refusal.Memory due cause refuses = tt
 open-refused next held first last before name reads shown refusal.Output due cause refuses = absurd cause.3
 open-refused next held first last before name reads shown refusal.Usage due cause refuses =
-    (cause.0 ∷ [], (name, due, cause.1, cause.2, tt), refuses cause.0 refusal.Usage cause.3)
+    (cause.0 ∷ [], (name, MOST_BYTES, due, cause.1, cause.2, tt), refuses cause.0 refusal.Usage cause.3)
 open-refused next held first last before name reads shown (refusal.Scenario fault) due cause refuses =
-    (cause.0 ∷ [], (name, due, cause.1, cause.2, tt), refuses cause.0 (refusal.Scenario fault) cause.3)
+    (cause.0 ∷ [], (name, MOST_BYTES, due, cause.1, cause.2, tt), refuses cause.0 (refusal.Scenario fault) cause.3)
 open-refused next held first last before name reads shown (refusal.Script fault number) due cause refuses =
-    (cause.0 ∷ [], (name, due, cause.1, cause.2, tt), refuses cause.0 (refusal.Script fault number) cause.3)
+    (cause.0 ∷ [], (name, MOST_BYTES, due, cause.1, cause.2, tt), refuses cause.0 (refusal.Script fault number) cause.3)
 open-refused next held first last before name reads shown (refusal.Words fault number) due cause refuses =
-    (cause.0 ∷ [], (name, due, cause.1, cause.2, tt), refuses cause.0 (refusal.Words fault number) cause.3)
+    (cause.0 ∷ [], (name, MOST_BYTES, due, cause.1, cause.2, tt), refuses cause.0 (refusal.Words fault number) cause.3)
 open-refused next held first last before name reads shown (refusal.History fault number) due cause refuses =
-    (cause.0 ∷ [], (name, due, cause.1, cause.2, tt), refuses cause.0 (refusal.History fault number) cause.3)
+    (cause.0 ∷ [], (name, MOST_BYTES, due, cause.1, cause.2, tt), refuses cause.0 (refusal.History fault number) cause.3)
 open-refused next held first last before name reads shown refusal.NotVerified due cause refuses =
-    (cause.0 ∷ [], (name, due, cause.1, cause.2, tt), refuses cause.0 refusal.NotVerified cause.3)
+    (cause.0 ∷ [], (name, MOST_BYTES, due, cause.1, cause.2, tt), refuses cause.0 refusal.NotVerified cause.3)
 open-refused next held first last before name reads shown (refusal.NoAnswer lack) due cause refuses =
-    (cause.0 ∷ [], (name, due, cause.1, cause.2, tt), refuses cause.0 (refusal.NoAnswer lack) cause.3)
+    (cause.0 ∷ [], (name, MOST_BYTES, due, cause.1, cause.2, tt), refuses cause.0 (refusal.NoAnswer lack) cause.3)
 open-refused next held first last before name reads shown (refusal.Pieces at) due cause refuses =
-    (cause.0 ∷ [], (name, due, cause.1, cause.2, tt), refuses cause.0 (refusal.Pieces at) cause.3)
+    (cause.0 ∷ [], (name, MOST_BYTES, due, cause.1, cause.2, tt), refuses cause.0 (refusal.Pieces at) cause.3)
 open-refused next held first last before name reads shown (refusal.Keep kept_name kept_fault) due cause refuses =
-    (cause.0 ∷ [], (name, due, cause.1, cause.2, tt), refuses cause.0 (refusal.Keep kept_name kept_fault) cause.3)
+    (cause.0 ∷ [], (name, MOST_BYTES, due, cause.1, cause.2, tt), refuses cause.0 (refusal.Keep kept_name kept_fault) cause.3)
 
 -- what is made without a file is what is due
 pub made-now : (next : List (List ℕ) → Step → Type 0) (held : List ℕ → Option (List ℕ)) (first last : List ℕ → ℕ)

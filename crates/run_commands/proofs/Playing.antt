@@ -10,6 +10,7 @@ use Rattle.script_lines.specs.declared.saying.Saying.{Saying}
 use Rattle.command_words.specs.Wanted.{Wanted, is_command, wanted_in}
 use Rattle.command_ends.specs.Steps.{Step}
 use Rattle.command_ends.specs.Steps.Step.{Load, Gives, Refuses}
+use Rattle.command_ends.specs.declared.limits.TheConstants.{MOST_BYTES}
 use Rattle.command_ends.specs.Calls.{TextCause}
 use Rattle.command_ends.specs.declared.refusal.LineFault.{LineFault}
 use Rattle.command_ends.specs.declared.refusal.Refusal.{Refusal}
@@ -69,13 +70,13 @@ play-now next held first last before r c lines sayings (Err refusal.Output) due 
 
 module _ (r : Readers) (scenario history : List ℕ) where
   pub replay-first : (first : List ℕ) (c : Contents) → scenario_at first ≡ Ok c →
-      ReplayCourse r scenario history (first ∷ []) (Load history)
-  replay-first first c one = sym (ap (λ a. accepted scenario_refusal a (λ (d : Contents). Load history)) one)
+      ReplayCourse r scenario history (first ∷ []) (Load history MOST_BYTES)
+  replay-first first c one = sym (ap (λ a. accepted scenario_refusal a (λ (d : Contents). Load history MOST_BYTES)) one)
 
   pub replay-refused : (first : List ℕ) (w : Refusal) →
       ((onward : Contents → Step) → with_scenario first onward ≡ Refuses w)
       → ReplayCourse r scenario history (first ∷ []) (Refuses w)
-  replay-refused first w one = sym (one (λ d. Load history))
+  replay-refused first w one = sym (one (λ d. Load history MOST_BYTES))
 
   pub replay-second : (first second : List ℕ) (c : Contents) (step : Step) → scenario_at first ≡ Ok c →
       ReplayEnds r second c step

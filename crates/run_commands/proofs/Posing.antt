@@ -8,6 +8,7 @@ use Rattle.command_words.specs.Wanted.{Wanted, play, run, replay, make, keys, ve
 use Rattle.command_words.specs.Wanted.{picture, plot, chart, merge}
 use Rattle.command_ends.specs.Steps.{Step}
 use Rattle.command_ends.specs.Steps.Step.{Load, Gives, Refuses}
+use Rattle.command_ends.specs.declared.limits.TheConstants.{MOST_BYTES}
 use Rattle.command_ends.specs.Calls.{TextCause}
 use Rattle.command_ends.specs.declared.refusal.LineFault.{LineFault}
 use Rattle.command_ends.specs.declared.refusal.NoAnswer.{NoAnswer}
@@ -67,13 +68,13 @@ question-cause r (merge scenario keeps) p held first last result is cause = none
 
 pub question-first : (r : Readers) (scenario history : List ℕ) (asked : Question) (first : List ℕ) (c : Contents) →
     LeadsTo with_scenario first c
-    → QuestionCourse r scenario history asked (first ∷ []) (Load history)
-question-first r scenario history asked first c one = sym (one (λ d. Load history))
+    → QuestionCourse r scenario history asked (first ∷ []) (Load history MOST_BYTES)
+question-first r scenario history asked first c one = sym (one (λ d. Load history MOST_BYTES))
 
 pub question-refused : (r : Readers) (scenario history : List ℕ) (asked : Question) (first : List ℕ) (w : Refusal)
     → ((onward : Contents → Step) → with_scenario first onward ≡ Refuses w) →
     QuestionCourse r scenario history asked (first ∷ []) (Refuses w)
-question-refused r scenario history asked first w one = sym (one (λ d. Load history))
+question-refused r scenario history asked first w one = sym (one (λ d. Load history MOST_BYTES))
 
 -- the last step, where the scenario is read
 abbrev pub question-last : Readers → Contents → List ℕ → Question → Step
@@ -110,13 +111,13 @@ question-makes r c text asked (Err refusal.Output) gives = absurd gives
 -- ---- A request from its parts.
 
 pub rebuild-first : (r : Readers) (scenario pieces first : List ℕ) (c : Contents) → LeadsTo with_scenario first c
-    → RebuildCourse r scenario pieces (first ∷ []) (Load pieces)
-rebuild-first r scenario pieces first c one = sym (one (λ d. Load pieces))
+    → RebuildCourse r scenario pieces (first ∷ []) (Load pieces MOST_BYTES)
+rebuild-first r scenario pieces first c one = sym (one (λ d. Load pieces MOST_BYTES))
 
 pub rebuild-refused : (r : Readers) (scenario pieces first : List ℕ) (w : Refusal)
     → ((onward : Contents → Step) → with_scenario first onward ≡ Refuses w) →
     RebuildCourse r scenario pieces (first ∷ []) (Refuses w)
-rebuild-refused r scenario pieces first w one = sym (one (λ d. Load pieces))
+rebuild-refused r scenario pieces first w one = sym (one (λ d. Load pieces MOST_BYTES))
 
 pub rebuild-second : (r : Readers) (scenario pieces first second : List ℕ) (c : Contents) →
     LeadsTo with_scenario first c

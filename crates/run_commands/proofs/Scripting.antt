@@ -8,6 +8,7 @@ use Rattle.script_lines.specs.declared.script.Line.{Line}
 use Rattle.script_lines.specs.declared.saying.Saying.{Saying}
 use Rattle.command_ends.specs.Steps.{Step}
 use Rattle.command_ends.specs.Steps.Step.{Load, Refuses}
+use Rattle.command_ends.specs.declared.limits.TheConstants.{MOST_BYTES}
 use Rattle.command_ends.specs.declared.refusal.Refusal.{Refusal}
 use Rattle.command_ends.proofs.Completes.{is_load}
 use Rattle.run_commands.specs.Readers.{Readers}
@@ -23,8 +24,8 @@ accepted-value refuse answer value After step is after = subst (λ a. Accepted r
 
 pub accepted-fault : {A E : Type 0} (refuse : E → Refusal) (answer : Result A E) (After : A → Step → Type 0) (w : Refusal)
     → ((onward : A → Step) → accepted refuse answer onward ≡ Refuses w) → Accepted refuse answer After (Refuses w)
-accepted-fault refuse (Ok value) After w refused = absurd (true≢false (ap is_load (refused (λ v. Load []))))
-accepted-fault refuse (Err e) After w refused = sym (refused (λ v. Load []))
+accepted-fault refuse (Ok value) After w refused = absurd (true≢false (ap is_load (refused (λ v. Load [] 0))))
+accepted-fault refuse (Err e) After w refused = sym (refused (λ v. Load [] 0))
 
 pub accepted-err : {A E : Type 0} (refuse : E → Refusal) (answer : Result A E) (e : E) (After : A → Step → Type 0) →
     answer ≡ Err e → Accepted refuse answer After (Refuses (refuse e))
@@ -39,29 +40,29 @@ accepted-at refuse answer value After step is told = subst (λ a. Accepted refus
 module _ (r : Readers) (EndsIn : Contents → List Line → List Saying → Step → Type 0)
     (scenario script words : List ℕ) where
   pub script-first : (first : List ℕ) (c : Contents) → scenario_at first ≡ Ok c →
-      ScriptedCourse r EndsIn scenario script words (first ∷ []) (Load script)
-  script-first first c one = sym (ap (λ a. accepted scenario_refusal a (λ (d : Contents). Load script)) one)
+      ScriptedCourse r EndsIn scenario script words (first ∷ []) (Load script MOST_BYTES)
+  script-first first c one = sym (ap (λ a. accepted scenario_refusal a (λ (d : Contents). Load script MOST_BYTES)) one)
 
   pub script-refused : (first : List ℕ) (w : Refusal) →
       ((onward : Contents → Step) → with_scenario first onward ≡ Refuses w)
       → ScriptedCourse r EndsIn scenario script words (first ∷ []) (Refuses w)
-  script-refused first w one = sym (one (λ d. Load script))
+  script-refused first w one = sym (one (λ d. Load script MOST_BYTES))
 
   pub script-second : (first second : List ℕ) (c : Contents) (lines : List Line) →
       scenario_at first ≡ Ok c
       → script_in (who_of c) second ≡ Ok lines →
-      ScriptedCourse r EndsIn scenario script words (first ∷ second ∷ []) (Load words)
+      ScriptedCourse r EndsIn scenario script words (first ∷ second ∷ []) (Load words MOST_BYTES)
   script-second first second c lines one two =
-      sym (ap (λ a. accepted scenario_refusal a (λ (d : Contents). with_script d second (λ ls. Load words))) one
-      ∙ ap (λ a. accepted script_refusal a (λ (ls : List Line). Load words)) two)
+      sym (ap (λ a. accepted scenario_refusal a (λ (d : Contents). with_script d second (λ ls. Load words MOST_BYTES))) one
+      ∙ ap (λ a. accepted script_refusal a (λ (ls : List Line). Load words MOST_BYTES)) two)
 
   pub script-second-refused : (first second : List ℕ) (c : Contents) (w : Refusal) →
       scenario_at first ≡ Ok c
       → ((onward : List Line → Step) → with_script c second onward ≡ Refuses w) →
       ScriptedCourse r EndsIn scenario script words (first ∷ second ∷ []) (Refuses w)
   script-second-refused first second c w one two =
-      sym (ap (λ a. accepted scenario_refusal a (λ (d : Contents). with_script d second (λ ls. Load words))) one
-      ∙ two (λ ls. Load words))
+      sym (ap (λ a. accepted scenario_refusal a (λ (d : Contents). with_script d second (λ ls. Load words MOST_BYTES))) one
+      ∙ two (λ ls. Load words MOST_BYTES))
 
   pub script-third : (first second third : List ℕ) (c : Contents) (lines : List Line)
       (sayings : List Saying) (step : Step)

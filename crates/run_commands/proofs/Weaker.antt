@@ -33,8 +33,8 @@ module _ (next other : List (List ℕ) → Step → Type 0)
   pub weaker-loaded : (held : List ℕ → Option (List ℕ)) (before more : List (List ℕ)) →
       Loaded next held before more → Loaded other held before more
   weaker-loaded held before [] loaded = tt
-  weaker-loaded held before (content ∷ more) (name, due, told, short, rest) =
-      (name, goes before _ due, told, short, weaker-loaded held (before ++ content ∷ []) more rest)
+  weaker-loaded held before (content ∷ more) (name, most, due, told, short, rest) =
+      (name, most, goes before _ due, told, short, weaker-loaded held (before ++ content ∷ []) more rest)
 
   pub weaker-comes : (held : List ℕ → Option (List ℕ)) (before : List (List ℕ)) (step : Step) →
       Comes next held before step → Comes other held before step
@@ -49,8 +49,8 @@ module _ (next other : List (List ℕ) → List (List ℕ) → Step → Type 0)
 
   weaker-cause : (result : Result (Unit {0}) Refusal) → CauseOf next call result → CauseOf other call result
   weaker-cause (Ok done) cause = (cause.0, comes (Gives cause.0) cause.1, cause.2)
-  weaker-cause (Err (refusal.Fault name)) cause = (comes _ cause.0, cause.1, cause.2)
-  weaker-cause (Err (refusal.TooLong name)) cause = (comes _ cause.0, cause.1, cause.2)
+  weaker-cause (Err (refusal.Fault name)) cause = (cause.0, comes _ cause.1, cause.2, cause.3)
+  weaker-cause (Err (refusal.TooLong name)) cause = (cause.0, comes _ cause.1, cause.2, cause.3)
   weaker-cause (Err refusal.Output) cause = (cause.0, comes (Gives cause.0) cause.1, cause.2, cause.3)
   weaker-cause (Err refusal.Memory) cause = tt
   weaker-cause (Err refusal.Usage) cause = (comes _ cause.0, cause.1)

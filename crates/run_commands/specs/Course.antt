@@ -17,6 +17,7 @@ use Rattle.run_commands.specs.MadeScript.{made_script}
 use Rattle.run_commands.specs.Summary.{summary}
 use Rattle.run_commands.specs.Keys.{keys_text}
 use Rattle.run_commands.specs.Verifying.{public_in, verified_text}
+use Rattle.command_ends.specs.declared.limits.TheConstants.{MOST_BYTES, MOST_KEPT_BYTES}
 use Rattle.command_ends.specs.Steps.{Step}
 use Rattle.command_ends.specs.Steps.Step.{Load, Gives, Refuses}
 use Rattle.command_ends.specs.declared.refusal.KeepFault.{KeepFault}
@@ -31,9 +32,9 @@ use Rattle.run_commands.specs.Reading.{with_pieces}
 
 -- the files of a play are the scenario, the script and the words
 abbrev pub play_step : Readers → List ℕ → List ℕ → List ℕ → List (List ℕ) → Step
-play_step r scenario script words [] = Load scenario
-play_step r scenario script words (a ∷ []) = with_scenario a (λ c. Load script)
-play_step r scenario script words (a ∷ b ∷ []) = with_scenario a (λ c. with_script c b (λ lines. Load words))
+play_step r scenario script words [] = Load scenario MOST_BYTES
+play_step r scenario script words (a ∷ []) = with_scenario a (λ c. Load script MOST_BYTES)
+play_step r scenario script words (a ∷ b ∷ []) = with_scenario a (λ c. with_script c b (λ lines. Load words MOST_BYTES))
 play_step r scenario script words (a ∷ b ∷ d ∷ more) =
     with_scenario a (λ c. with_script c b (λ lines. with_words c d (λ sayings.
     with_play r c lines sayings (λ history. Gives (r.text_of c history)))))
@@ -69,8 +70,8 @@ RunStep r false scenario script words turns contents step = step ≡ Refuses ref
 
 -- those of a replay are the scenario and the history
 abbrev pub replay_step : Readers → List ℕ → List ℕ → List (List ℕ) → Step
-replay_step r scenario history [] = Load scenario
-replay_step r scenario history (a ∷ []) = with_scenario a (λ c. Load history)
+replay_step r scenario history [] = Load scenario MOST_BYTES
+replay_step r scenario history (a ∷ []) = with_scenario a (λ c. Load history MOST_BYTES)
 replay_step r scenario history (a ∷ b ∷ more) = with_scenario a (λ c. with_history r c b (λ h. Gives (r.text_of c h)))
 
 -- Of what stations kept: the text of one of the histories that join it, or the refusal of the first file that isn't such.
@@ -81,12 +82,12 @@ MergeEnds r c keeps kept None step =
 
 -- the next of the files that stations kept, or what comes of all
 abbrev pub MergeNext : Readers → Contents → List (List ℕ) → List (List ℕ) → Option (List ℕ) → Step → Type 0
-MergeNext r c keeps kept (Some name) step = step ≡ Load name
+MergeNext r c keeps kept (Some name) step = step ≡ Load name MOST_KEPT_BYTES
 MergeNext r c keeps kept None step = MergeEnds r c keeps kept (r.join_fault c kept) step
 
 -- the files of a merge are the scenario and what stations kept, in the order of the words
 abbrev pub MergeCourse : Readers → List ℕ → List (List ℕ) → List (List ℕ) → Step → Type 0
-MergeCourse r scenario keeps [] step = step ≡ Load scenario
+MergeCourse r scenario keeps [] step = step ≡ Load scenario MOST_BYTES
 MergeCourse r scenario keeps (a ∷ kept) step = Accepted scenario_refusal (scenario_at a)
     (λ c. MergeNext r c keeps kept (slice_get keeps (length kept))) step
 
@@ -107,7 +108,7 @@ unfoldable pub make_step : Readers → ℕ → Step
 make_step r number = with_scenario (made_scenario number) (λ c. made_run r c number)
 
 abbrev pub keys_step : List ℕ → List (List ℕ) → Step
-keys_step scenario [] = Load scenario
+keys_step scenario [] = Load scenario MOST_BYTES
 keys_step scenario (a ∷ more) = with_scenario a (λ c. Gives (keys_text c))
 
 abbrev pub KeysCourse : List ℕ → List (List ℕ) → Step → Type 0
@@ -115,8 +116,8 @@ KeysCourse scenario contents step = step ≡ keys_step scenario contents
 
 -- the message and the signature are loaded, and the text is there where the key verifies
 abbrev pub VerifyStep : List ℕ → List ℕ → List ℕ → List (List ℕ) → Step → Type 0
-VerifyStep public message sig [] step = step ≡ Load message
-VerifyStep public message sig (a ∷ []) step = step ≡ Load sig
+VerifyStep public message sig [] step = step ≡ Load message MOST_BYTES
+VerifyStep public message sig (a ∷ []) step = step ≡ Load sig MOST_BYTES
 VerifyStep public message sig (a ∷ b ∷ more) step =
     (Verifies public a b × (step ≡ Gives verified_text))
     ⊎ ((Verifies public a b → ⊥) × (step ≡ Refuses refusal.NotVerified))
@@ -128,8 +129,8 @@ VerifyCourse (Some public) message sig contents step = VerifyStep public message
 
 -- a question is asked over the history of a file
 abbrev pub question_step : Readers → List ℕ → List ℕ → Question → List (List ℕ) → Step
-question_step r scenario history asked [] = Load scenario
-question_step r scenario history asked (a ∷ []) = with_scenario a (λ c. Load history)
+question_step r scenario history asked [] = Load scenario MOST_BYTES
+question_step r scenario history asked (a ∷ []) = with_scenario a (λ c. Load history MOST_BYTES)
 question_step r scenario history asked (a ∷ b ∷ more) =
     with_scenario a (λ c. with_history r c b (λ h. with_answer r c h asked))
 
@@ -138,8 +139,8 @@ QuestionCourse r scenario history asked contents step = step ≡ question_step r
 
 -- the files of a rebuilt request are the scenario and the parts
 abbrev pub rebuild_step : Readers → List ℕ → List ℕ → List (List ℕ) → Step
-rebuild_step r scenario pieces [] = Load scenario
-rebuild_step r scenario pieces (a ∷ []) = with_scenario a (λ c. Load pieces)
+rebuild_step r scenario pieces [] = Load scenario MOST_BYTES
+rebuild_step r scenario pieces (a ∷ []) = with_scenario a (λ c. Load pieces MOST_BYTES)
 rebuild_step r scenario pieces (a ∷ b ∷ more) = with_scenario a (λ c. with_pieces r c b)
 
 abbrev pub RebuildCourse : Readers → List ℕ → List ℕ → List (List ℕ) → Step → Type 0

@@ -3,7 +3,8 @@ use Rattle.std.specs.Prelude.{◌≡◌, ◌≤◌, ℕ, List, Option, Result, O
 use Rattle.outside.specs.Faults.{HasRisen}
 use Rattle.command_ends.specs.Steps.{Step}
 use Rattle.command_ends.specs.Steps.Step.{Refuses}
-use Rattle.command_ends.specs.Calls.{IsContent, IsTooLong, most_bytes}
+use Rattle.command_ends.specs.Calls.{IsContent, IsTooLong}
+use Rattle.command_ends.specs.declared.limits.TheConstants.{MOST_BYTES}
 use Rattle.command_ends.specs.declared.refusal.Refusal.{Refusal}
 use Rattle.command_ends.specs.declared.refusal.Refusal.TheVariants as refusal
 
@@ -24,11 +25,11 @@ Leads {A} {V} reads shown content (Err why) = (onward : V → Step) → reads co
 abbrev pub IsRead : {A V : Type 0} → (List ℕ → (V → Step) → Step) → (A → V) → Option (List ℕ) →
     Result A Refusal → Type 0
 IsRead reads shown held result =
-    (content : List ℕ) × IsContent held content × (length content ≤ most_bytes) × Leads reads shown content result
+    (content : List ℕ) × IsContent held content × (length content ≤ MOST_BYTES) × Leads reads shown content result
 
 -- the file's content, which isn't too long, and of which this holds
 abbrev pub IsOf : Option (List ℕ) → (List ℕ → Type 0) → Type 0
-IsOf held Holds = (content : List ℕ) × IsContent held content × (length content ≤ most_bytes) × Holds content
+IsOf held Holds = (content : List ℕ) × IsContent held content × (length content ≤ MOST_BYTES) × Holds content
 
 -- Why a file of that name gave a value, or none. Want of memory alone is free.
 abbrev pub OpenCause : {A V : Type 0} → (List ℕ → (V → Step) → Step) → (A → V) → Option (List ℕ) → ℕ → ℕ →
@@ -36,5 +37,5 @@ abbrev pub OpenCause : {A V : Type 0} → (List ℕ → (V → Step) → Step) �
 OpenCause reads shown held before after name (Ok value) = IsRead reads shown held (Ok value)
 OpenCause reads shown held before after name (Err refusal.Memory) = Unit {0}
 OpenCause reads shown held before after name (Err (refusal.Fault named)) = (named ≡ name) × HasRisen before after
-OpenCause reads shown held before after name (Err (refusal.TooLong named)) = (named ≡ name) × IsTooLong held
+OpenCause reads shown held before after name (Err (refusal.TooLong named)) = (named ≡ name) × IsTooLong MOST_BYTES held
 OpenCause reads shown held before after name (Err why) = IsRead reads shown held (Err why)

@@ -11,12 +11,13 @@ use Rattle.history_rules.specs.Legal.{IsLegal}
 use Rattle.history_rules.specs.Counts.{forged}
 use Rattle.world_rules.specs.Scenarios.{setup_of}
 use Rattle.play_words.specs.Accepted.{is_raw}
+use Rattle.command_words.specs.declared.command_line.TheConstants.{MOST_KEEPS}
 use Rattle.script_grammar.specs.Names.{who_of}
 use Rattle.script_lines.specs.Scripts.{script_in}
 use Rattle.script_lines.specs.Sayings.{words_in}
 use Rattle.script_lines.specs.declared.script.Line.{Line}
 use Rattle.script_lines.specs.declared.saying.Saying.{Saying}
-use Rattle.command_ends.specs.Calls.{most_bytes}
+use Rattle.command_ends.specs.declared.limits.TheConstants.{MOST_KEPT_BYTES}
 use Rattle.command_ends.specs.declared.refusal.KeepFault.{KeepFault}
 use Rattle.command_ends.specs.declared.refusal.LineFault.{LineFault}
 use Rattle.command_ends.specs.declared.refusal.NoAnswer.{NoAnswer}
@@ -63,11 +64,11 @@ are_in_range hands turns = (nat_le 1 hands && nat_le hands 4) && (nat_le 1 turns
 
 -- so many files may be merged
 abbrev pub are_few : ℕ → Bool
-are_few count = nat_le 1 count && nat_le count 26
+are_few count = nat_le 1 count && nat_le count MOST_KEEPS
 
--- each file could be loaded
+-- each file could be loaded as one that a station kept
 abbrev pub AreShort : List (List ℕ) → Type 0
-AreShort files = All (λ (file : List ℕ). length file ≤ most_bytes) files
+AreShort files = All (λ (file : List ℕ). length file ≤ MOST_KEPT_BYTES) files
 
 -- the text of a history is read again as that history, as its text tells it
 abbrev pub Tells : Readers → Contents → List Entry → Type 0

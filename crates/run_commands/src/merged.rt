@@ -10,7 +10,8 @@ ghost use Rattle.run_commands.specs.Told.{told_merges};
 
 use crate::opening::open_scenario;
 use crate::runs::Runs;
-use command_ends::{Refusal, load};
+use command_ends::{Refusal, load_kept};
+use command_words::MOST_KEEPS;
 use outside::Files;
 use plain_lists::{Bytes, Want};
 use scenario_file::Scenario;
@@ -20,7 +21,7 @@ use std::alloc::Global;
 fn are_few(count: usize) -> bool
     ensures { result ≡ are_few count }
 {
-    1 <= count && count <= 26
+    1 <= count && count <= MOST_KEEPS
 }
 
 /// The text of a history that joins what stations kept in these files.
@@ -81,7 +82,7 @@ fn merge_from<R: Runs, F: Files>(
     let Some(keep) = keeps.get(loaded.len()) else {
         return runs.merge_text(alloc, scenario, keeps, loaded.as_slice());
     };
-    match load(alloc, keep, files) {
+    match load_kept(alloc, keep, files) {
         Ok(content) => match add_content(alloc, &mut loaded, content) {
             Ok(()) => merge_from(alloc, runs, scenario, keeps, loaded, files),
             Err(Want) => Err(Refusal::Memory),

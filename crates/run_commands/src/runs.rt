@@ -11,6 +11,7 @@ pub trait Runs {
     ghost use Rattle.std.specs.Prelude.{◌≡◌, ◌≤◌, length, map, true};
     ghost use Rattle.scenario_file.specs.Reading.{contents};
     ghost use Rattle.scenario_file.specs.Valid.{IsScenario};
+    ghost use Rattle.command_words.specs.declared.command_line.TheConstants.{MOST_KEEPS};
     ghost use Rattle.run_commands.specs.Readers.{AreShort, Readers, KeepsRules, IsScriptOf, AreWordsOf, PlayGives, RunGives, ReplayGives, MergeGives, AnswerGives, RebuildGives, are_in_range};
 
     // The definitions that the texts go by.
@@ -70,7 +71,7 @@ pub trait Runs {
     ) -> Result<Vec<u8>, Refusal>
         requires valid { IsScenario (contents scenario.now) }
         requires all { length kept.now ≡ length names.now }
-        requires few { length kept.now ≤ 26 }
+        requires few { length kept.now ≤ MOST_KEEPS }
         requires short { AreShort kept.now }
         ensures { MergeGives readers (contents scenario.now) (map (λ name. name.now) names.now) kept.now result };
 

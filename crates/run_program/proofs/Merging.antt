@@ -1,42 +1,48 @@
 -- What a merge gives, by what its parts answer.
 use Rattle.std.proofs.Common.{◌≡◌, ◌≤◌, ◌<◌, ◌*◌, ◌^◌, ℕ, List, [], ◌∷◌, Option, None, Some, Result, Ok, Err, length, sym, ◌∙◌}
-use Rattle.std.proofs.Common.{ap, arith}
+use Rattle.std.proofs.Common.{ap, arith, get_or}
 use Rattle.std.proofs.lemmas.List.Elements.{All-head, All-tail}
 use Rattle.std.proofs.lemmas.Option.{get_or_from_slice_get, unwrap_or-slice_get}
 use Rattle.std.specs.Prelude.{slice_get, slice_index_or, unwrap_or}
+use Rattle.std.specs.List.{All}
 use Rattle.std.specs.Result.{IfOk}
 use Rattle.std.specs.declared.vec.Vec.{Vec}
 use Rattle.std.specs.declared.alloc.Global.{Global}
 use Rattle.scenario_file.specs.Reading.{Contents}
 use Rattle.history_rules.specs.Events.{Entry}
 use Rattle.plain_lists.specs.declared.want.Want.{Want}
-use Rattle.command_ends.specs.Calls.{most_bytes}
+use Rattle.command_ends.specs.declared.limits.TheConstants.{MOST_KEPT_BYTES}
+use Rattle.command_words.specs.declared.command_line.TheConstants.{MOST_KEEPS}
 use Rattle.command_ends.specs.declared.refusal.KeepFault.{KeepFault}
 use Rattle.command_ends.specs.declared.refusal.Refusal.{Refusal}
 use Rattle.command_ends.specs.declared.refusal.Refusal.TheVariants as refusal
 use Rattle.joined_histories.specs.declared.refusal.JoinRefusal.{JoinRefusal}
 use Rattle.joined_histories.specs.declared.refusal.JoinRefusal.TheVariants as join
-use Rattle.joined_histories.specs.Files.{Refuses, bytes_in, files_in}
+use Rattle.joined_histories.specs.Files.{IsShort, Refuses, bytes_in, files_in}
 use Rattle.joined_histories.specs.Joins.{JoinsFiles}
 use Rattle.run_commands.specs.Readers.{AreShort, MergeGives, keep_refusal}
 use Rattle.run_program.specs.Merges.{TellsFault, ToldName, fault_of, first_fault}
 use Rattle.run_program.specs.Whole.{program_readers, IsTextOf}
 
 -- a file that could be loaded
-abbrev IsShort : List ℕ → Type 0
-IsShort file = length file ≤ most_bytes
+abbrev IsKept : List ℕ → Type 0
+IsKept file = length file ≤ MOST_KEPT_BYTES
 
--- files that could be loaded, as many as there may be, aren't too long together
-bytes_short : (files : List (List ℕ)) → AreShort files → bytes_in files ≤ length files * 16777216
+-- files that could be loaded, as many as there may be, aren't too long, each alone and all together
+pub each_short : (files : List (List ℕ)) → AreShort files → All IsShort files
+each_short files all = λ i file there. let one : length (get_or files i file) ≤ 4294967295 = all i file there in omega arith
+
+bytes_short : (files : List (List ℕ)) → AreShort files → bytes_in files ≤ length files * 4294967295
 bytes_short [] all = omega arith
 bytes_short (file ∷ rest) all =
-    let more = bytes_short rest (All-tail IsShort file rest all) in
-    let one : length file ≤ 16777216 = All-head IsShort file rest all in
+    let more = bytes_short rest (All-tail IsKept file rest all) in
+    let one : length file ≤ 4294967295 = All-head IsKept file rest all in
     omega arith
 
-pub files_short : (files : List (List ℕ)) → length files ≤ 26 → AreShort files → bytes_in files < 2 ^ 32
-files_short files few all =
+pub all_short : (files : List (List ℕ)) → length files ≤ MOST_KEEPS → AreShort files → bytes_in files < 72 * 2 ^ 32
+all_short files few all =
     let most = bytes_short files all in
+    let many : length files ≤ 26 = few in
     omega arith
 
 -- the text of a history that joins files

@@ -2,6 +2,7 @@
 ghost use Rattle.std.specs.Prelude.{◌≡◌, ◌≤◌, length, map};
 ghost use Rattle.scenario_file.specs.Reading.{contents};
 ghost use Rattle.scenario_file.specs.Valid.{IsScenario};
+ghost use Rattle.command_words.specs.declared.command_line.TheConstants.{MOST_KEEPS};
 ghost use Rattle.run_commands.specs.Readers.{AreShort, MergeGives};
 ghost use Rattle.run_program.specs.Merges.{TellsFault, ToldName, fault_of};
 ghost use Rattle.run_program.specs.Whole.{program_readers};
@@ -23,7 +24,7 @@ pub(crate) fn merged_text(
     kept: &[Bytes],
 ) -> Result<Vec<u8>, Refusal>
     requires valid { IsScenario (contents scenario.now) }
-    requires few { length kept.now ≤ 26 }
+    requires few { length kept.now ≤ MOST_KEEPS }
     requires short { AreShort kept.now }
     ensures { MergeGives program_readers (contents scenario.now) (map (λ name. name.now) names.now) kept.now result }
 {

@@ -91,6 +91,19 @@ fn a_script_that_is_too_long_or_not_there_is_named(rt: HostRuntime) -> Result<()
 }
 
 #[test]
+fn what_a_station_kept_may_be_longer(rt: HostRuntime) -> Result<(), Fail> {
+    // A file without a whole line is nobody's.
+    let kept = long_script(rt.alloc())?;
+    let given = Given {
+        script: kept.as_str(),
+        ..NOTHING
+    };
+    let text = text_by(&rt, rt.alloc(), "merge scenario script", given)?;
+    assert_eq!(rt; count_of(text.as_str(), "history 0"), 1);
+    Ok(())
+}
+
+#[test]
 fn a_made_run_is_the_same_each_time(rt: HostRuntime) -> Result<(), Fail> {
     let text = text_by(&rt, rt.alloc(), "make 1", NOTHING)?;
     assert_eq!(rt; count_of(text.as_str(), "agree yes"), 1);

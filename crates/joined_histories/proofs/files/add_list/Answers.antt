@@ -1,4 +1,4 @@
--- The list that was read is a station's, and has no more entries than its file bytes.
+-- The list that was read is a station's, and each of its entries took a line of its file.
 use Rattle.std.proofs.Common.{◌<◌, Ok, length, sym, ◌∙◌, ap, subst, arith}
 use Rattle.std.proofs.lemmas.Option.{slice_get_within}
 use Rattle.scenario_file.specs.Reading.{contents}

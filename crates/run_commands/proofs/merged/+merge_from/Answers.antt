@@ -31,9 +31,9 @@ returns-in-Ok-add_content-clause-cause g t c = λ name first one.
     let names = map (λ keep. keep.now) c.args.keeps.now in
     let next = MergeCourse (told_merges r) name names in
     let held = g.F.Files.held c.args.files.now in
-    let later = g.F.Files.held c.load.new.files in
+    let later = g.F.Files.held c.load_kept.new.files in
     let before = g.F.Files.faults c.args.files.now in
-    let between = g.F.Files.faults c.load.new.files in
+    let between = g.F.Files.faults c.load_kept.new.files in
     let after = g.F.Files.faults c.merge_from.new.files in
     let at : c.len.result ≡ length c.args.loaded.items = omega (arith, c.len.ensures, c.args.loaded.ok) in
     let more : c.add_content.new.loaded.items ≡ c.args.loaded.items ++ c.in-Ok.content.items ∷ [] =
@@ -54,7 +54,7 @@ returns-in-Err-clause-cause g t c = λ name first one.
     let names = map (λ keep. keep.now) c.args.keeps.now in
     let at : c.len.result ≡ length c.args.loaded.items = omega (arith, c.len.ensures, c.args.loaded.ok) in
     load-failed (MergeCourse (told_merges r) name names) (g.F.Files.held c.args.files.now)
-    (g.F.Files.faults c.args.files.now) (g.F.Files.faults c.load.new.files) (first ∷ c.args.loaded.items)
+    (g.F.Files.faults c.args.files.now) (g.F.Files.faults c.load_kept.new.files) (first ∷ c.args.loaded.items)
     c.in-Some.keep.now.now c.in-Err.refusal
     (merge-due (told_merges r) name names first c.args.loaded.items c.in-Some.keep.now.now
     (contents c.args.scenario.now) one

@@ -3,12 +3,15 @@
 use Rattle.std.proofs.Common.{◌∙◌, map}
 use Rattle.scenario_file.specs.Reading.{contents}
 use Rattle.world_history.proofs.AuditAsks.{all_unsigned}
-use Rattle.run_program.proofs.Merging.{files_short, gives_merge, gives_fault}
+use Rattle.run_program.proofs.Merging.{all_short, each_short, gives_merge, gives_fault}
 use Rattle.run_program.proofs.Telling.{is_told}
 use Rattle.run_program.proofs.merged.merged_text.Goals as goal
 
 pub join-requires-clause-short : goal.join-requires-clause-short
-join-requires-clause-short c = files_short c.args.kept.now c.requires.few c.requires.short
+join-requires-clause-short c = each_short c.args.kept.now c.requires.short
+
+pub join-requires-clause-together : goal.join-requires-clause-together
+join-requires-clause-together c = all_short c.args.kept.now c.requires.few c.requires.short
 
 pub write_run_of-requires-clause-legal : goal.write_run_of-requires-clause-legal
 write_run_of-requires-clause-legal c = c.in-Ok.ensures.joins.joint.legal
