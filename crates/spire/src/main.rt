@@ -29,10 +29,16 @@ mod refused;
 mod replayed;
 #[cfg(test)]
 mod runs;
+#[cfg(test)]
+mod station_calls;
 
 use command_ends::no_words::{WordsRefusal, spire_without_words};
-use outside::{RealErr, RealFiles, RealOut};
+use outside::{RealErr, RealFiles, RealOut, Sink};
 use run_program::call::spire;
+use station_commands::RealKeep;
+use station_commands::call::station;
+use station_files::ReadLines;
+use station_words::is_station;
 use std::process::ExitCode;
 use std::{env, io};
 
@@ -40,6 +46,9 @@ fn main(rt: HostRuntime) -> ExitCode {
     let alloc = rt.alloc();
     let mut err = RealErr::make(rt.stderr());
     let status = match read_words(&rt) {
+        Ok(words) if is_station(words.as_slice()) => {
+            live_station(&rt, words.as_slice(), &mut err)
+        }
         Ok(words) => {
             let mut files = RealFiles::make(alloc, &rt);
             let mut out = RealOut::make(io::writer(&rt));
@@ -48,6 +57,20 @@ fn main(rt: HostRuntime) -> ExitCode {
         Err(why) => spire_without_words(alloc, why, &mut err),
     };
     ExitCode::from(status)
+}
+
+// Lives a station over the real system. It puts out as it goes, so it is no command that ends with one text.
+fn live_station<E: Sink>(rt: &HostRuntime, words: &[String], err: &mut E) -> u8 {
+    let alloc = rt.alloc();
+    let Ok(mut lines) = ReadLines::make(alloc, rt.reader()) else {
+        return spire_without_words(alloc, WordsRefusal::Want, err);
+    };
+    let mut files = RealFiles::make(alloc, rt);
+    let mut keep = RealKeep::make(alloc, rt);
+    let mut out = RealOut::make(io::writer(rt));
+    station(
+        alloc, words, &mut files, &mut keep, &mut lines, &mut out, err,
+    )
 }
 
 // The words after the program's name.

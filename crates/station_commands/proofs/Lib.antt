@@ -1,0 +1,3 @@
+pub mod Scenarios
+pub mod Ends
+pub mod Calls

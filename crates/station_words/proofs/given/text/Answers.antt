@@ -1,0 +1,8 @@
+-- The kit's call speaks of its entries, and the definition of the rows.
+use Rattle.std.proofs.Common.{◌∙◌}
+use Rattle.clap.specs.Words.{found_of}
+use Rattle.clap.proofs.WalkLemmas.{first_value-rows}
+use Rattle.station_words.proofs.given.text.Goals as goal
+
+pub returns : goal.returns
+returns c = c.get_str.ensures ∙ first_value-rows (found_of c.args.found.now) c.args.id.now
