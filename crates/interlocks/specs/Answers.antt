@@ -1,4 +1,5 @@
-use Rattle.std.specs.Prelude.{◌≡◌, Option, Some, None, Result, Ok, Err}
+use Rattle.std.specs.Prelude.{◌≡◌, Bool, true, false, Option, Some, None, Result, Ok, Err}
+use Rattle.plain_lists.specs.Answers.{IsRight, IsRightRefusal, IsRightSeen}
 use Rattle.interlocks.specs.declared.refusal.RuleRefusal.{RuleRefusal}
 use Rattle.interlocks.specs.declared.refusal.RuleRefusal.TheVariants as refusal
 use Rattle.interlocks.specs.declared.tree.Tree.{Tree}
@@ -12,20 +13,19 @@ Gives (Ok x) next = next ≡ Some x
 Gives (Err stop.Misplaced) next = next ≡ None
 Gives (Err stop.Want) next = Unit {0}
 
--- an answer is what it should be, unless memory ran out
+-- whether it is want of memory that is told
+abbrev pub is_want : RuleRefusal → Bool
+is_want refusal.Want = true
+is_want other = false
+
+-- an answer is the right one, unless memory ran out
 abbrev pub Answers : {A : Type 0} → Result A RuleRefusal → Result A RuleRefusal → Type 0
-Answers (Ok x) right = right ≡ Ok x
-Answers (Err (refusal.BadRule p)) right = right ≡ Err (refusal.BadRule p)
-Answers (Err (refusal.NoName p)) right = right ≡ Err (refusal.NoName p)
-Answers (Err refusal.Want) right = Unit {0}
+Answers answer right = IsRight is_want answer right
 
--- a refusal is what an answer should be, unless memory ran out
+-- a refusal is the right answer, unless memory ran out
 abbrev pub Refuses : {A : Type 0} → RuleRefusal → Result A RuleRefusal → Type 0
-Refuses (refusal.BadRule p) right = right ≡ Err (refusal.BadRule p)
-Refuses (refusal.NoName p) right = right ≡ Err (refusal.NoName p)
-Refuses refusal.Want right = Unit {0}
+Refuses why right = IsRightRefusal is_want why right
 
--- a tree is that of the right rule
+-- a tree is that of the right rule, unless memory ran out
 abbrev pub AnswersTree : Result Tree RuleRefusal → Result Formula RuleRefusal → Type 0
-AnswersTree (Ok t) right = right ≡ Ok (formula t)
-AnswersTree (Err e) right = Refuses e right
+AnswersTree answer right = IsRightSeen is_want formula answer right

@@ -2,6 +2,7 @@
 -- is one at most. (This project's own.)
 use Rattle.std.specs.Prelude.{◌≡◌, ◌≤◌, ◌<◌, ℕ, ◌+◌, ◌*◌, ◌^◌, Bool, true, false, List, [], ◌∷◌, Option, Some, None, Result, Ok, Err, length}
 use Rattle.std.specs.Prelude.{replicate, set, slice_get}
+use Rattle.plain_lists.specs.Answers.{IsRightRefusal, IsRightSeen}
 use Rattle.scenario_file.specs.declared.actors.Cast.{Cast}
 use Rattle.scenario_file.specs.Reading.{Contents, cast_of}
 use Rattle.script_grammar.specs.Faults.{Answer}
@@ -89,18 +90,21 @@ files_in c files = files_from c (none_given c) 0 files
 
 -- ---- Answers.
 
+-- whether it is want of memory that is told
+abbrev pub is_want : JoinRefusal → Bool
+is_want refusal.Want = true
+is_want other = false
+
 -- a refusal is the right answer, unless memory ran out
 abbrev pub Refuses : {A : Type 0} → JoinRefusal → Result A JoinRefusal → Type 0
-Refuses refusal.Want right = Unit {0}
-Refuses why right = right ≡ Err why
+Refuses why right = IsRightRefusal is_want why right
 
 -- what was read of files
 abbrev pub given_of : Kept → Given
 given_of read = record { lists = read.lists.items; gave = read.gave.items }
 
 abbrev pub ReadsFiles : Result Kept JoinRefusal → Answered → Type 0
-ReadsFiles (Ok read) right = right ≡ Ok (given_of read)
-ReadsFiles (Err why) right = Refuses why right
+ReadsFiles answer right = IsRightSeen is_want given_of answer right
 
 -- one file more was read, or is refused
 abbrev pub AddsFile : Answered → Result (Unit {0}) JoinRefusal → Kept → Type 0

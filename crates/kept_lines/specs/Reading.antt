@@ -1,8 +1,9 @@
 -- What was kept, read again. A file is whole lines; what stands behind its last line feed was torn, and is cut. Each line
 -- tells the next entry of the file's one actor, and is the line that is kept of that entry. (This project's own.)
-use Rattle.std.specs.Prelude.{◌≡◌, ℕ, ◌+◌, ◌-◌, Bool, false, ◌&&◌, if◌then◌else◌, List, [], ◌∷◌, ◌++◌, Option}
+use Rattle.std.specs.Prelude.{◌≡◌, ℕ, ◌+◌, ◌-◌, Bool, true, false, ◌&&◌, if◌then◌else◌, List, [], ◌∷◌, ◌++◌, Option}
 use Rattle.std.specs.Prelude.{Some, None, Result, Ok, Err, length, take, nat_eq}
 use Rattle.std.specs.Str.{bytes_eq}
+use Rattle.plain_lists.specs.Answers.{IsRight, IsRightRefusal}
 use Rattle.scenario_file.specs.Reading.{Contents, cast_of}
 use Rattle.script_grammar.specs.declared.fault.LineRefusal.{LineRefusal}
 use Rattle.script_grammar.specs.declared.fault.LineRefusal.TheVariants as fault
@@ -62,17 +63,18 @@ lines_in c actor before (line ∷ next ∷ more) =
 unfoldable pub kept_in : Contents → ℕ → List ℕ → Reading (List Entry)
 kept_in c actor bytes = lines_in c actor [] (pieces bytes)
 
+-- whether it is want of memory that is told
+abbrev pub is_want : KeptRefusal → Bool
+is_want refusal.Want = true
+is_want other = false
+
 -- a refusal is the right answer, unless memory ran out
 abbrev pub Refuses : {A : Type 0} → KeptRefusal → Reading A → Type 0
-Refuses (refusal.BadLine line) right = right ≡ Err (refusal.BadLine line)
-Refuses (refusal.NotLegal stamp) right = right ≡ Err (refusal.NotLegal stamp)
-Refuses (refusal.OtherWords stamp) right = right ≡ Err (refusal.OtherWords stamp)
-Refuses refusal.Want right = Unit {0}
+Refuses why right = IsRightRefusal is_want why right
 
 -- an answer is the right one, unless memory ran out
 abbrev pub Reads : {A : Type 0} → Reading A → Reading A → Type 0
-Reads (Ok x) right = right ≡ Ok x
-Reads (Err e) right = Refuses e right
+Reads answer right = IsRight is_want answer right
 
 -- the refusal of a line of this number
 abbrev pub fault_at : ℕ → LineRefusal → KeptRefusal

@@ -1,5 +1,6 @@
 -- What is printed of a text that is rebuilt from a text of parts. (This project's own.)
-use Rattle.std.specs.Prelude.{◌≡◌, ℕ, List, Option, Some, None, Result, Ok, Err}
+use Rattle.std.specs.Prelude.{◌≡◌, ℕ, Bool, true, false, List, Option, Some, None, Result, Ok, Err}
+use Rattle.plain_lists.specs.Answers.{IsRight, IsRightRefusal}
 use Rattle.quorum_sets.specs.Quorum.{group_size}
 use Rattle.scenario_file.specs.Reading.{Contents}
 use Rattle.parity_parts.specs.declared.part.Part.{Part}
@@ -34,13 +35,15 @@ abbrev pub fault_at : ℕ → LineRefusal → RebuildRefusal
 fault_at number line.Want = fault.Want
 fault_at number other = fault.BadLine number
 
+-- whether it is want of memory that is told
+abbrev pub is_want : RebuildRefusal → Bool
+is_want fault.Want = true
+is_want other = false
+
 -- a fault is the right answer, unless memory ran out
 abbrev pub RefusesText : {A : Type 0} → RebuildRefusal → Reading A → Type 0
-RefusesText (fault.BadLine number) right = right ≡ Err (fault.BadLine number)
-RefusesText fault.NoText right = right ≡ Err fault.NoText
-RefusesText fault.Want right = Unit {0}
+RefusesText why right = IsRightRefusal is_want why right
 
 -- an answer is the right one, unless memory ran out
 abbrev pub ReadsText : {A : Type 0} → Reading A → Reading A → Type 0
-ReadsText (Ok x) right = right ≡ Ok x
-ReadsText (Err e) right = RefusesText e right
+ReadsText answer right = IsRight is_want answer right

@@ -3,6 +3,7 @@ use Rattle.std.specs.Prelude.{◌≡◌, ℕ, zero, suc, ◌+◌, ◌==◌, code
 use Rattle.std.specs.Prelude.{◌∷◌, Option, Some, None, Result, Ok, Err, drop}
 use Rattle.std.specs.List.{slice_split, starts_with}
 use Rattle.std.specs.Str.{bytes_eq, is_utf8}
+use Rattle.plain_lists.specs.Answers.{IsRight, IsRightRefusal}
 use Rattle.scenario_file.specs.declared.actors.Cast.{Cast}
 use Rattle.script_grammar.specs.declared.fault.LineRefusal.{LineRefusal}
 use Rattle.script_grammar.specs.declared.fault.LineRefusal.TheVariants as fault
@@ -79,13 +80,15 @@ abbrev pub fault_at : ℕ → LineRefusal → HistoryRefusal
 fault_at number fault.Want = refusal.Want
 fault_at number other = refusal.BadLine number
 
+-- whether it is want of memory that is told
+abbrev pub is_want : HistoryRefusal → Bool
+is_want refusal.Want = true
+is_want other = false
+
 -- a refusal is the right answer, unless memory ran out
 abbrev pub RefusesRun : {A : Type 0} → HistoryRefusal → Reading A → Type 0
-RefusesRun (refusal.BadLine number) right = right ≡ Err (refusal.BadLine number)
-RefusesRun (refusal.NotLegal stamp) right = right ≡ Err (refusal.NotLegal stamp)
-RefusesRun refusal.Want right = Unit {0}
+RefusesRun why right = IsRightRefusal is_want why right
 
 -- an answer is the right one, unless memory ran out
 abbrev pub ReadsRun : {A : Type 0} → Reading A → Reading A → Type 0
-ReadsRun (Ok x) right = right ≡ Ok x
-ReadsRun (Err e) right = RefusesRun e right
+ReadsRun answer right = IsRight is_want answer right

@@ -1,5 +1,6 @@
 -- Answers of a reader of scenarios: a value, or the first fault with the name of its key.
-use Rattle.std.specs.Prelude.{◌≡◌, ℕ, List, Bool, if◌then◌else◌, Option, Some, None, Result, Ok, Err}
+use Rattle.std.specs.Prelude.{◌≡◌, ℕ, List, Bool, true, false, if◌then◌else◌, Option, Some, None, Result, Ok, Err}
+use Rattle.plain_lists.specs.Answers.{IsRight, IsRightRefusal, IsRightSeen}
 use Rattle.scenario_file.specs.declared.refusal.ScenarioRefusal.{ScenarioRefusal}
 use Rattle.scenario_file.specs.declared.refusal.ScenarioRefusal.TheVariants as refusal
 
@@ -25,21 +26,19 @@ abbrev pub or_bad : {A : Type 0} → List ℕ → Option A → Result A Scenario
 or_bad name None = bad name
 or_bad name (Some x) = Ok x
 
+-- whether it is want of memory that is told
+abbrev pub is_want : ScenarioRefusal → Bool
+is_want refusal.Want = true
+is_want other = false
+
 -- a refusal is the right answer, unless memory ran out
 abbrev pub Refuses : {A : Type 0} → ScenarioRefusal → Result A ScenarioRefusal → Type 0
-Refuses refusal.BadToml right = right ≡ Err refusal.BadToml
-Refuses (refusal.MissingKey name) right = right ≡ Err (refusal.MissingKey name)
-Refuses (refusal.BadValue name) right = right ≡ Err (refusal.BadValue name)
-Refuses (refusal.TooMany name) right = right ≡ Err (refusal.TooMany name)
-Refuses (refusal.UnknownKey name) right = right ≡ Err (refusal.UnknownKey name)
-Refuses refusal.Want right = Unit {0}
+Refuses why right = IsRightRefusal is_want why right
 
 -- an answer, seen as a value of another type, is the right one, unless memory ran out
 abbrev pub Shows : {A B : Type 0} → (A → B) → Result A ScenarioRefusal → Result B ScenarioRefusal → Type 0
-Shows show (Ok x) right = right ≡ Ok (show x)
-Shows show (Err e) right = Refuses e right
+Shows show answer right = IsRightSeen is_want show answer right
 
 -- an answer is the right one, unless memory ran out
 abbrev pub Answers : {A : Type 0} → Result A ScenarioRefusal → Result A ScenarioRefusal → Type 0
-Answers (Ok x) right = right ≡ Ok x
-Answers (Err e) right = Refuses e right
+Answers answer right = IsRight is_want answer right

@@ -1,5 +1,6 @@
 -- What a line says, or what is wrong with it. (This project's own.)
-use Rattle.std.specs.Prelude.{◌≡◌, ℕ, List, [], ◌∷◌, Option, Some, None, Result, Ok, Err}
+use Rattle.std.specs.Prelude.{◌≡◌, ℕ, Bool, true, false, List, [], ◌∷◌, Option, Some, None, Result, Ok, Err}
+use Rattle.plain_lists.specs.Answers.{IsRight, IsRightRefusal}
 use Rattle.script_grammar.specs.declared.fault.LineRefusal.{LineRefusal}
 use Rattle.script_grammar.specs.declared.fault.LineRefusal.TheVariants as fault
 
@@ -37,13 +38,15 @@ abbrev pub each : {A : Type 0} → (List ℕ → Result A LineRefusal) → List 
 each {A} read [] = Ok []
 each {A} read (part ∷ parts) = said (λ (p : A × List A). p.0 ∷ p.1) (both (read part) (each read parts))
 
+-- whether it is want of memory that is told
+abbrev pub is_want : LineRefusal → Bool
+is_want fault.Want = true
+is_want other = false
+
 -- a fault is the right answer, unless memory ran out
 abbrev pub Refuses : {A : Type 0} → LineRefusal → Result A LineRefusal → Type 0
-Refuses fault.BadLine right = right ≡ Err fault.BadLine
-Refuses fault.NoActor right = right ≡ Err fault.NoActor
-Refuses fault.Want right = Unit {0}
+Refuses why right = IsRightRefusal is_want why right
 
 -- an answer is the right one, unless memory ran out
 abbrev pub Answers : {A : Type 0} → Result A LineRefusal → Result A LineRefusal → Type 0
-Answers (Ok x) right = right ≡ Ok x
-Answers (Err e) right = Refuses e right
+Answers answer right = IsRight is_want answer right

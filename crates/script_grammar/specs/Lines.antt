@@ -1,10 +1,11 @@
 -- The lines of a file, and what a file says. (This project's own.)
-use Rattle.std.specs.Prelude.{◌≡◌, ℕ, suc, nat_lt, ◌==◌, Bool, true, if◌then◌else◌, List, [], ◌∷◌, map, Option, Some}
-use Rattle.std.specs.Prelude.{None, Result, Ok, Err}
+use Rattle.std.specs.Prelude.{◌≡◌, ℕ, suc, nat_lt, ◌==◌, Bool, true, false, if◌then◌else◌, List, [], ◌∷◌, map, Option}
+use Rattle.std.specs.Prelude.{Some, None, Result, Ok, Err}
 use Rattle.std.specs.Borrow.{Bor}
 use Rattle.std.specs.List.{slice_split, filter_map}
 use Rattle.std.specs.Str.{is_utf8}
 use Rattle.std.specs.Str.Lines.{lines}
+use Rattle.plain_lists.specs.Answers.{IsRight, IsRightRefusal}
 use Rattle.script_grammar.specs.declared.fault.LineRefusal.{LineRefusal}
 use Rattle.script_grammar.specs.declared.fault.LineRefusal.TheVariants as fault
 use Rattle.script_grammar.specs.declared.fault.ScriptRefusal.{ScriptRefusal}
@@ -81,13 +82,15 @@ unfoldable pub file_in : {A : Type 0} → ℕ → (ℕ → List (List ℕ) → R
     Result (List A) ScriptRefusal
 file_in most says bytes = all_in (limited most says) (numbered bytes)
 
+-- whether it is want of memory that is told
+abbrev pub is_want : ScriptRefusal → Bool
+is_want refusal.Want = true
+is_want other = false
+
 -- a refusal is the right answer, unless memory ran out
 abbrev pub RefusesFile : {A : Type 0} → ScriptRefusal → Result A ScriptRefusal → Type 0
-RefusesFile (refusal.BadLine number) right = right ≡ Err (refusal.BadLine number)
-RefusesFile (refusal.NoActor number) right = right ≡ Err (refusal.NoActor number)
-RefusesFile refusal.Want right = Unit {0}
+RefusesFile why right = IsRightRefusal is_want why right
 
 -- an answer is the right one, unless memory ran out
 abbrev pub Reads : {A : Type 0} → Result A ScriptRefusal → Result A ScriptRefusal → Type 0
-Reads (Ok x) right = right ≡ Ok x
-Reads (Err e) right = RefusesFile e right
+Reads answer right = IsRight is_want answer right
