@@ -1,6 +1,7 @@
 -- What one word more changes in what is kept.
 use Rattle.std.proofs.Common.{◌≡◌, ℕ, Bool, true, false, cond, ◌&&◌, not, List, [], ◌∷◌, ◌++◌, Option, Some, None}
-use Rattle.std.proofs.Common.{nat_eq, refl, sym, ◌∙◌, ap, eqb-true, eq-eqb}
+use Rattle.std.proofs.Common.{nat_eq, take, IsTrue, Result, Ok, Err, refl, sym, ◌∙◌, ap, eqb-true, eq-eqb}
+use Rattle.std.specs.Result.{OnOk, OnErr}
 use Rattle.std.proofs.lemmas.Bool.{true≢false, and_parts, and_from}
 use Rattle.std.proofs.lemmas.List.Folds.{find-append}
 use Rattle.std.specs.List.{find, filter_map}
@@ -13,7 +14,8 @@ use Rattle.std.specs.declared.hash.BuildHasherDefault.{BuildHasherDefault}
 use Rattle.std.specs.declared.alloc.Global.{Global}
 use Rattle.std.specs.declared.vec.Vec.{Vec}
 use Rattle.plain_lists.specs.Lists.{IsIn}
-use Rattle.plain_lists.proofs.Members.{find_some, none_some}
+use Rattle.plain_lists.proofs.Members.{find_some, none_some, each_append, in_take}
+use Rattle.plain_lists.specs.declared.want.Want.{Want}
 use Rattle.indexmap.specs.IndexMap.{get}
 use Rattle.message_types.specs.declared.signed.Signed.{Signed}
 use Rattle.message_types.specs.declared.body.Body.{Body}
@@ -24,7 +26,8 @@ use Rattle.blame_check.specs.declared.blame.Blame.{Blame}
 use Rattle.blame_check.specs.Contradictions.{are_rivals, contradict, pair_of, pair_with, first_pair, rising, named}
 use Rattle.blame_check.specs.Contradictions.{IsOwnPair}
 use Rattle.protocol_rules.specs.Keys.{Key, same_key}
-use Rattle.blame_check.specs.Slots.{Slot, key_for, slot_of, fills, HasTaken}
+use Rattle.checked_frames.specs.Standing.{Ring, part_stands, AllStand}
+use Rattle.blame_check.specs.Slots.{Slot, key_for, slot_of, fills, HasTaken, HasBegun, IsOfRing}
 use Rattle.protocol_rules.proofs.Keys.{same_key-same}
 use Rattle.blame_check.proofs.Rivals.{fills_rivals, fills_its, fills_none, no_rivals, contrary_parts}
 use Rattle.blame_check.proofs.FirstPairs.{or_none, first_pair-more, find_nothing, finds_nothing, finds_first}
@@ -45,6 +48,26 @@ none_taken n blame masters firsts pairs = record {
   firsts = λ key. ap (lookup (same_key key)) firsts;
   pairs = pairs ∙ sym (nobody (numbers_below n));
 }
+
+-- what stands in a ring stays so with parts that do, or a beginning of them
+pub stays_of_ring : (ring : Ring) (n : ℕ) (old new : Blame) (parts : List (Signed Body)) (r : Result (Unit {0}) Want)
+    → AllStand ring parts
+    → OnOk r ((m : ℕ) (words : List (Signed Body)) → HasTaken m words old → HasTaken m (words ++ parts) new)
+    → OnErr r ((m : ℕ) (words : List (Signed Body)) → HasTaken m words old → HasBegun m words parts new)
+    → IsOfRing ring n old → IsOfRing ring n new
+stays_of_ring ring n old new parts (Ok done) stand taken begun was = record {
+  words = was.words ++ parts;
+  taken = taken n was.words was.taken;
+  stand = each_append (λ p. IsTrue (part_stands ring p)) was.words parts was.stand stand;
+}
+stays_of_ring ring n old new parts (Err want) stand taken begun was =
+    let some = begun n was.words was.taken in
+    record {
+      words = was.words ++ take some.count parts;
+      taken = some.taken;
+      stand = each_append (λ p. IsTrue (part_stands ring p)) was.words (take some.count parts) was.stand
+          (λ p among. stand p (in_take some.count parts among));
+    }
 
 -- who is named, with one word more
 named-more : (n : ℕ) (words : List (Signed Body)) (q : Signed Body) (late : ℕ → Option Named) →

@@ -29,7 +29,7 @@ use Rattle.history_laws.proofs.Same.{body_test}
 use Rattle.blame_check.specs.declared.pairs.Named.{Named}
 use Rattle.blame_check.specs.Contradictions.{are_rivals, first_pair, named}
 use Rattle.blame_check.specs.Laws.{words_taken, NamedContradict, ContraryAreNamed, has_commit, QuorumsNameMany}
-use Rattle.blame_check.specs.Laws.{CorrectAreNotNamed}
+use Rattle.blame_check.specs.Laws.{NamedStand, CorrectAreNotNamed}
 use Rattle.blame_check.proofs.Rivals.{contrary_parts}
 use Rattle.blame_check.proofs.FirstPairs.{IsPair, pair_is, one_word}
 use Rattle.blame_check.proofs.Rising.{is_of, there_is}
@@ -98,6 +98,11 @@ named_contradict w history legal x among =
           (word_signed w history legal x.second pair.second_in);
       contrary = pair.contrary;
     }
+
+pub named_stand : NamedStand
+named_stand ring n words stand x among =
+    let pair = (named_for n words x among).2 in
+    record { first = stand x.first pair.first_in; second = stand x.second pair.second_in }
 
 pub contrary_are_named : ContraryAreNamed
 contrary_are_named n words p q p_in q_in contrary below = by (first_pair p.signer [] words) refl

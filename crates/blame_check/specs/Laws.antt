@@ -1,8 +1,8 @@
 -- What blame is worth, as statements over every setup and legal history. (That two quorums' commits of different
 -- digests show f + 1 masters at fault is PBFT's argument for safety, turned round.)
-use Rattle.std.specs.Prelude.{◌≡◌, ℕ, ◌+◌, ◌<◌, ◌≤◌, Bool, true, ◌&&◌, List, length, nat_eq}
+use Rattle.std.specs.Prelude.{◌≡◌, ℕ, ◌+◌, ◌<◌, ◌≤◌, Bool, true, IsTrue, ◌&&◌, List, length, nat_eq}
 use Rattle.std.specs.List.{flat_map, list_any}
-use Rattle.plain_lists.specs.Lists.{IsIn}
+use Rattle.plain_lists.specs.Lists.{IsIn, Each}
 use Rattle.quorum_sets.specs.Masters.{voters}
 use Rattle.message_types.specs.declared.signed.Signed.{Signed}
 use Rattle.message_types.specs.declared.body.Body.{Body}
@@ -15,6 +15,7 @@ use Rattle.history_rules.specs.Legal.{IsLegal}
 use Rattle.history_rules.specs.Audit.{parts_taken, NothingForged}
 use Rattle.history_rules.specs.Sameness.{is_same_body}
 use Rattle.agreement.specs.Laws.{HasSizes}
+use Rattle.checked_frames.specs.Standing.{Ring, part_stands, AllStand}
 use Rattle.blame_check.specs.declared.pairs.Named.{Named}
 use Rattle.blame_check.specs.Contradictions.{contradict, named}
 
@@ -39,6 +40,16 @@ pub record IsProof (w : Setup) (pair : Named) : Type 0 where
 abbrev pub NamedContradict : Type 0
 NamedContradict = (w : Setup) (history : List Entry) → IsLegal w history → (pair : Named) →
     IsIn pair (blamed w history) → IsProof w pair
+
+-- both words of a pair stand in the ring
+pub record PairStands (ring : Ring) (pair : Named) : Type 0 where
+  pub first : IsTrue (part_stands ring pair.first)
+  pub second : IsTrue (part_stands ring pair.second)
+
+-- Where all words stand in a ring, both words of each pair that is named for them do.
+abbrev pub NamedStand : Type 0
+NamedStand = (ring : Ring) (n : ℕ) (words : List (Signed Body)) → AllStand ring words →
+    Each (PairStands ring) (named n words)
 
 -- Who signed two words that contradict each other is named, wherever among those taken the two stand.
 abbrev pub ContraryAreNamed : Type 0

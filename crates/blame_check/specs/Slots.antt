@@ -8,6 +8,7 @@ use Rattle.message_types.specs.declared.signed.Signed.{Signed}
 use Rattle.message_types.specs.declared.body.Body.{Body}
 use Rattle.message_types.specs.declared.body.Body.TheVariants as body
 use Rattle.protocol_rules.specs.Keys.{Key, same_key}
+use Rattle.checked_frames.specs.Standing.{Ring, AllStand}
 use Rattle.blame_check.specs.declared.blame.Blame.{Blame}
 use Rattle.blame_check.specs.Contradictions.{named}
 
@@ -35,6 +36,12 @@ pub record HasTaken (n : ℕ) (words : List (Signed Body)) (blame : Blame) : Typ
   pub masters : blame.masters ≡ n
   pub firsts : (key : Key) → get same_key blame.firsts key ≡ find (fills key) words
   pub pairs : blame.pairs.items ≡ named n words
+
+-- whatever was taken of n masters, all of it stands in the ring
+pub record IsOfRing (ring : Ring) (n : ℕ) (blame : Blame) : Type 0 where
+  pub words : List (Signed Body)
+  pub taken : HasTaken n words blame
+  pub stand : AllStand ring words
 
 -- of n masters these words were taken, and then a beginning of these parts, but not all of them
 pub record HasBegun (n : ℕ) (words parts : List (Signed Body)) (blame : Blame) : Type 0 where

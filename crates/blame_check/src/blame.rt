@@ -1,11 +1,12 @@
-ghost use Rattle.std.specs.Prelude.{◌≡◌, ◌<◌, ◌++◌, ◌∷◌, ℕ, List, [], length, nat_eq, OnOk, OnErr};
+ghost use Rattle.std.specs.Prelude.{◌≡◌, ◌<◌, ◌++◌, ◌∷◌, ℕ, List, [], length, nat_eq, IsTrue, OnOk, OnErr};
 ghost use Rattle.std.specs.List.{list_any};
 ghost use Rattle.message_types.specs.declared.signed.Signed.{Signed as SignedWord};
 ghost use Rattle.message_types.specs.declared.body.Body.{Body as Word};
 ghost use Rattle.message_types.specs.Parts.{parts as parts_of_frame};
 ghost use Rattle.history_rules.specs.Sameness.{is_same_body};
 ghost use Rattle.blame_check.specs.Contradictions.{named};
-ghost use Rattle.blame_check.specs.Slots.{HasTaken, HasBegun};
+ghost use Rattle.checked_frames.specs.Standing.{Ring, stands};
+ghost use Rattle.blame_check.specs.Slots.{HasTaken, HasBegun, IsOfRing};
 
 use crate::pairs::{Named, is_named, name};
 use crate::slots::{Firsts, slot_of};
@@ -36,7 +37,7 @@ impl Drop for Blame {
 }
 
 impl Blame {
-    /// Before any frame nobody is named.
+    /// Before any frame nobody is named. (No word was taken, so all stand in whichever ring.)
     pub fn make(alloc: Global, sizes: Sizes) -> Blame
         ensures { HasTaken sizes.n [] result }
     {
@@ -48,12 +49,13 @@ impl Blame {
     }
 
     /// Takes the next frame, with all frames inside it. After want of memory a beginning of these was taken, in their order, and
-    /// the blame goes by that.
+    /// the blame goes by that. Where the frame stands in a ring in which all that was taken before stands, all does still.
     pub fn take(&mut self, alloc: Global, checked: &Checked) -> Result<(), Want>
         ensures taken { OnOk result ((n : ℕ) (words : List (SignedWord Word)) → HasTaken n words self.old
             → HasTaken n (words ++ parts_of_frame checked.now) self.new) }
         ensures begun { OnErr result ((n : ℕ) (words : List (SignedWord Word)) → HasTaken n words self.old
             → HasBegun n words (parts_of_frame checked.now) self.new) }
+        ensures standing { (ring : Ring) (n : ℕ) → IsOfRing ring n self.old → IsTrue (stands ring checked.now) → IsOfRing ring n self.new }
     {
         let parts = parts_of(alloc, checked.frame())?;
         self.take_parts(parts)
@@ -95,7 +97,7 @@ impl Blame {
     }
 
     /// By rising master those that contradicted themselves, each with the pair whose second word came first, and of such
-    /// pairs the one with the earliest first word.
+    /// pairs the one with the earliest first word. In which rings these stand, `laws::named_stand` tells.
     pub fn named(&self) -> &[Named]
         ensures { (n : ℕ) (words : List (SignedWord Word)) → HasTaken n words self.now → result.now ≡ named n words }
     {

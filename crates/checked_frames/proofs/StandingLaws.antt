@@ -1,10 +1,12 @@
 -- How faults are found part by part.
 use Rattle.std.proofs.Common.{◌≡◌, ◌≤◌, ◌<◌, ◌+◌, ◌-◌, ℕ, zero, suc, Bool, true, false, ◌&&◌, List, [], ◌∷◌, ◌++◌}
-use Rattle.std.proofs.Common.{length, take, drop, get_or, Option, Some, None, refl, sym, ap, ◌∙◌, subst, arith}
+use Rattle.std.proofs.Common.{length, take, drop, get_or, map, IsTrue, Option, Some, None, refl, sym, ap, ◌∙◌, subst, arith}
 use Rattle.std.proofs.Common.{nat_lt, ltb-true, inl, inr, if◌then◌else◌}
 use Rattle.std.specs.List.{list_all}
 use Rattle.std.proofs.lemmas.Bool.{and_from, and_parts, cases_Bool, cond-true, cond-false, true≢false}
 use Rattle.std.proofs.lemmas.List.{length-take-le}
+use Rattle.plain_lists.specs.Lists.{Each}
+use Rattle.plain_lists.proofs.Members.{in_map_from, all_at}
 use Rattle.message_types.specs.declared.signed.Signed.{Signed}
 use Rattle.message_types.specs.declared.body.Body.{Body}
 use Rattle.message_types.specs.Texts.{body_text}
@@ -18,7 +20,8 @@ use Rattle.checked_frames.specs.declared.refusal.CheckRefusal.{CheckRefusal}
 use Rattle.checked_frames.specs.declared.refusal.CheckRefusal.TheVariants as refusal
 use Rattle.checked_frames.specs.Signing.{signs}
 use Rattle.checked_frames.specs.Standing.{Ring, actors, public_of, is_known, is_signed, part_stands, stands}
-use Rattle.checked_frames.specs.Standing.{part_fault, or_else, fault_from, first_fault, IsFault}
+use Rattle.checked_frames.specs.Standing.{part_fault, or_else, fault_from, first_fault, IsFault, said_by, IsSaidIn}
+use Rattle.checked_frames.specs.Standing.{AllStand, PartsStand}
 
 -- a fault of a part is one of the whole, where it comes first
 pub IsFault-within : (e : CheckRefusal) (inner outer : Option CheckRefusal) →
@@ -159,6 +162,22 @@ stands_faultless ring frame e =
 pub stands_spelled : (ring : Ring) (frame : Signed Body) → stands ring frame ≡ true → has_spelling frame ≡ true
 unfolding stands
 stands_spelled ring frame e = (and_parts (has_spelling frame) (list_all (part_stands ring) (parts frame)) e).0
+
+-- each part of a frame that stands in a ring does so too, and what it says is said there
+pub parts_stand : (ring : Ring) (frame : Signed Body) → PartsStand ring frame
+unfolding stands
+parts_stand ring frame well part among =
+    all_at (part_stands ring) among (and_parts (has_spelling frame) (list_all (part_stands ring) (parts frame)) well).1
+
+said_in : (ring : Ring) (words : List (Signed Body)) → AllStand ring words → Each (IsSaidIn ring) (map said_by words)
+said_in ring words stand said among =
+    let found = in_map_from said_by words among in
+    subst (IsSaidIn ring) (sym found.2) (record { sig = found.0.sig; stands = stand found.0 found.1 })
+
+pub parts_said : (frame : Signed Body) (list : List (ℕ × Body)) → list ≡ map said_by (parts frame)
+    → (ring : Ring) → IsTrue (stands ring frame) → Each (IsSaidIn ring) list
+parts_said frame list is ring well =
+    subst (Each (IsSaidIn ring)) (sym is) (said_in ring (parts frame) (parts_stand ring frame well))
 
 -- in a history whose group and signatures are the ring's, the same frames stand
 same_test : (a x y z : Bool) → (a ≡ true → x ≡ y) → (a && x && z) ≡ (a && y && z)

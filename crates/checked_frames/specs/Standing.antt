@@ -3,6 +3,7 @@
 use Rattle.std.specs.Prelude.{◌≡◌, ℕ, suc, ◌+◌, Bool, ◌&&◌, if◌then◌else◌, List, [], ◌∷◌, length, Option, Some, None}
 use Rattle.std.specs.Prelude.{nat_lt, IsTrue}
 use Rattle.std.specs.List.{list_all, slice_index_or}
+use Rattle.plain_lists.specs.Lists.{Each}
 use Rattle.message_types.specs.declared.signed.Signed.{Signed}
 use Rattle.message_types.specs.declared.body.Body.{Body}
 use Rattle.message_types.specs.Texts.{body_text}
@@ -79,3 +80,16 @@ IsFault (refusal.Misplaced number) first = first ≡ Some (refusal.Misplaced num
 -- a part as what it says: its signer and its body
 abbrev pub said_by : Signed Body → ℕ × Body
 said_by part = (part.signer, part.body)
+
+-- who said what, where some bytes are that actor's signature of it by the ring's keys, and it is in its place
+pub record IsSaidIn (ring : Ring) (said : ℕ × Body) : Type 0 where
+  pub sig : List ℕ
+  pub stands : IsTrue (part_stands ring record { signer = said.0; body = said.1; sig = sig })
+
+-- each of these parts stands in the ring
+abbrev pub AllStand : Ring → List (Signed Body) → Type 0
+AllStand ring words = Each (λ part. IsTrue (part_stands ring part)) words
+
+-- where the frame stands in the ring, each part of it does
+abbrev pub PartsStand : Ring → Signed Body → Type 0
+PartsStand ring frame = IsTrue (stands ring frame) → AllStand ring (parts frame)

@@ -1,8 +1,9 @@
 ghost use Rattle.std.specs.Prelude.{◌≡◌, ◌+◌, ◌<◌, ◌^◌, None, length, map, IsTrue, IsOk, IfOk, IfErr};
 ghost use Rattle.std.specs.List.{list_all};
+ghost use Rattle.plain_lists.specs.Lists.{Each};
 ghost use Rattle.message_types.specs.Spelling.{body_fits, has_spelling};
 ghost use Rattle.message_types.specs.Parts.{parts};
-ghost use Rattle.checked_frames.specs.Standing.{part_fault, fault_from, first_fault, stands, StandsSomewhere, IsFault, said_by};
+ghost use Rattle.checked_frames.specs.Standing.{Ring, part_fault, fault_from, first_fault, stands, StandsSomewhere, IsFault, said_by, IsSaidIn};
 
 use crate::key_ring::KeyRing;
 use crate::refusal::CheckRefusal;
@@ -15,7 +16,8 @@ use std::marker::Model;
 use std::sync::Arc;
 
 /// A frame that stands, which copies share. It keeps that the frame stands in some ring, and so that it has a spelling and
-/// that in each of its lists the signers rise. In which ring it stands, the calls say that make it.
+/// that in each of its lists the signers rise. In which ring it stands, the calls say that make it, and by that whoever holds it
+/// knows what its parts stand in (`parts`, `laws::parts_stand`).
 pub struct Checked {
     shared: Arc<Frame, Global>,
 }
@@ -163,9 +165,11 @@ fn pairs(alloc: Global, frames: Vec<Frame>) -> Result<Vec<(u32, Body)>, Want>
     Ok(list)
 }
 
-/// The parts of a frame that stands, in their order: who said what.
+/// The parts of a frame that stands, in their order: who said what. Each is signed and in its place in whichever ring the frame
+/// stands in: whoever holds the frame knows it of the ring that `check` was given.
 pub fn parts(alloc: Global, checked: &Checked) -> Result<Vec<(u32, Body)>, Want>
-    ensures { IfOk result (λ list. list.items ≡ map said_by (parts checked.now)) }
+    ensures said { IfOk result (λ list. list.items ≡ map said_by (parts checked.now)) }
+    ensures standing { IfOk result (λ list. (ring : Ring) → IsTrue (stands ring checked.now) → Each (IsSaidIn ring) list.items) }
 {
     let frames = parts_of(alloc, checked.frame())?;
     pairs(alloc, frames)

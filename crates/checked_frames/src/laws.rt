@@ -11,7 +11,7 @@ ghost use Rattle.history_rules.specs.Setup.{stands as history_stands};
 ghost use Rattle.checked_frames.specs.Verifying.{verifies};
 ghost use Rattle.checked_frames.specs.Signing.{signs, signed_message, field_at, group_signatures};
 ghost use Rattle.checked_frames.specs.Entries.{group_size, group_at, entry_signatures};
-ghost use Rattle.checked_frames.specs.Standing.{Ring, actors, public_of, stands, first_fault};
+ghost use Rattle.checked_frames.specs.Standing.{Ring, actors, public_of, stands, first_fault, PartsStand};
 
 use history_rules::MOST_SHARING;
 
@@ -41,6 +41,11 @@ pub fn entry_by_place()
 pub fn faultless_frames_stand()
     ensures { (ring : Ring) (frame : Signed Body)
         → IsTrue (stands ring frame) ↔ (IsTrue (has_spelling frame) × (first_fault ring frame ≡ None)) }
+{}
+
+/// Where a frame stands in a ring, each part of it does: it is of an actor that is there, signed by it, and in its place.
+pub fn parts_stand()
+    ensures { (ring : Ring) (frame : Signed Body) → PartsStand ring frame }
 {}
 
 /// In a history whose group is the ring's, and whose actors' keys bear out the signatures that the ring's keys do, the
