@@ -9,6 +9,7 @@ use crate::files::{Files, LoadAnswer};
 use crate::sinks::{PutAnswer, Sink};
 use std::alloc::Global;
 use std::fs;
+use std::fs::OpenFile;
 use std::io::{Read, Write};
 use std::marker::Model;
 use std::rt::Files as FileSystem;
@@ -49,13 +50,27 @@ impl<R: FileSystem> Files for RealFiles<R> {
 
     fn load(&mut self, name: &str, room: u64) -> Result<Vec<u8>, LoadAnswer> {
         let answer = match fs::open(&self.system, name) {
-            Ok(mut file) => read_whole(self.alloc, &mut file, room),
+            Ok(mut file) => load_open(self.alloc, &mut file, room),
             Err(_) => Err(LoadAnswer::Failed),
         };
         if matches!(answer, Err(LoadAnswer::Failed)) {
             self.faults = self.faults.saturating_add(1);
         }
         answer
+    }
+}
+
+/// The whole of an open file. One that is longer by what the system tells of it isn't read up to there first.
+fn load_open<F: OpenFile + Read>(
+    alloc: Global,
+    file: &mut F,
+    room: u64,
+) -> Result<Vec<u8>, LoadAnswer>
+    ensures within_room { IfOk result (λ loaded. vec_len loaded ≤ room) }
+{
+    match file.metadata() {
+        Ok(about) if about.len() > room => Err(LoadAnswer::TooLong),
+        _ => read_whole(alloc, file, room),
     }
 }
 
