@@ -29,15 +29,17 @@ fn derived(seed: &[u8; 32], actor: u32, tag: u8) -> [u8; 32]
     hasher.finalize()
 }
 
+/// The seed of an actor's own key, from the scenario's seed.
 #[tactic(auto, unfolding(crate::specs::Keys::actor_seed))]
-fn actor_seed(seed: &[u8; 32], actor: u32) -> [u8; 32]
+pub fn actor_seed(seed: &[u8; 32], actor: u32) -> [u8; 32]
     ensures { result ≡ actor_seed seed.now actor }
 {
     derived(seed, actor, SEED_TAG)
 }
 
+/// The identifier of an actor's own key, from the scenario's seed.
 #[tactic(auto, unfolding(crate::specs::Keys::actor_identifier))]
-fn actor_identifier(seed: &[u8; 32], actor: u32) -> [u8; 16]
+pub fn actor_identifier(seed: &[u8; 32], actor: u32) -> [u8; 16]
     ensures { result ≡ actor_identifier seed.now actor }
 {
     let hash = derived(seed, actor, IDENTIFIER_TAG);

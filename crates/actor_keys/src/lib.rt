@@ -3,4 +3,4 @@
 
 mod keys;
 
-pub use crate::keys::{actor_key, ring_of};
+pub use crate::keys::{actor_identifier, actor_key, actor_seed, ring_of};

@@ -39,7 +39,7 @@ known_from : (w : Setup) (before : List Heard) (e : Entry) (p : Signed Body) →
 unfolding known_at
 known_from w before e p h = in_cases (flat_map learned before) h
 
-module _ (w : Setup) (i : ℕ) (sizes : HasSizes w.group) (signing : SignsWell w)
+module _ (w : Setup) (i : ℕ) (sizes : HasSizes w.group) (signing : SignsWell w i)
     (correct : is_correct_master w i ≡ true) where
   parts_of_correct : (nat_lt i w.group.n ≡ true) × (not (w.intruded i) ≡ true)
   parts_of_correct = and_parts (nat_lt i w.group.n) (not (w.intruded i)) correct
@@ -99,7 +99,7 @@ module _ (w : Setup) (i : ℕ) (sizes : HasSizes w.group) (signing : SignsWell w
     actor_correct = let low = below in omega arith
 
     signs : list_all (λ f. signature_fits f && is_signed w f) (frames_after w i before e) ≡ true
-    signs = signing.signs i (leaves_used w before) e.said actor_correct
+    signs = signing.signs (leaves_used w before) e.said actor_correct
         (correct_actor w i (not_true_false (w.intruded i) parts_of_correct.1)) enough said_fits
 
     are_said : IsSaid w.group w.orders i (heard_in w i before) (frame_taken e.event) (is_tick e.event) (room w before)

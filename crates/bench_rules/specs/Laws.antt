@@ -18,14 +18,14 @@ FewTicks = (w : Setup) (master : ℕ) (list : List Entry) → ticks_heard (heard
 -- What a correct master says after a list of fewer than 2^32 entries fits its spelling, and its frames stand.
 abbrev pub MasterFramesStand : Type 0
 MasterFramesStand =
-    (w : Setup) (master : ℕ) (list : List Entry) (e : Entry) → HasSizes w.group → SignsWell w →
+    (w : Setup) (master : ℕ) (list : List Entry) (e : Entry) → HasSizes w.group → SignsWell w master →
     is_correct_master w master ≡ true
     → IsBenchList w master list → AddsEntry w master list e → length list < 2 ^ 32 →
     list_all (stands w) (frames_after w master list e) ≡ true
 
 abbrev pub MasterWordsFit : Type 0
 MasterWordsFit =
-    (w : Setup) (master : ℕ) (list : List Entry) (e : Entry) → HasSizes w.group → SignsWell w →
+    (w : Setup) (master : ℕ) (list : List Entry) (e : Entry) → HasSizes w.group → SignsWell w master →
     is_correct_master w master ≡ true
     → IsBenchList w master list → AddsEntry w master list e → length list < 2 ^ 32 → list_all body_fits e.said ≡ true
 

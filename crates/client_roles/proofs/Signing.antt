@@ -64,7 +64,7 @@ module _ (w : Setup) (actor used : ℕ) (said : List Body) (behind : nat_lt acto
       (all_stand (suc place) rest fits.1 places.1 signatures.1)
 
 pub client_frames_stand : ClientFramesStand
-client_frames_stand c client own e may is =
+client_frames_stand c client own e may own_key is =
     let w = setup_of c in
     let actor = client_actor c client in
     let used = leaves_used w own in
@@ -82,6 +82,6 @@ client_frames_stand c client own e may is =
     subst (λ (g : Group). actor < g.n + g.clients) (sym (group_is c)) (let there = may.there in omega arith) in
     let correct : is_correct w actor ≡ true =
     ap (λ (b : Bool). not (b && w.intruded actor)) (behind_masters c client) in
-    let signed = (signatures_sign c may.scenario).signs actor used e.said below correct enough fit in
+    let signed = (signatures_sign c actor may.scenario own_key).signs used e.said below correct enough fit in
     all_stand w actor used e.said (behind_masters c client) (lt-ltb actor (w.group.n + w.group.clients) below)
     0 e.said fit placed signed

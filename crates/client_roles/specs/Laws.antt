@@ -14,7 +14,7 @@ use Rattle.history_rules.specs.Setup.{room, leaves_used, signed_from, stands}
 use Rattle.history_rules.specs.Legal.{says_in}
 use Rattle.history_laws.specs.BenchLists.{AddsEntry, IsBenchList}
 use Rattle.world_rules.specs.Clients.{front_of, desk_of, proxy_says, screen_says}
-use Rattle.world_rules.specs.Scenarios.{masters_in, proxies_in, setup_of}
+use Rattle.world_rules.specs.Scenarios.{masters_in, proxies_in, HasKey, setup_of}
 use Rattle.client_roles.specs.Roles.{carries_well}
 
 -- a client as an actor
@@ -79,10 +79,10 @@ ClientWordsAreInPlace =
     → list_all (λ b. in_place (setup_of c).group record { signer = client_actor c client; body = b; sig = [] })
     (says_in (setup_of c) (client_actor c client) own event) ≡ true
 
--- So the frames of what a client says stand: whoever takes frames that stand takes them.
+-- So the frames of what a client that has its key says stand: whoever takes frames that stand takes them.
 abbrev pub ClientFramesStand : Type 0
 ClientFramesStand =
     (c : Contents) (client : ℕ) (own : List Entry) (e : Entry) → MaySay c client own e.event →
-    AddsEntry (setup_of c) (client_actor c client) own e
+    HasKey c (client_actor c client) → AddsEntry (setup_of c) (client_actor c client) own e
     → list_all (stands (setup_of c))
     (signed_from (setup_of c) (client_actor c client) (leaves_used (setup_of c) own) e.said 0 e.said) ≡ true

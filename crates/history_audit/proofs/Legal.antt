@@ -1,5 +1,5 @@
 -- What was said in a legal history of a scenario has a spelling.
-use Rattle.std.proofs.Common.{◌≡◌, ℕ, ◌+◌, ◌-◌, ◌^◌, ◌<◌, ◌≤◌, Bool, true, false, cond, not, List, ◌∷◌, take, length}
+use Rattle.std.proofs.Common.{◌≡◌, ℕ, ◌+◌, ◌-◌, ◌^◌, ◌<◌, ◌≤◌, Bool, true, false, cond, not, List, ◌∷◌, take, length, None}
 use Rattle.std.proofs.Common.{length-append, nat_lt, refl, sym, ◌∙◌, ap, subst, arith}
 use Rattle.std.specs.List.{list_all}
 use Rattle.std.proofs.lemmas.Bool.{false≢true, and_from, ltb-true}
@@ -15,7 +15,7 @@ use Rattle.agreement.proofs.Places.{stands_on, stands_in}
 use Rattle.history_laws.proofs.OwnEntries.{own_stands, own_of_legal}
 use Rattle.world_rules.specs.Clients.{proxy_says, screen_says, front_of, desk_of}
 use Rattle.world_rules.specs.Scenarios.{masters_in, proxies_in, client_in, setup_of}
-use Rattle.world_rules.proofs.Fields.{setup_goes_by, sizes_of_group}
+use Rattle.world_rules.proofs.Fields.{setup_goes_by, sizes_of_group, seed_has_keys}
 use Rattle.world_rules.proofs.Signed.{signatures_sign}
 use Rattle.history_laws.specs.BenchLists.{IsBenchList}
 use Rattle.history_laws.proofs.BenchLists.{own_history_is_bench_list, intruded_say_nothing}
@@ -66,10 +66,10 @@ beginning w history before e legal s =
           (subst (λ (xs : List Entry). Stands xs front x) (sym its.whole) (stands_on (e ∷ its.after) t));
     }
 
-entry_fits : (c : Contents) (history before : List Entry) (e : Entry) → IsScenario c → IsLegal (setup_of c) history →
-    length history < 2 ^ 32
+entry_fits : (c : Contents) (history before : List Entry) (e : Entry) → IsScenario c → c.held ≡ None →
+    IsLegal (setup_of c) history → length history < 2 ^ 32
     → Stands history before e → list_all body_fits e.said ≡ true
-entry_fits c history before e is legal short s =
+entry_fits c history before e is seed legal short s =
     by (nat_lt e.actor (setup_of c).group.n) ((setup_of c).intruded e.actor) refl refl
   where
     rule : e.said ≡ says_in (setup_of c) e.actor (own before e.actor) e.event
@@ -93,12 +93,12 @@ entry_fits c history before e is legal short s =
         let all = own_history_is_bench_list (setup_of c) e.actor (own history e.actor)
         (own_of_legal (setup_of c) history e.actor legal) in
         master_words_fit (setup_of c) e.actor (own before e.actor) e (sizes_of_group c is)
-        (signatures_sign c is) correct
+        (signatures_sign c e.actor is (seed_has_keys c e.actor seed)) correct
         (beginning (setup_of c) history before e legal s) (all.entries (own before e.actor) e (own_stands s)) few
     by false intruded outside either = ap (list_all body_fits) rule
         ∙ client_says_fit c e.actor (own before e.actor) e.event outside
 
 pub legal_are_spelled : LegalAreSpelled
-legal_are_spelled c history is legal short = all_from (λ e. list_all body_fits e.said) history (λ e h.
+legal_are_spelled c history is seed legal short = all_from (λ e. list_all body_fits e.said) history (λ e h.
     let place = stands_in history h in
-    entry_fits c history place.0 e is legal short place.1)
+    entry_fits c history place.0 e is seed legal short place.1)

@@ -4,7 +4,6 @@ use Rattle.std.specs.Prelude.{◌≡◌, ℕ, ◌+◌, ◌<◌, ◌≤◌, true,
 use Rattle.plain_lists.specs.Lists.{IsIn}
 use Rattle.quorum_sets.specs.Quorum.{quorum_size}
 use Rattle.quorum_sets.specs.Masters.{has_master, voters}
-use Rattle.hash_signatures.specs.Signatures.{key_public}
 use Rattle.checked_frames.specs.Signing.{signs}
 use Rattle.message_types.specs.declared.signed.Signed.{Signed}
 use Rattle.message_types.specs.declared.body.Body.{Body}
@@ -14,14 +13,14 @@ use Rattle.scenario_file.specs.Valid.{IsScenario}
 use Rattle.history_rules.specs.Events.{Entry}
 use Rattle.history_rules.specs.Legal.{IsLegal}
 use Rattle.history_rules.specs.Counts.{forged}
-use Rattle.world_rules.specs.Scenarios.{masters_in, key_in, setup_of}
+use Rattle.world_rules.specs.Scenarios.{masters_in, public_in, setup_of}
 use Rattle.blame_check.specs.declared.pairs.Named.{Named}
 use Rattle.blame_check.specs.Contradictions.{contradict}
 use Rattle.blame_check.specs.Laws.{words_taken, blamed, has_commit}
 
--- the signer's key bears the frame's signature out
+-- the signer's public key bears the frame's signature out
 abbrev pub IsSigned : Contents → Signed Body → Type 0
-IsSigned c frame = signs (key_public (key_in c frame.signer)) (body_text frame.body) frame.sig ≡ true
+IsSigned c frame = signs (public_in c frame.signer) (body_text frame.body) frame.sig ≡ true
 
 -- two words of a master that it signed, of which a correct one says one
 pub record IsEvidence (c : Contents) (pair : Named) : Type 0 where

@@ -341,7 +341,7 @@ scenario_of-valid doc c h =
     step (plant_of doc) _ c h1 (λ plant planted h2.
     step (keepers_of (cast_of s plant) s.intruded doc) _ c h2 (λ keepers kept h3.
     step (first_unknown doc) _ c h3 (λ unknown searched h4.
-    let made : Contents = record { settings = s; plant = plant; failing = failing_of (cast_of s plant) keepers } in
+    let made : Contents = record { settings = s; plant = plant; failing = failing_of (cast_of s plant) keepers; held = None } in
     let here = settings_of-ok doc s settled in
     let there = plant_of-ok doc plant planted in
     let right = keepers_of-ok (cast_of s plant) s.intruded doc keepers kept in
@@ -374,6 +374,7 @@ scenario_of-valid doc c h =
           (λ a. calls_of-failing s.intruded keepers a right));
       intruded_keep_all = λ m is. map-empty (calls_of keepers) (actors_of (cast_of s plant)) m
           (calls_of-intruded s.intruded keepers m right is);
+      held = λ keys is. absurd (cc);
     } in
     subst IsScenario (unless_unknown-ok made c unknown h4) holds))))
 
@@ -390,8 +391,8 @@ read-valid (Err e) text h = tt
 
 -- a scenario by its parts
 pub whole-of : (s t : Settings) (p q : Plant) (f g : List (List ℕ)) → s ≡ t → p ≡ q → f ≡ g → let a : Contents =
-    record { settings = s; plant = p; failing = f } in let b : Contents =
-    record { settings = t; plant = q; failing = g } in a ≡ b
+    record { settings = s; plant = p; failing = f; held = None } in let b : Contents =
+    record { settings = t; plant = q; failing = g; held = None } in a ≡ b
 whole-of s t p q f g one two three = rw (one, two, three) refl
 
 pub no-failing : let cast : Cast = record { masters = 4; proxies = 0; screens = 1 } in

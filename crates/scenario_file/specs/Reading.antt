@@ -6,6 +6,7 @@ use Rattle.quorum_sets.specs.Quorum.{group_size}
 use Rattle.quorum_sets.specs.declared.sizes.Rules.TheVariants.{First}
 use Rattle.master_points.specs.declared.plant.Plant.{Plant}
 use Rattle.scenario_file.specs.declared.actors.Cast.{Cast}
+use Rattle.scenario_file.specs.declared.held.HeldKeys.{HeldKeys}
 use Rattle.scenario_file.specs.declared.refusal.ScenarioRefusal.{ScenarioRefusal}
 use Rattle.scenario_file.specs.declared.refusal.ScenarioRefusal.TheVariants as refusal
 use Rattle.scenario_file.specs.declared.scenario.Scenario.{Scenario}
@@ -15,11 +16,16 @@ use Rattle.scenario_file.specs.PlantRows.{plant_of}
 use Rattle.scenario_file.specs.Keepers.{keepers_of, failing_of}
 use Rattle.scenario_file.specs.Unknown.{first_unknown}
 
--- what a scenario says
+-- What a scenario says, and the keys that are held where its seed isn't known. A scenario that is read has its seed.
 pub record Contents : Type 0 where
   pub settings : Settings
   pub plant : Plant
   pub failing : List (List ℕ)
+  pub held : Option HeldKeys
+
+-- the scenario as one who has these keys, and not the seed, knows it
+abbrev pub with_held : Contents → Option HeldKeys → Contents
+with_held c held = record c { held = held }
 
 -- its actors
 abbrev pub cast_of : Settings → Plant → Cast
@@ -41,6 +47,7 @@ scenario_of doc = do
     plant = plant;
     failing =
         failing_of (cast_of settings plant) keepers;
+    held = None;
   }) unknown
 
 abbrev pub or_no_toml : Option Members → Answer Contents
@@ -67,6 +74,7 @@ contents s = record {
   };
   plant = s.plant;
   failing = s.failing;
+  held = None;
 }
 
 -- four masters and one screen, no plant, and a seed of zeros
@@ -84,4 +92,5 @@ smallest = record {
   };
   plant = record { devices = []; points = []; alarms = []; interlocks = [] };
   failing = [] ∷ [] ∷ [] ∷ [] ∷ [] ∷ [];
+  held = None;
 }

@@ -14,6 +14,7 @@ use Rattle.interlocks.specs.declared.interlock.Interlock.{Interlock}
 use Rattle.interlocks.specs.Formula.{Formula, alarm, compare, negation, bracket, both, either}
 use Rattle.master_points.specs.Orders.{IsPlant}
 use Rattle.master_points.specs.declared.limits.TheConstants.{MOST_SCREENS}
+use Rattle.scenario_file.specs.declared.held.HeldKeys.{HeldKeys}
 use Rattle.scenario_file.specs.Actors.{actors_of}
 use Rattle.scenario_file.specs.PlantRows.{is_name}
 use Rattle.scenario_file.specs.Reading.{Contents, cast_of}
@@ -102,3 +103,5 @@ pub record IsScenario (c : Contents) : Type 0 where
   pub failing : length c.failing ≡ actors_of (cast_of c.settings c.plant)
   pub failing_calls : All IsFailing c.failing
   pub intruded_keep_all : (m : ℕ) → IsTrue (has_master c.settings.intruded m) → slice_index_or c.failing m [] ≡ []
+  -- a key that is held has an identifier of its size (RFC 8554, section 5.1)
+  pub held : ForSome c.held (λ keys. length keys.identifier ≡ 16)

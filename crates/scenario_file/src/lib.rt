@@ -2,6 +2,7 @@
 #![tactic(auto)]
 
 pub mod actors;
+pub mod held;
 mod keepers;
 pub mod laws;
 mod lists;
@@ -14,5 +15,6 @@ mod unknown;
 mod values;
 
 pub use actors::Cast;
+pub use held::HeldKeys;
 pub use refusal::ScenarioRefusal;
 pub use scenario::Scenario;

@@ -1,4 +1,4 @@
-ghost use Rattle.std.specs.Prelude.{◌≡◌, ◌≤◌, [], IfOk, IsUtf8};
+ghost use Rattle.std.specs.Prelude.{◌≡◌, ◌≤◌, [], None, IfOk, IsUtf8};
 ghost use Rattle.toml.specs.View.{table_view};
 ghost use Rattle.scenario_file.specs.declared.refusal.ScenarioRefusal.TheVariants.{BadToml};
 ghost use Rattle.scenario_file.specs.Answers.{Shows};
@@ -157,7 +157,7 @@ fn read_document(document: &Keys<'_>) -> Result<Scenario, ScenarioRefusal>
 
 /// The scenario of its parts.
 fn with_plant(group: Group, plant: Plant, failing: Items<Vector>) -> Scenario
-    ensures { contents result ≡ record { settings = settings_shown group; plant = plant; failing = failing } }
+    ensures { contents result ≡ record { settings = settings_shown group; plant = plant; failing = failing; held = None } }
 {
     let Group {
         sizes,

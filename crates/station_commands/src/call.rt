@@ -21,7 +21,7 @@ use station_words::{StationWords, read_station};
 use std::alloc::Global;
 
 /// Lives the life of the actor that the words name until the input ends: `station SCENARIO ACTOR KEEP`. What it does is kept in
-/// the file KEEP, and nothing is put to `out` that isn't kept. That file is touched only once words, scenario and actor are
+/// the file KEEP, and no word is put to `out` that isn't kept. That file is touched only once words, scenario and actor are
 /// found right. Gives the status, and puts the line of a refusal to `err`: 0 where the input ended, 2 for other words, or where
 /// ACTOR is no correct actor, 3 for a file, be it one that another process has, 4 for a scenario that is refused, 5 for
 /// a file that isn't what the actor kept, 6 for the output, 7 for want of memory, 10 where nothing more could be kept, 11 for the input.

@@ -36,18 +36,19 @@ use Rattle.world_history.specs.State.{BenchState, setup_in}
 use Rattle.world_history.proofs.ClientEntry.{client_stands}
 use Rattle.world_history.proofs.IntrudedEntry.{who_cries}
 use Rattle.world_rules.specs.Frames.{cried, frames_of}
-use Rattle.world_rules.specs.Scenarios.{setup_of, group_in, masters_in, actors_in, fits_in}
+use Rattle.world_rules.specs.Scenarios.{HasKey, setup_of, group_in, masters_in, actors_in, fits_in}
 use Rattle.world_rules.proofs.Fields.{setup_goes_by, group_is, sizes_of_group}
 use Rattle.world_rules.proofs.Signed.{signatures_sign}
 use Rattle.station_lives.specs.Saying.{word_line, word_lines}
 
 -- an entry of a station's list, as one that its actor comes to
 comes_so : (c : Contents) (actor : ℕ) (list before : List Entry) (e : Entry) → IsScenario c → IsStation c actor list →
-    actor < actors_in c → Stands list before e → length before < 2 ^ 32 → carries_well e.event ≡ true →
-    Comes c actor before e
-comes_so c actor list before e valid is there at short carried = record {
+    actor < actors_in c → HasKey c actor → Stands list before e → length before < 2 ^ 32 →
+    carries_well e.event ≡ true → Comes c actor before e
+comes_so c actor list before e valid is there key at short carried = record {
   scenario = valid;
   there = there;
+  key = key;
   list = before_it;
   adds = bench.entries before e at;
   short = short;
@@ -67,18 +68,19 @@ comes_so c actor list before e valid is there at short carried = record {
 
 -- a correct master, or a client
 pub said_stand : (c : Contents) (actor : ℕ) (list before : List Entry) (e : Entry) → IsScenario c →
-    IsStation c actor list → actor < actors_in c → not (has_master c.settings.intruded actor) ≡ true →
+    IsStation c actor list → actor < actors_in c → HasKey c actor → not (has_master c.settings.intruded actor) ≡ true →
     Stands list before e → length before < 2 ^ 32 → carries_well e.event ≡ true →
     list_all (stands (setup_of c)) (frames_after (setup_of c) actor before e) ≡ true
-said_stand c actor list before e valid is there correct at short carried = by (nat_lt actor (masters_in c)) refl
+said_stand c actor list before e valid is there key correct at short carried = by (nat_lt actor (masters_in c)) refl
   where
     comes : Comes c actor before e
-    comes = comes_so c actor list before e valid is there at short carried
+    comes = comes_so c actor list before e valid is there key at short carried
 
     by : (b : Bool) → nat_lt actor (masters_in c) ≡ b →
         list_all (stands (setup_of c)) (frames_after (setup_of c) actor before e) ≡ true
     by true low =
-        master_frames_stand (setup_of c) actor before e (sizes_of_group c valid) (signatures_sign c valid)
+        master_frames_stand (setup_of c) actor before e (sizes_of_group c valid)
+        (signatures_sign c actor valid key)
         (and_from (nat_lt actor (setup_of c).group.n) (not ((setup_of c).intruded actor))
         (ap (λ (g : Group). nat_lt actor g.n) (group_is c) ∙ low)
         (ap not ((setup_goes_by c).intruded actor) ∙ correct))

@@ -91,7 +91,7 @@ due_at w i before e = answers w.group w.orders i (heard w before i) (frame_taken
 abbrev frames_then : Setup → ℕ → List Entry → Entry → List (Signed Body)
 frames_then w i before e = signed_from w i (leaves_used w (own before i)) e.said 0 e.said
 
-module _ (w : Setup) (i : ℕ) (sizes : HasSizes w.group) (well : SignsWell w)
+module _ (w : Setup) (i : ℕ) (sizes : HasSizes w.group) (well : SignsWell w i)
     (correct : is_correct_master w i ≡ true) where
   below : i < w.group.n
   below = ltb-true i w.group.n (and_parts (nat_lt i w.group.n) (not (w.intruded i)) correct).0
@@ -143,7 +143,7 @@ module _ (w : Setup) (i : ℕ) (sizes : HasSizes w.group) (well : SignsWell w)
       (sym rule)
       (room_enough w.shared_leaves (w.leaves - leaves_used w (own before i))
       (due_at w i before e)) in
-      let signs = well.signs i (leaves_used w (own before i)) e.said (omega arith)
+      let signs = well.signs (leaves_used w (own before i)) e.said (omega arith)
       (correct_actor w i (not-true (w.intruded i)
       (and_parts (nat_lt i w.group.n) (not (w.intruded i)) correct).1)) enough said_fits in
       let is : IsSaid w.group w.orders i (heard w before i) (frame_taken e.event) (is_tick e.event)

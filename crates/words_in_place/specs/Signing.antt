@@ -14,10 +14,10 @@ use Rattle.agreement.specs.Laws.{HasSizes}
 use Rattle.words_in_place.specs.Laws.{ticks_heard}
 use Rattle.words_in_place.specs.Spellings.{is_signed}
 
--- The setup's signatures sign. A correct actor that has leaves enough left for the bodies of one entry, each of which
--- fits its spelling, has for each of them a signature within the limits, which its key bears out.
-pub record SignsWell (w : Setup) : Type 0 where
-  pub signs : (actor used : ℕ) (said : List Body) → actor < w.group.n + w.group.clients → is_correct w actor ≡ true
+-- The setup's signatures of an actor sign. If it is correct and has leaves enough left for the bodies of one entry, each
+-- of which fits its spelling, it has for each of them a signature within the limits, which its key bears out.
+pub record SignsWell (w : Setup) (actor : ℕ) : Type 0 where
+  pub signs : (used : ℕ) (said : List Body) → actor < w.group.n + w.group.clients → is_correct w actor ≡ true
       → leaves_for w.shared_leaves (length said) ≤ w.leaves - used → list_all body_fits said ≡ true
       → list_all (λ f. signature_fits f && is_signed w f) (signed_from w actor used said 0 said) ≡ true
 
@@ -29,14 +29,14 @@ frames_at w before e = signed_from w e.actor (leaves_used w (own before e.actor)
 -- spelling, as long as it has had at most 2^32 ticks.
 abbrev pub LearnedIsSpelled : Type 0
 LearnedIsSpelled =
-    (w : Setup) (history : List Entry) (i : ℕ) → IsLegal w history → HasSizes w.group → SignsWell w →
+    (w : Setup) (history : List Entry) (i : ℕ) → IsLegal w history → HasSizes w.group → SignsWell w i →
     is_correct_master w i ≡ true
     → ticks_heard (heard w history i) ≤ 2 ^ 32 → list_all has_spelling (flat_map learned (heard w history i)) ≡ true
 
 -- And all of it is signed.
 abbrev pub LearnedIsSigned : Type 0
 LearnedIsSigned =
-    (w : Setup) (history : List Entry) (i : ℕ) → IsLegal w history → HasSizes w.group → SignsWell w →
+    (w : Setup) (history : List Entry) (i : ℕ) → IsLegal w history → HasSizes w.group → SignsWell w i →
     is_correct_master w i ≡ true
     → ticks_heard (heard w history i) ≤ 2 ^ 32 → list_all (is_signed w) (flat_map learned (heard w history i)) ≡ true
 
@@ -44,6 +44,6 @@ LearnedIsSigned =
 abbrev pub SaidFramesStand : Type 0
 SaidFramesStand =
     (w : Setup) (history before : List Entry) (e : Entry) → IsLegal w history → HasSizes w.group →
-    SignsWell w → Stands history before e
+    SignsWell w e.actor → Stands history before e
     → is_correct_master w e.actor ≡ true → ticks_heard (heard w history e.actor) ≤ 2 ^ 32 →
     list_all (stands w) (frames_at w before e) ≡ true

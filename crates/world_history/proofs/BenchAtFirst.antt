@@ -14,16 +14,17 @@ use Rattle.operator_screen.specs.Board.{ScreenState, IsDeskOf}
 use Rattle.hash_signatures.specs.Signatures.{Key, all_leaves}
 use Rattle.hash_signatures.specs.State.{KeyUse, key_use, IsLevelCount, HasMadeHeights}
 use Rattle.actor_keys.specs.Keys.{key_of}
+use Rattle.scenario_file.specs.declared.held.HeldKeys.{HeldKeys}
 use Rattle.scenario_file.specs.declared.scenario.Scenario.{Scenario}
-use Rattle.scenario_file.specs.Reading.{Contents, contents}
+use Rattle.scenario_file.specs.Reading.{Contents, contents, with_held}
 use Rattle.scenario_file.specs.Valid.{IsScenario}
 use Rattle.master_node.specs.Charge.{Charge, IsChargeOf}
 use Rattle.master_node.specs.Laws.{charge_of}
 use Rattle.master_node.specs.Node.{NodeState}
 use Rattle.master_node.specs.Running.{IsRunning}
 use Rattle.client_roles.proofs.Going.{proxies_begin_fresh, screens_begin_fresh}
-use Rattle.world_rules.specs.Scenarios.{setup_of, group_in, key_in, masters_in, proxies_in}
-use Rattle.world_rules.proofs.Fields.{setup_goes_by, group_is, leaves_of_all}
+use Rattle.world_rules.specs.Scenarios.{setup_of, group_in, key_in, key_with, HasKey, masters_in, proxies_in}
+use Rattle.world_rules.proofs.Fields.{setup_goes_by, group_is}
 use Rattle.world_history.proofs.ScenarioCharges.{charged_by_setup}
 use Rattle.history_laws.proofs.BenchLists.{none_is_bench_list}
 use Rattle.bench_rules.proofs.HeardEvents.{heard_none}
@@ -33,6 +34,7 @@ use Rattle.world_history.specs.declared.role.Role.{Role}
 use Rattle.world_history.specs.Roles.{IsMaster, IsIntruded, IsRole}
 use Rattle.world_history.specs.Seats.{IsReplay}
 use Rattle.world_history.proofs.ClientEntry.{IsProxy, IsScreen}
+use Rattle.world_history.proofs.HeldWorlds.{held_leaves, role_held}
 use Rattle.world_history.proofs.IntrudedEntry.{overheard_none}
 
 low_master : (c : Contents) (actor : ℕ) → actor < masters_in c → nat_lt actor (setup_of c).group.n ≡ true
@@ -88,11 +90,12 @@ screen_begins c client desk high made =
 
 -- before its first entry an actor's state is the replay of no entries
 pub replays_nothing : (c : Contents) (actor : ℕ) (role : Role) (k : KeyUse) → IsScenario c →
-    actor < (group_in c).n + (group_in c).clients → IsRole c actor [] role
+    actor < (group_in c).n + (group_in c).clients → HasKey c actor → IsRole c actor [] role
     → k ≡ key_use (key_in c actor) 0 → IsReplay c actor [] 0 role k []
-replays_nothing c actor role k is there begun key = record {
+replays_nothing c actor role k is there own begun key = record {
   scenario = is;
   there = there;
+  own = own;
   entries = none_is_bench_list (setup_of c) actor;
   role = begun;
   key = key;
@@ -128,24 +131,24 @@ scenario_screen_begins s client desk high made =
     (subst (λ (n : ℕ). IsDeskOf desk (record { client = client; n = n; f = s.sizes.f; commands = 0; votes = [] }))
     (masters_are s) made))
 
--- an actor's key is that which its seed makes
-key_is : (c : Contents) (actor : ℕ) → key_of c.settings.seed c.settings.heights actor ≡ key_in c actor
+-- where the seed is known, an actor's key is that which the seed makes
+key_is : (c : Contents) (actor : ℕ) → c.held ≡ None →
+    key_of c.settings.seed c.settings.heights actor ≡ key_in c actor
 unfolding key_in
-key_is c actor = refl
+key_is c actor seed =
+    ap (λ (held : Option HeldKeys). key_with held c.settings.seed c.settings.heights actor) (sym seed)
 
 -- all actors' keys have as many leaves as the first's
-pub leaves_given : (c : Contents) (actor left : ℕ) (k : KeyUse) →
-    k ≡ key_use (key_of c.settings.seed c.settings.heights actor) 0 → left ≡ all_leaves k.key - k.used
+pub leaves_given : (c : Contents) (held : Option HeldKeys) (actor left : ℕ) (k : KeyUse) →
+    k ≡ key_use (key_in (with_held c held) actor) 0 → left ≡ all_leaves k.key - k.used
     → left ≡ all_leaves (key_in c 0)
-leaves_given c actor left k is tells =
-    let whole : all_leaves (key_of c.settings.seed c.settings.heights actor) - 0 ≡ all_leaves
-    (key_of c.settings.seed c.settings.heights actor) = omega arith in
+leaves_given c held actor left k is tells =
+    let whole : all_leaves (key_in (with_held c held) actor) - 0 ≡ all_leaves (key_in (with_held c held) actor) =
+    omega arith in
     tells
     ∙ ap (λ (x : KeyUse). all_leaves x.key - x.used) is
     ∙ whole
-    ∙ ap all_leaves (key_is c actor)
-    ∙ sym (leaves_of_all c actor)
-    ∙ leaves_of_all c 0
+    ∙ held_leaves c held actor 0
 
 -- heights that a scenario has can be made
 pub levels_given : (c : Contents) (heights : List ℕ) → IsScenario c → heights ≡ c.settings.heights →
@@ -162,19 +165,20 @@ heights_given c heights is same = subst HasMadeHeights (sym same) is.heights
 -- the key that was made is the actor's
 pub key_given : (s : Scenario) (actor : ℕ) (heights : List ℕ) (k : KeyUse) →
     k ≡ key_use (key_of s.seed heights actor) 0 → heights ≡ s.heights
-    → k ≡ key_use (key_of s.seed s.heights actor) 0
+    → k ≡ key_use (key_in (contents s) actor) 0
 key_given s actor heights k made same = made ∙ ap (λ (hs : List ℕ). key_use (key_of s.seed hs actor) 0) same
+    ∙ ap (λ (x : Key). key_use x 0) (key_is (contents s) actor refl)
 
 -- A bench's state is so once it is made.
-pub begins_seated : (scenario copy : Scenario) (actor : ℕ) (role : Role) (k : KeyUse) (list : List KeptEntry)
-    (frames : List (List (Signed Body))) → IsScenario (contents scenario)
+pub begins_seated : (scenario copy : Scenario) (held : Option HeldKeys) (actor : ℕ) (role : Role) (k : KeyUse)
+    (list : List KeptEntry) (frames : List (List (Signed Body))) → IsScenario (with_held (contents scenario) held)
     → actor < (group_in (contents scenario)).n + (group_in (contents scenario)).clients →
-    IsRole (contents scenario) actor [] role → copy ≡ scenario
-    → k ≡ key_use (key_of scenario.seed scenario.heights actor) 0 → list ≡ [] → frames ≡ [] →
-    IsReplay (contents copy) actor (map entry_of list) 0 role k frames
-begins_seated scenario copy actor role k list frames is there begun same key none no_frames =
-    subst (λ (s : Scenario). IsReplay (contents s) actor (map entry_of list) 0 role k frames) (sym same)
-    (subst (λ (es : List KeptEntry). IsReplay (contents scenario) actor (map entry_of es) 0 role k frames) (sym none)
-    (subst (λ (fs : List (List (Signed Body))). IsReplay (contents scenario) actor [] 0 role k fs) (sym no_frames)
-    (replays_nothing (contents scenario) actor role k is there begun
-    (key ∙ ap (λ (x : Key). key_use x 0) (key_is (contents scenario) actor)))))
+    HasKey (with_held (contents scenario) held) actor → IsRole (contents scenario) actor [] role → copy ≡ scenario
+    → k ≡ key_use (key_in (with_held (contents scenario) held) actor) 0 → list ≡ [] → frames ≡ [] →
+    IsReplay (with_held (contents copy) held) actor (map entry_of list) 0 role k frames
+begins_seated scenario copy held actor role k list frames is there own begun same key none no_frames =
+    let c : Contents = with_held (contents scenario) held in
+    subst (λ (s : Scenario). IsReplay (with_held (contents s) held) actor (map entry_of list) 0 role k frames) (sym same)
+    (subst (λ (es : List KeptEntry). IsReplay c actor (map entry_of es) 0 role k frames) (sym none)
+    (subst (λ (fs : List (List (Signed Body))). IsReplay c actor [] 0 role k fs) (sym no_frames)
+    (replays_nothing c actor role k is there own (role_held (contents scenario) held actor role begun) key)))

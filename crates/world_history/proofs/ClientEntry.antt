@@ -11,7 +11,7 @@ use Rattle.history_rules.specs.Events.{Event, Entry}
 use Rattle.history_rules.specs.Setup.{is_correct, stands, room}
 use Rattle.history_rules.specs.Legal.{says_in}
 use Rattle.world_rules.specs.Clients.{front_of, desk_of, proxy_says, screen_says}
-use Rattle.world_rules.specs.Scenarios.{setup_of, masters_in, proxies_in}
+use Rattle.world_rules.specs.Scenarios.{setup_of, masters_in, proxies_in, HasKey}
 use Rattle.history_laws.specs.BenchLists.{AddsEntry, IsBenchList}
 use Rattle.bench_rules.specs.Lists.{frames_after}
 use Rattle.client_roles.specs.Roles.{IsProxyAfter, IsScreenAfter, front_at, desk_at}
@@ -56,6 +56,7 @@ pub client_stands : (c : Contents) (actor client : ℕ) (own : List Entry) (e : 
 client_stands c actor client own e comes is =
     ap (λ (a : ℕ). list_all (stands (setup_of c)) (frames_after (setup_of c) a own e)) is
     ∙ client_frames_stand c client own e (may_say c actor client own e comes is)
+    (subst (λ (a : ℕ). HasKey c a) is comes.key)
     (subst (λ (a : ℕ). AddsEntry (setup_of c) a own e) is comes.adds)
 
 pub proxy_can : (c : Contents) (actor : ℕ) (own : List Entry) (e : Entry) (front : ProxyState) → Comes c actor own e →

@@ -65,7 +65,7 @@ signatures_for_all c actor used said is =
     let texts : List (List ℕ) = map body_text said in
     let groups : ℕ = groups_for (group_size (shares_leaves c)) (length texts) in
     let can : CanBeMade (key_in c actor) =
-    record { levels = key_levels c actor is; made = key_made c actor is; id = key_id c actor } in
+    record { levels = key_levels c actor is; made = key_made c actor is; id = key_id c actor is } in
     let so = signed_upto shared (key_in c actor) used texts can groups (up_to_all groups) in
     let all : take (group_size shared * groups) texts ≡ texts =
     take_all (group_size shared * groups) texts (enough_groups shared (length texts)) in

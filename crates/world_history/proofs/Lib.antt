@@ -10,6 +10,8 @@ pub mod RoleEntry
 pub mod SignedBodies
 pub mod ReplayGrows
 pub mod SeatEntry
+pub mod HeldWorlds
+pub mod HeldKeys
 pub mod BenchAtFirst
 pub mod BenchShows
 pub mod SpokenWords

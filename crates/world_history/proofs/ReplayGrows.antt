@@ -39,6 +39,7 @@ pub comes_next : (s : Seat) (stamp : ℕ) (event : Event) → IsSeated s → (se
 comes_next s stamp event is fits later taken short carried = record {
   scenario = is.scenario;
   there = is.there;
+  key = is.own;
   list = is.entries;
   adds = record { by = refl; later = later; role = fits; taken = taken; said = refl };
   short = short;
@@ -194,6 +195,7 @@ pub replays_next : (c : Contents) (actor signed : ℕ) (own : List Entry) (e : E
 replays_next c actor signed own e old new k frames made is comes role so = record {
   scenario = is.scenario;
   there = is.there;
+  own = is.own;
   entries = one_more_is_bench_list (setup_of c) actor own e is.entries comes.adds;
   role = role;
   key = key_next c actor signed own e k is.key;

@@ -36,8 +36,8 @@ said_nothing c actor own e known comes is = comes.adds.said ∙ intruded_say_not
 pub said_fits : (c : Contents) (actor : ℕ) (own : List Entry) (e : Entry) (r : Role) → Comes c actor own e →
     IsRole c actor own r → list_all body_fits e.said ≡ true
 said_fits c actor own e (role.Master node) comes is =
-    master_words_fit (setup_of c) actor own e (sizes_of_group c comes.scenario) (signatures_sign c comes.scenario)
-    is.correct comes.list comes.adds comes.short
+    master_words_fit (setup_of c) actor own e (sizes_of_group c comes.scenario)
+    (signatures_sign c actor comes.scenario comes.key) is.correct comes.list comes.adds comes.short
 said_fits c actor own e (role.Intruded known) comes is =
     ap (list_all body_fits) (said_nothing c actor own e known comes is)
 said_fits c actor own e (role.Proxy front) comes (client, is, low, same) = client_fits c actor client own e comes is
@@ -48,8 +48,8 @@ pub frames_stand : (c : Contents) (actor : ℕ) (own : List Entry) (e : Entry) (
     Comes c actor own e → IsRole c actor own r
     → list_all (stands (setup_of c)) (frames_after (setup_of c) actor own e) ≡ true
 frames_stand c actor own e (role.Master node) comes is =
-    master_frames_stand (setup_of c) actor own e (sizes_of_group c comes.scenario) (signatures_sign c comes.scenario)
-    is.correct comes.list comes.adds comes.short
+    master_frames_stand (setup_of c) actor own e (sizes_of_group c comes.scenario)
+    (signatures_sign c actor comes.scenario comes.key) is.correct comes.list comes.adds comes.short
 frames_stand c actor own e (role.Intruded known) comes is =
     ap (λ (bs : List Body). list_all (stands (setup_of c))
     (signed_from (setup_of c) actor (leaves_used (setup_of c) own) bs 0 bs))

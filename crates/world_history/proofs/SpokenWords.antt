@@ -192,7 +192,7 @@ pub signature_short : (c : Contents) (actor used : ℕ) (said : List Body) → I
     field_fits ((setup_of c).signature actor used said 0) ≡ true
 signature_short c actor used said is =
     let can : CanBeMade (key_in c actor) =
-    record { levels = key_levels c actor is; made = key_made c actor is; id = key_id c actor } in
+    record { levels = key_levels c actor is; made = key_made c actor is; id = key_id c actor is } in
     let groups : ℕ = groups_for (group_size (shares_leaves c)) (length (map body_text said)) in
     let so = signed_upto (shares_leaves c) (key_in c actor) used (map body_text said) can groups (up_to_all groups) in
     ap field_fits ((setup_goes_by c).signature actor used said 0 ∙ signature_is c actor used said 0)
@@ -227,6 +227,7 @@ pub seated_with_word : (s : Seat) (key : KeyUse) (bodies : List Body) (said : Bo
 seated_with_word s key bodies said is low intruded one made = record {
   scenario = is.scenario;
   there = is.there;
+  own = is.own;
   entries = is.entries;
   role = is.role;
   key = made ∙ key_next (world_in s) s.actor s.signed (list_in s) s.key bodies said is.key one;

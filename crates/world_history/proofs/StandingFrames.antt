@@ -1,6 +1,6 @@
 -- Frames that stand: each of their parts is in its place, and they stand by the public keys of a scenario's actors.
 use Rattle.std.proofs.Common.{◌≡◌, ℕ, zero, suc, ◌+◌, ◌<◌, ◌≤◌, ◌⊎◌, List, [], ◌∷◌, ◌++◌, inl, inr, refl, sym}
-use Rattle.std.proofs.Common.{◌∙◌, ap, arith}
+use Rattle.std.proofs.Common.{Option, Some, None, ◌∙◌, ap, arith}
 use Rattle.std.specs.List.{slice_index_or}
 use Rattle.std.proofs.lemmas.Bool.{cases_lt}
 use Rattle.std.proofs.lemmas.List.{get_or_append_left, get_or_push}
@@ -9,10 +9,11 @@ use Rattle.checked_frames.specs.Signing as signing
 use Rattle.checked_frames.proofs.StandingLaws.{same_as_in_histories}
 use Rattle.actor_keys.specs.Keys.{key_of, public_keys}
 use Rattle.actor_keys.proofs.KeyLists.{one_more, one_each}
+use Rattle.scenario_file.specs.declared.held.HeldKeys.{HeldKeys}
 use Rattle.scenario_file.specs.Reading.{Contents}
-use Rattle.world_rules.specs.Scenarios.{setup_of, group_in, key_in}
+use Rattle.world_rules.specs.Scenarios.{setup_of, actors_in, key_in, key_with, public_in, public_with}
 use Rattle.world_rules.proofs.Fields.{setup_goes_by, group_is}
-use Rattle.world_history.specs.Signed.{ring_in}
+use Rattle.world_history.specs.Signed.{publics_with, publics_in, ring_in}
 use Rattle.message_types.specs.Parts.{parts}
 use Rattle.protocol_rules.specs.Places.{in_place}
 use Rattle.words_in_place.proofs.Limits.{all_from}
@@ -46,13 +47,19 @@ public_at seed heights (suc n) actor low = by (public_at seed heights n actor) (
         (one_each seed heights n ∙ same)
         ∙ ap (λ (a : ℕ). key_public (key_of seed heights a)) same
 
-key_is : (c : Contents) (actor : ℕ) → key_in c actor ≡ key_of c.settings.seed c.settings.heights actor
-unfolding key_in
-key_is c actor = refl
+-- whether the seed is known or keys are held, a public key stands at its actor's place
+public_with_at : (held : Option HeldKeys) (seed heights : List ℕ) (actors actor : ℕ) → actor < actors →
+    slice_index_or (publics_with held seed heights actors) actor [] ≡ public_with held
+    (key_with held seed heights actor) actor
+public_with_at None seed heights actors actor low = public_at seed heights actors actor low
+public_with_at (Some held) seed heights actors actor low = refl
+
+public_in_at : (c : Contents) (actor : ℕ) → actor < actors_in c →
+    slice_index_or (publics_in c) actor [] ≡ public_in c actor
+unfolding public_in key_in
+public_in_at c actor low = public_with_at c.held c.settings.seed c.settings.heights (actors_in c) actor low
 
 pub stands_by_ring : StandsByRing
 stands_by_ring c frame = same_as_in_histories (setup_of c) (ring_in c) (group_is c) (λ actor text sig low.
     (setup_goes_by c).signs actor text sig
-    ∙ ap (λ key. signing.signs (key_public key) text sig) (key_is c actor)
-    ∙ ap (λ (public : List ℕ). signing.signs public text sig)
-    (sym (public_at c.settings.seed c.settings.heights ((group_in c).n + (group_in c).clients) actor low))) frame
+    ∙ ap (λ (public : List ℕ). signing.signs public text sig) (sym (public_in_at c actor low))) frame

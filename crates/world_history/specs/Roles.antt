@@ -19,16 +19,17 @@ use Rattle.field_proxy.specs.Front.{IsFrontOf}
 use Rattle.operator_screen.specs.Board.{IsDeskOf}
 use Rattle.world_rules.specs.Clients.{front_of, desk_of}
 use Rattle.world_rules.specs.Frames.{overheard}
-use Rattle.world_rules.specs.Scenarios.{setup_of, group_in as sizes_in, masters_in, proxies_in, fits_correct}
+use Rattle.world_rules.specs.Scenarios.{setup_of, group_in as sizes_in, masters_in, proxies_in, fits_correct, HasKey}
 use Rattle.client_roles.specs.Roles.{carries_well}
 use Rattle.history_laws.specs.BenchLists.{AddsEntry, IsBenchList}
 use Rattle.world_history.specs.declared.role.Role.{Role}
 use Rattle.world_history.specs.declared.role.Role.TheVariants as role
 
--- An actor of a scenario comes to an entry after its own list.
+-- An actor of a scenario, which has its key, comes to an entry after its own list.
 pub record Comes (c : Contents) (actor : ℕ) (own : List Entry) (e : Entry) : Type 0 where
   pub scenario : IsScenario c
   pub there : actor < (sizes_in c).n + (sizes_in c).clients
+  pub key : HasKey c actor
   pub list : IsBenchList (setup_of c) actor own
   pub adds : AddsEntry (setup_of c) actor own e
   pub short : length own < 2 ^ 32

@@ -5,13 +5,13 @@ use Rattle.message_types.specs.declared.signed.Signed.{Signed}
 use Rattle.message_types.specs.declared.body.Body.{Body}
 use Rattle.checked_frames.specs.Standing.{Ring, stands}
 use Rattle.hash_signatures.specs.State.{KeyUse, key_use}
-use Rattle.scenario_file.specs.Reading.{Contents, contents}
+use Rattle.scenario_file.specs.Reading.{Contents, contents, with_held}
 use Rattle.scenario_file.specs.Valid.{IsScenario}
 use Rattle.history_rules.specs.Events.{Event, Entry}
 use Rattle.history_rules.specs.Setup.{Setup, is_correct, leaves_used}
 use Rattle.history_rules.specs.Legal.{says_in}
 use Rattle.world_entries.specs.Entries.{entry_of}
-use Rattle.world_rules.specs.Scenarios.{setup_of, group_in, key_in}
+use Rattle.world_rules.specs.Scenarios.{setup_of, group_in, key_in, HasKey}
 use Rattle.history_laws.specs.BenchLists.{IsBenchList}
 use Rattle.bench_rules.specs.Lists.{frames_after}
 use Rattle.world_history.specs.declared.role.Role.{Role}
@@ -30,8 +30,9 @@ frames_of_each w actor before [] = []
 frames_of_each w actor before (e ∷ rest) =
     frames_after w actor before e ∷ frames_of_each w actor (before ++ e ∷ []) rest
 
+-- the scenario as the seat's owner knows it
 abbrev pub world_in : Seat → Contents
-world_in s = contents s.scenario
+world_in s = with_held (contents s.scenario) s.held
 
 abbrev pub list_in : Seat → List Entry
 list_in s = map entry_of s.list.items
@@ -55,12 +56,13 @@ entry_of_seat s stamp event =
 abbrev pub GoesByTheSame : Seat → Seat → Type 0
 GoesByTheSame old new = (world_in new ≡ world_in old) × (new.actor ≡ old.actor) × (new.signed ≡ old.signed)
 
--- An actor's role, key and frames are what its list makes of them, where it signed so many words that aren't in its
--- list. Only an intruded master signs such words.
+-- An actor has its key, and its role, key and frames are what its list makes of them, where it signed so many words that
+-- aren't in its list. Only an intruded master signs such words.
 pub record IsReplay (c : Contents) (actor : ℕ) (list : List Entry) (signed : ℕ) (r : Role) (k : KeyUse)
     (made : List (List (Signed Body))) : Type 0 where
   pub scenario : IsScenario c
   pub there : actor < (group_in c).n + (group_in c).clients
+  pub own : HasKey c actor
   pub entries : IsBenchList (setup_of c) actor list
   pub role : IsRole c actor list r
   pub key : k ≡ key_use (key_in c actor) (leaves_used (setup_of c) list + signed)

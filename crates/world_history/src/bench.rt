@@ -1,18 +1,19 @@
 //! One actor of a scenario with all that it did.
-ghost use Rattle.std.specs.Prelude.{◌≡◌, ◌≤◌, ◌<◌, ◌+◌, ◌^◌, ◌++◌, ◌∷◌, [], length, map, true, false, nat_lt, OnOk, OnErr, IfOk, IsErr};
+ghost use Rattle.std.specs.Prelude.{◌≡◌, ◌↔◌, ◌≤◌, ◌<◌, ◌+◌, ◌^◌, ◌++◌, ◌∷◌, [], length, map, true, false, nat_lt, Some, OnOk, OnErr, IfOk, IfSome, IsSome, IsErr};
 ghost use Rattle.std.specs.List.{list_all};
-ghost use Rattle.scenario_file.specs.Reading.{contents};
+ghost use Rattle.scenario_file.specs.Reading.{contents, with_held};
 ghost use Rattle.scenario_file.specs.Valid.{IsScenario};
 ghost use Rattle.history_rules.specs.Setup.{stands};
 ghost use Rattle.history_rules.specs.Legal.{TakesWell};
 ghost use Rattle.world_entries.specs.Entries.{event_of, entry_of};
-ghost use Rattle.world_rules.specs.Scenarios.{group_in, fits_in};
+ghost use Rattle.world_rules.specs.Scenarios.{group_in, actors_in, fits_in, HasKey};
 ghost use Rattle.world_history.specs.State.{BenchState, setup_in, with_entry, frames_said};
 
+use crate::own_keys::{is_of_ring, own_key};
 use crate::seat::Seat;
 use message_types::Frame;
-use plain_lists::Want;
-use scenario_file::Scenario;
+use plain_lists::{Copied, Want};
+use scenario_file::{HeldKeys, Scenario};
 use std::alloc::Global;
 use std::marker::Model;
 use world_entries::{Entry, Event};
@@ -37,7 +38,7 @@ impl Model for Bench {
     ghost use Rattle.std.specs.Prelude.{◌≡◌, map, false};
     ghost use Rattle.std.specs.Coded.{codes};
     ghost use Rattle.interlocks.specs.Code.{formula_code};
-    ghost use Rattle.scenario_file.specs.Reading.{contents};
+    ghost use Rattle.scenario_file.specs.Reading.{contents, with_held};
     ghost use Rattle.world_entries.specs.Entries.{entry_of};
     ghost use Rattle.world_history.specs.State.{BenchState};
     ghost use Rattle.world_history.specs.Seats.{IsSeated};
@@ -47,7 +48,7 @@ impl Model for Bench {
     ghost coded = { Prim.hlevel (codes, formula_code) };
 
     ghost view = { λ bench. record {
-      world = contents bench.seat.scenario;
+      world = with_held (contents bench.seat.scenario) bench.seat.held;
       actor = bench.seat.actor;
       list = map entry_of bench.seat.list.items;
       signed = bench.seat.signed;
@@ -68,6 +69,35 @@ impl Bench {
             seat: Seat::begin(alloc, scenario, actor)?,
             is_spent: false,
         })
+    }
+
+    /// An actor of a scenario before its first event, by its own key alone: the scenario's seed isn't asked for. None where that
+    /// key isn't the one whose public key the ring has of the actor.
+    pub fn hold(
+        alloc: Global,
+        scenario: &Scenario,
+        held: &HeldKeys,
+        actor: u32,
+    ) -> Result<Option<Bench>, Want>
+        requires valid { IsScenario (contents scenario.now) }
+        requires there { actor < actors_in (contents scenario.now) }
+        requires ring { length held.now.ring ≡ actors_in (contents scenario.now) }
+        ensures first { IfOk result (λ found. IfSome found (λ bench. bench
+            ≡ record { world = with_held (contents scenario.now) (Some held.now); actor = actor; list = []; signed = 0; is_spent = false })) }
+        ensures own { IfOk result (λ found. IsSome found ↔ HasKey (with_held (contents scenario.now) (Some held.now)) actor) }
+    {
+        let heights = scenario.heights.as_slice();
+        let key = own_key(alloc, &held.seed, &held.identifier, heights)?;
+        let is_own = is_of_ring(held.ring.as_slice(), actor, &key);
+        if !is_own {
+            return Ok(None);
+        }
+        let copy = held.copy()?;
+        let seat = Seat::with_key(alloc, scenario, Some(copy), actor, key)?;
+        Ok(Some(Bench {
+            seat,
+            is_spent: false,
+        }))
     }
 
     /// The actor's number.

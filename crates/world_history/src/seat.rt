@@ -5,9 +5,10 @@ ghost use Rattle.history_rules.specs.Leaves.{room_of};
 ghost use Rattle.history_rules.specs.Setup.{stands};
 ghost use Rattle.history_rules.specs.Legal.{TakesWell};
 ghost use Rattle.world_entries.specs.Entries.{event_of};
-ghost use Rattle.scenario_file.specs.Reading.{contents};
+ghost use Rattle.hash_signatures.specs.State.{key_use};
+ghost use Rattle.scenario_file.specs.Reading.{contents, with_held};
 ghost use Rattle.scenario_file.specs.Valid.{IsScenario};
-ghost use Rattle.world_rules.specs.Scenarios.{setup_of, group_in};
+ghost use Rattle.world_rules.specs.Scenarios.{setup_of, group_in, key_in, HasKey};
 ghost use Rattle.bench_rules.specs.Lists.{frames_after};
 ghost use Rattle.world_history.specs.Seats.{IsSeated, GoesByTheSame, world_in, list_in, entry_of_seat};
 
@@ -21,7 +22,7 @@ use hash_signatures::KeyState;
 use history_rules::MOST_SHARING;
 use message_types::Frame;
 use plain_lists::{Copied, Items, Want};
-use scenario_file::Scenario;
+use scenario_file::{HeldKeys, Scenario};
 use std::alloc::Global;
 use world_entries::{Entry, Event};
 
@@ -30,6 +31,8 @@ use world_entries::{Entry, Event};
 pub struct Seat {
     pub alloc: Global,
     pub scenario: Scenario,
+    /// The keys that are held, where the actor's key isn't made from the scenario's seed.
+    pub held: Option<HeldKeys>,
     pub actor: u32,
     pub key: KeyState,
     pub role: Role,
@@ -63,12 +66,35 @@ impl Seat {
         ensures none { IfOk result (λ seat. list_in seat ≡ []) }
         ensures unsigned { IfOk result (λ seat. seat.signed ≡ 0) }
     {
-        let copy = scenario.copy()?;
         let key = actor_key(alloc, &scenario.seed, scenario.heights.as_slice(), actor)?;
+        Seat::with_key(alloc, scenario, None, actor, key)
+    }
+
+    /// The same by the actor's own key, which signed nothing yet.
+    pub(crate) fn with_key(
+        alloc: Global,
+        scenario: &Scenario,
+        held: Option<HeldKeys>,
+        actor: u32,
+        key: KeyState,
+    ) -> Result<Seat, Want>
+        requires valid { IsScenario (contents scenario.now) }
+        requires known { IsScenario (with_held (contents scenario.now) held) }
+        requires there { actor < (group_in (contents scenario.now)).n + (group_in (contents scenario.now)).clients }
+        requires own { HasKey (with_held (contents scenario.now) held) actor }
+        requires key { key ≡ key_use (key_in (with_held (contents scenario.now) held) actor) 0 }
+        ensures seated { IfOk result (λ seat. IsSeated seat) }
+        ensures world { IfOk result (λ seat. world_in seat ≡ with_held (contents scenario.now) held) }
+        ensures actor { IfOk result (λ seat. seat.actor ≡ actor) }
+        ensures none { IfOk result (λ seat. list_in seat ≡ []) }
+        ensures unsigned { IfOk result (λ seat. seat.signed ≡ 0) }
+    {
+        let copy = scenario.copy()?;
         let leaves = key.left();
         Ok(Seat {
             alloc,
             scenario: copy,
+            held,
             actor,
             key,
             role: begin(alloc, scenario, actor, leaves)?,

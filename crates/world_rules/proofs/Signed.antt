@@ -115,17 +115,17 @@ unfolding signature_in
 signature_is c actor used said place = refl
 
 pub signatures_sign : SignaturesSign
-signatures_sign c is = record {
-  signs = λ actor used said low correct enough fit.
+signatures_sign c actor is has = record {
+  signs = λ used said low correct enough fit.
       let goes = setup_goes_by c in
       let can : CanBeMade (key_in c actor) =
-      record { levels = key_levels c actor is; made = key_made c actor is; id = key_id c actor } in
+      record { levels = key_levels c actor is; made = key_made c actor is; id = key_id c actor is } in
       let texts = map body_text said in
       let both = entry_signs (shares_leaves c) (key_in c actor) used texts can in
       let fields = entry_signatures (key_in c actor) used (group_size (shares_leaves c)) texts in
       let are : AreFields (setup_of c) actor used said (key_public (key_in c actor)) fields = record {
         signature = λ place. goes.signature actor used said place ∙ signature_is c actor used said place;
-        signs = goes.signs actor;
+        signs = λ text sig. goes.signs actor text sig ∙ ap (λ (p : List ℕ). signs p text sig) has;
         fit = both.1;
       } in
       frames_signed (setup_of c) actor used said (key_public (key_in c actor)) fields are 0 said (λ k below.

@@ -1,19 +1,22 @@
 -- What the histories of a scenario go by: its group, its intruded masters, the orders of its plant, its clients, the
 -- events that each actor may have, and its actors' keys, leaves and keepers. (RFC 8554 for the keys; which key an actor
 -- has, and the rest, is this project's own.)
-use Rattle.std.specs.Prelude.{ℕ, ◌+◌, ◌-◌, Bool, true, false, List, [], length, map, nat_eq, nat_lt, if◌then◌else◌}
+use Rattle.std.specs.Prelude.{◌≡◌, ℕ, ◌+◌, ◌-◌, Option, Some, None, Bool, true, false, List, [], length, map, nat_eq, nat_lt, if◌then◌else◌}
 use Rattle.std.specs.List.{slice_index_or}
 use Rattle.quorum_sets.specs.Quorum.{group_size, quorum_size}
 use Rattle.quorum_sets.specs.Masters.{has_master}
 use Rattle.hash_signatures.specs.Signatures.{Key, key_public, all_leaves}
+use Rattle.hash_signatures.specs.State.{key_from}
 use Rattle.checked_frames.specs.Signing.{signs}
 use Rattle.checked_frames.specs.Entries as entries
+use Rattle.ots_keys.specs.declared.parameters.Ots.TheVariants.{W4}
 use Rattle.actor_keys.specs.Keys.{key_of}
 use Rattle.message_types.specs.declared.body.Body.{Body}
 use Rattle.message_types.specs.Texts.{body_text}
 use Rattle.protocol_rules.specs.Group.{Group}
 use Rattle.field_device.specs.Places.{Places, zeros, size_of}
 use Rattle.master_points.specs.Orders.{orders}
+use Rattle.scenario_file.specs.declared.held.HeldKeys.{HeldKeys}
 use Rattle.scenario_file.specs.Reading.{Contents}
 use Rattle.history_rules.specs.Events.{Event, Took, Tick, Command, Field, Poll, Cry, Skip, Restart, Entry}
 use Rattle.history_rules.specs.Setup.{Setup}
@@ -39,9 +42,26 @@ group_in c = record {
 abbrev pub actors_in : Contents → ℕ
 actors_in c = (group_in c).n + (group_in c).clients
 
--- an actor's key
+-- the key with which an actor signs, of a scenario's heights: one that the seed makes, or else the one key that is held
+abbrev pub key_with : Option HeldKeys → List ℕ → List ℕ → ℕ → Key
+key_with None seed heights actor = key_of seed heights actor
+key_with (Some held) seed heights actor = key_from held.seed held.identifier heights W4
+
 unfoldable pub key_in : Contents → ℕ → Key
-key_in c actor = key_of c.settings.seed c.settings.heights actor
+key_in c actor = key_with c.held c.settings.seed c.settings.heights actor
+
+-- the public key by which an actor's words are checked: that of its key, or else what the ring that is held has of it
+abbrev pub public_with : Option HeldKeys → Key → ℕ → List ℕ
+public_with None key actor = key_public key
+public_with (Some held) key actor = slice_index_or held.ring actor []
+
+unfoldable pub public_in : Contents → ℕ → List ℕ
+public_in c actor = public_with c.held (key_in c actor) actor
+
+-- The actor's words are checked by the key with which it signs. Where the seed is known this is so of all actors, else of
+-- the one whose key is held.
+abbrev pub HasKey : Contents → ℕ → Type 0
+HasKey c actor = public_in c actor ≡ key_public (key_in c actor)
 
 -- whether bodies of an entry share a leaf, and so how many do at most
 abbrev pub shares_leaves : Contents → Bool
@@ -103,7 +123,7 @@ setup_of c = record {
   client_says = client_in c;
   fits = fits_in c;
   signature = signature_in c;
-  signs = λ actor text sig. signs (key_public (key_in c actor)) text sig;
+  signs = λ actor text sig. signs (public_in c actor) text sig;
   leaves = all_leaves (key_in c 0);
   shared_leaves = shares_leaves c;
   failing = λ actor. slice_index_or c.failing actor [];

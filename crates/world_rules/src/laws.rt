@@ -1,6 +1,6 @@
 //! What holds of every legal history of every scenario. Each function does nothing: its contract is a law.
 ghost use Rattle.world_rules.specs.Headline.{HeadlineHolds};
-ghost use Rattle.world_rules.specs.Laws.{SizesOfGroup, OrdersGoByPlant, LeavesOfAll, SignaturesSign, NoVoteInside, SetupGoesBy};
+ghost use Rattle.world_rules.specs.Laws.{SizesOfGroup, OrdersGoByPlant, LeavesOfAll, SeedHasKeys, SignaturesSign, NoVoteInside, SetupGoesBy};
 
 /// While at most f masters are intruded, no word is forged and no digest is shared, the correct masters agree, each update
 /// executed was said by its client once and before, and each proxy's writes begin a correct master's orders.
@@ -28,8 +28,13 @@ pub fn leaves_of_all()
     ensures { LeavesOfAll }
 {}
 
-/// Where an actor has leaves enough left, its signatures of an entry's bodies are within the limits, and its key bears
-/// them out.
+/// Where a scenario's seed is known, each actor's words are checked by the key with which it signs.
+pub fn seed_has_keys()
+    ensures { SeedHasKeys }
+{}
+
+/// Where an actor has its key, and leaves enough left, its signatures of an entry's bodies are within the limits, and its key
+/// bears them out.
 pub fn signatures_sign()
     ensures { SignaturesSign }
 {}

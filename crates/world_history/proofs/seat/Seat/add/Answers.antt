@@ -139,6 +139,7 @@ returns-clause-seated c =
     let new : Seat = record {
       alloc = s.alloc;
       scenario = s.scenario;
+      held = s.held;
       actor = s.actor;
       key = c.sign_all.new.key;
       role = c.close.new.role;
