@@ -15,7 +15,6 @@ import sys
 import tomllib
 
 HERE = os.path.dirname(os.path.realpath(__file__))
-MOST_KEPT_BYTES = 4294967295     # of a file that a station keeps, and that `merge` loads (crates/command_ends/src/limits.rt)
 DEFAULTS = {
     'group': 'spire',        # what topics begin with
     'host': '127.0.0.1',     # where the broker is
