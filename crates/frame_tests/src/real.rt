@@ -122,3 +122,43 @@ fn writers_may_take_a_byte_at_a_time_and_not_nothing(rt: HostRuntime) -> Result<
     assert!(rt; nothing.is_empty());
     Ok(())
 }
+
+/// A writer that takes all, and whose flush fails.
+#[derive(Drop)]
+struct Clogged<'a>(&'a mut Vec<u8>);
+
+impl Write for Clogged<'_> {
+    fn write(&mut self, buf: &[u8]) -> io::Result<usize> {
+        self.0.extend_from_slice(buf)?;
+        Ok(buf.len())
+    }
+
+    fn flush(&mut self) -> io::Result<()> {
+        Err(io::Error::from(io::ErrorKind::TimedOut))
+    }
+}
+
+#[test]
+fn a_flush_that_fails_is_a_fault(rt: HostRuntime) -> Result<(), Fail> {
+    let mut taken = Vec::new(rt.alloc());
+    let mut out = RealOut::make(Clogged(&mut taken));
+    assert_eq!(rt; out.put(b"all of it"), Err(PutAnswer::Failed));
+    assert!(rt; taken.as_slice() == b"all of it".as_slice());
+    Ok(())
+}
+
+#[test]
+fn a_file_is_loaded_after_a_load_that_failed(rt: HostRuntime) -> Result<(), Fail> {
+    let name = "outside_test_after.bin";
+    let content = bytes_of(rt.alloc(), 4097)?;
+    fs::write(&rt, name, content.as_slice())?;
+    let mut files = RealFiles::make(rt.alloc(), &rt);
+    let absent = files.load("outside_test_absent.bin", 9999);
+    let long = files.load(name, 4096);
+    let whole = files.load(name, 4097);
+    fs::remove_file(&rt, name)?;
+    assert_eq!(rt; absent.err(), Some(LoadAnswer::Failed));
+    assert_eq!(rt; long.err(), Some(LoadAnswer::TooLong));
+    assert_eq!(rt; whole?.as_slice(), content.as_slice());
+    Ok(())
+}

@@ -1,11 +1,11 @@
 -- Certificates: the least digest with a quorum, in the highest view that has one.
-use Rattle.std.proofs.Common.{◌≡◌, ℕ, suc, ◌+◌, ◌-◌, ◌≤◌, ◌<◌, true, false, cond, ◌&&◌, ◌||◌, List, [], ◌∷◌, ◌++◌}
-use Rattle.std.proofs.Common.{Option, Some, None, is_some, length, nat_le, refl, sym, ◌∙◌, ap, arith, true≢false}
+use Rattle.std.proofs.Common.{◌≡◌, ℕ, suc, ◌+◌, ◌-◌, ◌≤◌, ◌<◌, true, false, cond, ◌&&◌, List, [], ◌∷◌, ◌++◌}
+use Rattle.std.proofs.Common.{Option, Some, None, is_some, refl, sym, ◌∙◌, ap, arith, true≢false}
 use Rattle.std.specs.Prelude.{Result, Ok, Err, IfOk}
 use Rattle.std.specs.List.{find, filter_map, cons_option}
 use Rattle.std.specs.Option.{option_map, option_and_then, option_to_list}
 use Rattle.std.specs.Str.{bytes_eq}
-use Rattle.std.proofs.lemmas.Bool.{ne_eqb, le-leb, lt-leb}
+use Rattle.std.proofs.lemmas.Bool.{ne_eqb}
 use Rattle.std.proofs.lemmas.List.Elements.{filter_map-append}
 use Rattle.indexmap.specs.IndexMap.{get}
 use Rattle.message_types.specs.declared.signed.Signed.{Signed}
@@ -19,13 +19,11 @@ use Rattle.protocol_rules.specs.Facts.{rows_known}
 use Rattle.protocol_rules.specs.Order.{prepare_by, mark_by, is_voted, marks_for, marks_at, quorum_of, prepared}
 use Rattle.protocol_rules.specs.Order.{least_prepared, certificate_of, certificate_at, last_certificate}
 use Rattle.global_order.specs.Choosing.{has_digest, is_known, IsLeast}
-use Rattle.global_order.specs.Index.{Map, HasRows, HasMarks, given, mark_at, prepares_in, prepared_in}
-use Rattle.global_order.specs.OrderState.{HasSizes}
+use Rattle.global_order.specs.Index.{Map, HasRows, given, prepares_in, prepared_in}
 use Rattle.global_order.proofs.Booleans.{bytes-same, find-passes, option_map-none}
 use Rattle.global_order.proofs.Given.{option-list}
 use Rattle.global_order.proofs.Least.{least-rows}
 use Rattle.global_order.proofs.Meeting.{chosen-known}
-use Rattle.global_order.proofs.Voting.{marks-quorum}
 use Rattle.protocol_rules.proofs.Numbers.{numbers_from-suc}
 
 least-is : (g : Group) (facts : List OrderFact) (v s : ℕ) (least : Option (List ℕ)) →
@@ -146,29 +144,6 @@ marks-some g facts s ne = sym (ap (λ b. cond b [] (quorum_of g (mark_by s) fact
 -- the marks of a given base
 pub base-none : (g : Group) (facts : List OrderFact) (s : ℕ) → s ≡ 0 → Some [] ≡ marks_at g facts s
 base-none g facts s e = sym (ap (marks_at g facts) e)
-
-base-is : (g : Group) (n q : ℕ) (facts : List OrderFact) (marks : Map (ℕ × ℕ) (List ℕ)) (count s : ℕ) →
-    HasSizes g n q → HasMarks facts marks → count ≡ length (given (mark_at marks s) n) → (s ≡ 0 → ⊥) →
-    cond (nat_le q count) (Some (quorum_of g (mark_by s) facts)) None ≡ marks_at g facts s
-base-is g n q facts marks count s sizes has count_is ne =
-    (λ i. cond (nat_le (sym sizes.quorum i) (count_is i)) (Some (quorum_of g (mark_by s) facts)) None)
-    ∙ ap (λ b. cond b (Some (quorum_of g (mark_by s) facts)) None) (marks-quorum g n facts marks s sizes.masters has)
-    ∙ ap (λ ms. cond (is_voted g (mark_by s) facts) (Some ms) None) (marks-some g facts s ne)
-    ∙ sym (ap (λ b. cond (b || is_voted g (mark_by s) facts) (Some (marks_for g facts s)) None) (ne_eqb s 0 ne))
-
-pub base-few : (g : Group) (n q : ℕ) (facts : List OrderFact) (marks : Map (ℕ × ℕ) (List ℕ)) (count s : ℕ) →
-    HasSizes g n q → HasMarks facts marks → count ≡ length (given (mark_at marks s) n) → (s ≡ 0 → ⊥) → count < q →
-    None ≡ marks_at g facts s
-base-few g n q facts marks count s sizes has count_is ne few =
-    sym (ap (λ b. cond b (Some (quorum_of g (mark_by s) facts)) None) (lt-leb q count few))
-    ∙ base-is g n q facts marks count s sizes has count_is ne
-
-pub base-enough : (g : Group) (n q : ℕ) (facts : List OrderFact) (marks : Map (ℕ × ℕ) (List ℕ)) (count s : ℕ) →
-    HasSizes g n q → HasMarks facts marks → count ≡ length (given (mark_at marks s) n) → (s ≡ 0 → ⊥) → q ≤ count →
-    Some (quorum_of g (mark_by s) facts) ≡ marks_at g facts s
-base-enough g n q facts marks count s sizes has count_is ne enough =
-    sym (ap (λ b. cond b (Some (quorum_of g (mark_by s) facts)) None) (le-leb q count enough))
-    ∙ base-is g n q facts marks count s sizes has count_is ne
 
 pub if_ok : {T E : Type 0} (r : Result T E) (P Q : T → Type 0) → ((x : T) → P x → Q x) → IfOk r P → IfOk r Q
 if_ok (Ok x) P Q f p = f x p

@@ -359,22 +359,6 @@ impl Order {
         marks_of(self.alloc, &self.marks, &self.sizes, self.stable)
     }
 
-    /// The marks that show a base: the first ones of the `q` lowest masters, and no mark for base 0. None exactly
-    /// where `base` isn't 0 and fewer than `q` masters' marks of it are known.
-    pub fn marks_of_base(&self, base: u64) -> Result<Option<Items<Signed<Mark>>>, Want>
-        ensures { IfOk result (λ marks. Where self.now (λ g facts said. marks ≡ rules.marks_at g facts base)) }
-    {
-        if base == 0 {
-            return Ok(Some(Items::new(self.alloc)));
-        }
-        let count = count_marks(&self.marks, self.sizes.n, base);
-        if count < self.sizes.q {
-            return Ok(None);
-        }
-        let marks = marks_of(self.alloc, &self.marks, &self.sizes, base)?;
-        Ok(Some(Items::from_vec(self.alloc, marks)))
-    }
-
     /// The certificate of view `v` for number `s` that was complete first, with the first prepares of the `q` lowest
     /// masters. None exactly where no known rows have a quorum of prepares there.
     pub fn certificate(&self, v: u64, s: u64) -> Result<Option<Certificate>, Want>

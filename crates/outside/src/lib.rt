@@ -16,5 +16,5 @@ pub use keepers::{KeepAnswer, Keeper};
 pub use memory_files::{MemoryFiles, SteadyFiles};
 pub use memory_keeper::MemoryKeeper;
 pub use memory_sinks::{MemorySink, SteadySink};
-pub use real::{RealErr, RealFiles, RealOut, read_whole};
+pub use real::{RealFiles, RealOut, RealOut as RealErr, read_whole};
 pub use sinks::{PutAnswer, Sink};

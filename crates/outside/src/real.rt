@@ -104,8 +104,9 @@ fn add_piece(loaded: &mut Vec<u8>, piece: &[u8], room: u64) -> Result<(), LoadAn
         .map_err(|_| LoadAnswer::Want)
 }
 
-/// Standard output, or another writer in its place. As a sink it tells no bytes, since what the system does
-/// with them is outside all that is proved; of a writer that tells what it holds each put says what it takes.
+/// Standard output, standard error (by the name `RealErr`), or another writer in their place. As a sink it tells
+/// no bytes, since what the system does with them is outside all that is proved; of a writer that tells what it
+/// holds each put says what it takes.
 #[derive(Drop)]
 pub struct RealOut<W: Write> {
     writer: W,
@@ -129,50 +130,6 @@ impl<W: Write> RealOut<W> {
 }
 
 impl<W: Write> Sink for RealOut<W> {
-    ghost faults = { λ outlet. outlet.faults };
-
-    ghost told = { λ _. None };
-
-    fn put(&mut self, piece: &[u8]) -> Result<(), PutAnswer>
-        ensures never_falls { self.old.faults ≤ self.new.faults }
-        ensures failed { IsErrOf result PutAnswer.Failed → HasRisen self.old.faults self.new.faults }
-        ensures counted { PutCounts result self.old.faults self.new.faults }
-        ensures bytes { PutGives None piece.now result None }
-        ensures written { WritesPiece self.old.written piece.now result self.new.written }
-    {
-        if write_whole(&mut self.writer, piece) {
-            return Ok(());
-        }
-        self.faults = self.faults.saturating_add(1);
-        Err(PutAnswer::Failed)
-    }
-}
-
-/// Standard error, or another writer in its place. As a sink it tells no bytes, since what the system does
-/// with them is outside all that is proved; of a writer that tells what it holds each put says what it takes.
-#[derive(Drop)]
-pub struct RealErr<W: Write> {
-    writer: W,
-    faults: u64,
-}
-
-impl<W: Write> Model for RealErr<W> {
-    ghost use Rattle.outside.specs.Piece.{Outlet};
-
-    ghost Value = { Outlet };
-
-    ghost view = { λ real. record { faults = real.faults; written = W.contents real.writer } };
-}
-
-impl<W: Write> RealErr<W> {
-    pub fn make(writer: W) -> Self
-        ensures { result ≡ record { faults = 0; written = W.contents writer } }
-    {
-        RealErr { writer, faults: 0 }
-    }
-}
-
-impl<W: Write> Sink for RealErr<W> {
     ghost faults = { λ outlet. outlet.faults };
 
     ghost told = { λ _. None };

@@ -1,4 +1,4 @@
-ghost use Rattle.std.specs.Prelude.{◌≡◌, ◌≤◌, ◌≢◌, ◌*◌, ℕ, ◌↔◌, IsTrue, IfSome, IfNone};
+ghost use Rattle.std.specs.Prelude.{◌≡◌, ◌≤◌, ◌≢◌, ◌*◌, ℕ, IfSome, IfNone};
 
 use plain_lists::{Copied, Text, Want};
 
@@ -66,23 +66,13 @@ pub struct Point {
 }
 
 impl Point {
-    ghost use Rattle.point_table.specs.Point.{is_within, raw_of, HasScale, IsUsable};
+    ghost use Rattle.point_table.specs.Point.{is_within, raw_of, HasScale};
 
     /// Whether a value lies within the point's low and high.
     pub fn is_within(&self, value: i64) -> bool
         ensures { result ≡ is_within self.now value }
     {
         self.low <= value && value <= self.high
-    }
-
-    /// Whether the point is one that a scenario may give.
-    pub fn is_usable(&self) -> bool
-        ensures { IsTrue result ↔ IsUsable self.now }
-    {
-        1 <= self.scale
-            && self.scale <= 1_000_000
-            && self.low <= self.high
-            && self.is_within(self.start)
     }
 
     /// The raw value that stands for `value`. None exactly where the value is not within the

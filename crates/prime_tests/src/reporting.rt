@@ -73,31 +73,17 @@ fn votes_marked(
     votes_in(alloc, &marks)
 }
 
-/// The votes that show number 8 as a base, if a quorum's are known.
-fn votes_of_base(alloc: Global, order: &Order) -> Result<Option<Vec<(u32, u8)>>, Want> {
-    let marks = order.marks_of_base(8)?;
-    match marks {
-        Some(marks) => Ok(Some(votes_in(alloc, marks.as_slice())?)),
-        None => Ok(None),
-    }
-}
-
 #[test]
 fn marks_of_a_quorum_make_a_number_stable(rt: HostRuntime) -> Result<(), Fail> {
     let mut order = order_of_four(rt.alloc())?;
     let by_two = votes_marked(rt.alloc(), &mut order, &[(3, 13), (1, 11), (1, 21)]);
     let before = order.stable();
-    let early = votes_of_base(rt.alloc(), &order);
     let by_four = votes_marked(rt.alloc(), &mut order, &[(2, 12), (0, 10)]);
     let after = order.stable();
-    let shown = votes_of_base(rt.alloc(), &order);
     let_go(order);
     assert_eq!(rt; (before, after), (0, 8));
     assert_eq!(rt; by_two?.len(), 0);
     assert_eq!(rt; by_four?.as_slice(), [(0, 10), (1, 11), (2, 12)].as_slice());
-    assert!(rt; early?.is_none());
-    let shown = shown?.ok_or("no quorum")?;
-    assert_eq!(rt; shown.as_slice(), [(0, 10), (1, 11), (2, 12)].as_slice());
     Ok(())
 }
 
