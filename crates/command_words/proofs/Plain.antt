@@ -11,7 +11,7 @@ use Rattle.clap.specs.Kinds.{range_kinds, values_kinds}
 use Rattle.clap.specs.declared.builder.value_parser.ValueParser.TheVariants as vp
 use Rattle.clap.proofs.OnLiterals.{clap_on_literals}
 use Rattle.command_words.specs.Wanted.{IsName, IsPlain, IsSpan, IsWhole, IsWidth, Wanted, command_in, is_command, number_in, wanted_in, words_of}
-use Rattle.command_words.specs.Wanted.{play, run, replay, make, keys, verify, parts, rebuild, blame, trend, delays, page}
+use Rattle.command_words.specs.Wanted.{play, run, replay, make, keys, key, verify, parts, rebuild, blame, trend, delays, page}
 use Rattle.command_words.specs.Wanted.{picture, plot, chart, merge}
 use Rattle.command_words.proofs.Walks.{IsWord, Runs, ends, held, is_taken_if, leaf, level_taken, name_is_word, state}
 use Rattle.command_words.proofs.Walks.{steps, text_row, word_steps}
@@ -102,19 +102,32 @@ keys_asks a wa =
       wanted = ap (asked_at 4 (codes "keys")) runs.walked_to;
     }
 
+-- ---- key
+
+key_asks : (a b : Text) → IsWord a → IsWord b → Asks (codes "key" ∷ a ∷ b ∷ []) (key a b)
+unfolding clap_on_literals
+key_asks a b wa wb =
+    let runs : Runs (leaf 5) (walk_from nothing_held) (a ∷ b ∷ [])
+    (end_at (text_row (codes "scenario") a ∷ []) (codes "actor") b 3) =
+    word_steps (leaf 5) _ _ _ a _ _ wa refl (word_steps (leaf 5) _ _ _ b _ _ wb refl (ends (leaf 5) _)) in
+    record {
+      taken = ap is_taken_if (level_taken (leaf 5) _ _ runs refl);
+      wanted = ap (asked_at 5 (codes "key")) runs.walked_to;
+    }
+
 -- ---- verify
 
 verify_asks : (a b c : Text) → IsWord a → IsWord b → IsWord c →
     Asks (codes "verify" ∷ a ∷ b ∷ c ∷ []) (verify a b c)
 unfolding clap_on_literals
 verify_asks a b c wa wb wc =
-    let runs : Runs (leaf 5) (walk_from nothing_held) (a ∷ b ∷ c ∷ [])
+    let runs : Runs (leaf 6) (walk_from nothing_held) (a ∷ b ∷ c ∷ [])
     (end_at (text_row (codes "public") a ∷ text_row (codes "message") b ∷ []) (codes "signature") c 4) =
-    word_steps (leaf 5) _ _ _ a _ _ wa refl (word_steps (leaf 5) _ _ _ b _ _ wb refl
-    (word_steps (leaf 5) _ _ _ c _ _ wc refl (ends (leaf 5) _))) in
+    word_steps (leaf 6) _ _ _ a _ _ wa refl (word_steps (leaf 6) _ _ _ b _ _ wb refl
+    (word_steps (leaf 6) _ _ _ c _ _ wc refl (ends (leaf 6) _))) in
     record {
-      taken = ap is_taken_if (level_taken (leaf 5) _ _ runs refl);
-      wanted = ap (asked_at 5 (codes "verify")) runs.walked_to;
+      taken = ap is_taken_if (level_taken (leaf 6) _ _ runs refl);
+      wanted = ap (asked_at 6 (codes "verify")) runs.walked_to;
     }
 
 -- ---- parts
@@ -124,14 +137,14 @@ parts_asks : (a b c d : Text) (nc nd : ℕ) → IsWord a → IsWord b → IsWord
     number_in d ≡ Some nd → Asks (codes "parts" ∷ a ∷ b ∷ c ∷ d ∷ []) (parts a b nc nd)
 unfolding clap_on_literals
 parts_asks a b c d nc nd wa wb wc wd ec ed hc hd =
-    let runs : Runs (leaf 6) (walk_from nothing_held) (a ∷ b ∷ c ∷ d ∷ [])
+    let runs : Runs (leaf 7) (walk_from nothing_held) (a ∷ b ∷ c ∷ d ∷ [])
     (end_at (text_row (codes "scenario") a ∷ text_row (codes "history") b ∷
     text_row (codes "originator") c ∷ []) (codes "number") d 5) =
-    word_steps (leaf 6) _ _ _ a _ _ wa refl (word_steps (leaf 6) _ _ _ b _ _ wb refl
-    (word_steps (leaf 6) _ _ _ c _ _ wc refl (word_steps (leaf 6) _ _ _ d _ _ wd (rw ec refl) (ends (leaf 6) _)))) in
+    word_steps (leaf 7) _ _ _ a _ _ wa refl (word_steps (leaf 7) _ _ _ b _ _ wb refl
+    (word_steps (leaf 7) _ _ _ c _ _ wc refl (word_steps (leaf 7) _ _ _ d _ _ wd (rw ec refl) (ends (leaf 7) _)))) in
     record {
-      taken = ap is_taken_if (level_taken (leaf 6) _ _ runs (rw ed refl));
-      wanted = ap (asked_at 6 (codes "parts")) runs.walked_to ∙ rw (hc, hd) refl;
+      taken = ap is_taken_if (level_taken (leaf 7) _ _ runs (rw ed refl));
+      wanted = ap (asked_at 7 (codes "parts")) runs.walked_to ∙ rw (hc, hd) refl;
     }
 
 -- ---- rebuild
@@ -139,12 +152,12 @@ parts_asks a b c d nc nd wa wb wc wd ec ed hc hd =
 rebuild_asks : (a b : Text) → IsWord a → IsWord b → Asks (codes "rebuild" ∷ a ∷ b ∷ []) (rebuild a b)
 unfolding clap_on_literals
 rebuild_asks a b wa wb =
-    let runs : Runs (leaf 7) (walk_from nothing_held) (a ∷ b ∷ [])
+    let runs : Runs (leaf 8) (walk_from nothing_held) (a ∷ b ∷ [])
     (end_at (text_row (codes "scenario") a ∷ []) (codes "pieces") b 3) =
-    word_steps (leaf 7) _ _ _ a _ _ wa refl (word_steps (leaf 7) _ _ _ b _ _ wb refl (ends (leaf 7) _)) in
+    word_steps (leaf 8) _ _ _ a _ _ wa refl (word_steps (leaf 8) _ _ _ b _ _ wb refl (ends (leaf 8) _)) in
     record {
-      taken = ap is_taken_if (level_taken (leaf 7) _ _ runs refl);
-      wanted = ap (asked_at 7 (codes "rebuild")) runs.walked_to;
+      taken = ap is_taken_if (level_taken (leaf 8) _ _ runs refl);
+      wanted = ap (asked_at 8 (codes "rebuild")) runs.walked_to;
     }
 
 -- ---- blame
@@ -152,12 +165,12 @@ rebuild_asks a b wa wb =
 blame_asks : (a b : Text) → IsWord a → IsWord b → Asks (codes "blame" ∷ a ∷ b ∷ []) (blame a b)
 unfolding clap_on_literals
 blame_asks a b wa wb =
-    let runs : Runs (leaf 8) (walk_from nothing_held) (a ∷ b ∷ [])
+    let runs : Runs (leaf 9) (walk_from nothing_held) (a ∷ b ∷ [])
     (end_at (text_row (codes "scenario") a ∷ []) (codes "history") b 3) =
-    word_steps (leaf 8) _ _ _ a _ _ wa refl (word_steps (leaf 8) _ _ _ b _ _ wb refl (ends (leaf 8) _)) in
+    word_steps (leaf 9) _ _ _ a _ _ wa refl (word_steps (leaf 9) _ _ _ b _ _ wb refl (ends (leaf 9) _)) in
     record {
-      taken = ap is_taken_if (level_taken (leaf 8) _ _ runs refl);
-      wanted = ap (asked_at 8 (codes "blame")) runs.walked_to;
+      taken = ap is_taken_if (level_taken (leaf 9) _ _ runs refl);
+      wanted = ap (asked_at 9 (codes "blame")) runs.walked_to;
     }
 
 -- ---- trend
@@ -168,15 +181,15 @@ trend_asks : (a b c d e : Text) (nc nd ne : ℕ) → IsWord a → IsWord b → I
     Asks (codes "trend" ∷ a ∷ b ∷ c ∷ d ∷ e ∷ []) (trend a b nc nd ne)
 unfolding clap_on_literals
 trend_asks a b c d e nc nd ne wa wb wc wd we ec ed ee hc hd he =
-    let runs : Runs (leaf 9) (walk_from nothing_held) (a ∷ b ∷ c ∷ d ∷ e ∷ [])
+    let runs : Runs (leaf 10) (walk_from nothing_held) (a ∷ b ∷ c ∷ d ∷ e ∷ [])
     (end_at (text_row (codes "scenario") a ∷ text_row (codes "history") b ∷
     text_row (codes "point") c ∷ text_row (codes "first") d ∷ []) (codes "last") e 6) =
-    word_steps (leaf 9) _ _ _ a _ _ wa refl (word_steps (leaf 9) _ _ _ b _ _ wb refl
-    (word_steps (leaf 9) _ _ _ c _ _ wc refl (word_steps (leaf 9) _ _ _ d _ _ wd (rw ec refl)
-    (word_steps (leaf 9) _ _ _ e _ _ we (rw ed refl) (ends (leaf 9) _))))) in
+    word_steps (leaf 10) _ _ _ a _ _ wa refl (word_steps (leaf 10) _ _ _ b _ _ wb refl
+    (word_steps (leaf 10) _ _ _ c _ _ wc refl (word_steps (leaf 10) _ _ _ d _ _ wd (rw ec refl)
+    (word_steps (leaf 10) _ _ _ e _ _ we (rw ed refl) (ends (leaf 10) _))))) in
     record {
-      taken = ap is_taken_if (level_taken (leaf 9) _ _ runs (rw ee refl));
-      wanted = ap (asked_at 9 (codes "trend")) runs.walked_to ∙ rw (hc, hd, he) refl;
+      taken = ap is_taken_if (level_taken (leaf 10) _ _ runs (rw ee refl));
+      wanted = ap (asked_at 10 (codes "trend")) runs.walked_to ∙ rw (hc, hd, he) refl;
     }
 
 -- ---- delays
@@ -184,12 +197,12 @@ trend_asks a b c d e nc nd ne wa wb wc wd we ec ed ee hc hd he =
 delays_asks : (a b : Text) → IsWord a → IsWord b → Asks (codes "delays" ∷ a ∷ b ∷ []) (delays a b)
 unfolding clap_on_literals
 delays_asks a b wa wb =
-    let runs : Runs (leaf 10) (walk_from nothing_held) (a ∷ b ∷ [])
+    let runs : Runs (leaf 11) (walk_from nothing_held) (a ∷ b ∷ [])
     (end_at (text_row (codes "scenario") a ∷ []) (codes "history") b 3) =
-    word_steps (leaf 10) _ _ _ a _ _ wa refl (word_steps (leaf 10) _ _ _ b _ _ wb refl (ends (leaf 10) _)) in
+    word_steps (leaf 11) _ _ _ a _ _ wa refl (word_steps (leaf 11) _ _ _ b _ _ wb refl (ends (leaf 11) _)) in
     record {
-      taken = ap is_taken_if (level_taken (leaf 10) _ _ runs refl);
-      wanted = ap (asked_at 10 (codes "delays")) runs.walked_to;
+      taken = ap is_taken_if (level_taken (leaf 11) _ _ runs refl);
+      wanted = ap (asked_at 11 (codes "delays")) runs.walked_to;
     }
 
 -- ---- page
@@ -197,12 +210,12 @@ delays_asks a b wa wb =
 page_asks : (a b : Text) → IsWord a → IsWord b → Asks (codes "page" ∷ a ∷ b ∷ []) (page a b)
 unfolding clap_on_literals
 page_asks a b wa wb =
-    let runs : Runs (leaf 11) (walk_from nothing_held) (a ∷ b ∷ [])
+    let runs : Runs (leaf 12) (walk_from nothing_held) (a ∷ b ∷ [])
     (end_at (text_row (codes "scenario") a ∷ []) (codes "history") b 3) =
-    word_steps (leaf 11) _ _ _ a _ _ wa refl (word_steps (leaf 11) _ _ _ b _ _ wb refl (ends (leaf 11) _)) in
+    word_steps (leaf 12) _ _ _ a _ _ wa refl (word_steps (leaf 12) _ _ _ b _ _ wb refl (ends (leaf 12) _)) in
     record {
-      taken = ap is_taken_if (level_taken (leaf 11) _ _ runs refl);
-      wanted = ap (asked_at 11 (codes "page")) runs.walked_to;
+      taken = ap is_taken_if (level_taken (leaf 12) _ _ runs refl);
+      wanted = ap (asked_at 12 (codes "page")) runs.walked_to;
     }
 
 -- ---- picture
@@ -210,25 +223,25 @@ page_asks a b wa wb =
 picture_asks : (a b : Text) → IsWord a → IsWord b → Asks (codes "picture" ∷ a ∷ b ∷ []) (picture a b None None None)
 unfolding clap_on_literals
 picture_asks a b wa wb =
-    let runs : Runs (leaf 12) (walk_from nothing_held) (a ∷ b ∷ [])
+    let runs : Runs (leaf 13) (walk_from nothing_held) (a ∷ b ∷ [])
     (end_at (text_row (codes "scenario") a ∷ []) (codes "history") b 3) =
-    word_steps (leaf 12) _ _ _ a _ _ wa refl (word_steps (leaf 12) _ _ _ b _ _ wb refl (ends (leaf 12) _)) in
+    word_steps (leaf 13) _ _ _ a _ _ wa refl (word_steps (leaf 13) _ _ _ b _ _ wb refl (ends (leaf 13) _)) in
     record {
-      taken = ap is_taken_if (level_taken (leaf 12) _ _ runs refl);
-      wanted = ap (asked_at 12 (codes "picture")) runs.walked_to;
+      taken = ap is_taken_if (level_taken (leaf 13) _ _ runs refl);
+      wanted = ap (asked_at 13 (codes "picture")) runs.walked_to;
     }
 
 picture_from : (a b c : Text) (nc : ℕ) → IsWord a → IsWord b → IsWord c → is_unsigned_in 0 4294967295 c ≡ true →
     number_in c ≡ Some nc → Asks (codes "picture" ∷ a ∷ b ∷ c ∷ []) (picture a b (Some nc) None None)
 unfolding clap_on_literals
 picture_from a b c nc wa wb wc ec hc =
-    let runs : Runs (leaf 12) (walk_from nothing_held) (a ∷ b ∷ c ∷ [])
+    let runs : Runs (leaf 13) (walk_from nothing_held) (a ∷ b ∷ c ∷ [])
     (end_at (text_row (codes "scenario") a ∷ text_row (codes "history") b ∷ []) (codes "first") c 4) =
-    word_steps (leaf 12) _ _ _ a _ _ wa refl (word_steps (leaf 12) _ _ _ b _ _ wb refl
-    (word_steps (leaf 12) _ _ _ c _ _ wc refl (ends (leaf 12) _))) in
+    word_steps (leaf 13) _ _ _ a _ _ wa refl (word_steps (leaf 13) _ _ _ b _ _ wb refl
+    (word_steps (leaf 13) _ _ _ c _ _ wc refl (ends (leaf 13) _))) in
     record {
-      taken = ap is_taken_if (level_taken (leaf 12) _ _ runs (rw ec refl));
-      wanted = ap (asked_at 12 (codes "picture")) runs.walked_to ∙ rw hc refl;
+      taken = ap is_taken_if (level_taken (leaf 13) _ _ runs (rw ec refl));
+      wanted = ap (asked_at 13 (codes "picture")) runs.walked_to ∙ rw hc refl;
     }
 
 picture_between : (a b c d : Text) (nc nd : ℕ) → IsWord a → IsWord b → IsWord c → IsWord d →
@@ -236,14 +249,14 @@ picture_between : (a b c d : Text) (nc nd : ℕ) → IsWord a → IsWord b → I
     number_in d ≡ Some nd → Asks (codes "picture" ∷ a ∷ b ∷ c ∷ d ∷ []) (picture a b (Some nc) (Some nd) None)
 unfolding clap_on_literals
 picture_between a b c d nc nd wa wb wc wd ec ed hc hd =
-    let runs : Runs (leaf 12) (walk_from nothing_held) (a ∷ b ∷ c ∷ d ∷ [])
+    let runs : Runs (leaf 13) (walk_from nothing_held) (a ∷ b ∷ c ∷ d ∷ [])
     (end_at (text_row (codes "scenario") a ∷ text_row (codes "history") b ∷
     text_row (codes "first") c ∷ []) (codes "last") d 5) =
-    word_steps (leaf 12) _ _ _ a _ _ wa refl (word_steps (leaf 12) _ _ _ b _ _ wb refl
-    (word_steps (leaf 12) _ _ _ c _ _ wc refl (word_steps (leaf 12) _ _ _ d _ _ wd (rw ec refl) (ends (leaf 12) _)))) in
+    word_steps (leaf 13) _ _ _ a _ _ wa refl (word_steps (leaf 13) _ _ _ b _ _ wb refl
+    (word_steps (leaf 13) _ _ _ c _ _ wc refl (word_steps (leaf 13) _ _ _ d _ _ wd (rw ec refl) (ends (leaf 13) _)))) in
     record {
-      taken = ap is_taken_if (level_taken (leaf 12) _ _ runs (rw ed refl));
-      wanted = ap (asked_at 12 (codes "picture")) runs.walked_to ∙ rw (hc, hd) refl;
+      taken = ap is_taken_if (level_taken (leaf 13) _ _ runs (rw ed refl));
+      wanted = ap (asked_at 13 (codes "picture")) runs.walked_to ∙ rw (hc, hd) refl;
     }
 
 picture_wide : (a b w : Text) (nw : ℕ) → IsWord a → IsWord b → IsWord w → is_unsigned_in 600 4000 w ≡ true →
@@ -251,14 +264,14 @@ picture_wide : (a b w : Text) (nw : ℕ) → IsWord a → IsWord b → IsWord w 
     → Asks (codes "picture" ∷ a ∷ b ∷ codes "--width" ∷ w ∷ []) (picture a b None None (Some nw))
 unfolding clap_on_literals
 picture_wide a b w nw wa wb ww ew hw =
-    let runs : Runs (leaf 12) (walk_from nothing_held) (a ∷ b ∷ codes "--width" ∷ w ∷ [])
+    let runs : Runs (leaf 13) (walk_from nothing_held) (a ∷ b ∷ codes "--width" ∷ w ∷ [])
     (end_at (text_row (codes "scenario") a ∷ text_row (codes "history") b ∷ []) (codes "width") w 3) =
-    word_steps (leaf 12) _ _ _ a _ _ wa refl (word_steps (leaf 12) _ _ _ b _ _ wb refl
-    (steps (leaf 12) _ _ (codes "--width") _ _ refl refl
-    (word_steps (leaf 12) _ _ _ w _ _ ww refl (ends (leaf 12) _)))) in
+    word_steps (leaf 13) _ _ _ a _ _ wa refl (word_steps (leaf 13) _ _ _ b _ _ wb refl
+    (steps (leaf 13) _ _ (codes "--width") _ _ refl refl
+    (word_steps (leaf 13) _ _ _ w _ _ ww refl (ends (leaf 13) _)))) in
     record {
-      taken = ap is_taken_if (level_taken (leaf 12) _ _ runs (rw ew refl));
-      wanted = ap (asked_at 12 (codes "picture")) runs.walked_to ∙ rw hw refl;
+      taken = ap is_taken_if (level_taken (leaf 13) _ _ runs (rw ew refl));
+      wanted = ap (asked_at 13 (codes "picture")) runs.walked_to ∙ rw hw refl;
     }
 
 picture_from_wide : (a b c w : Text) (nc nw : ℕ) → IsWord a → IsWord b → IsWord c → IsWord w →
@@ -267,15 +280,15 @@ picture_from_wide : (a b c w : Text) (nc nw : ℕ) → IsWord a → IsWord b →
     → Asks (codes "picture" ∷ a ∷ b ∷ c ∷ codes "--width" ∷ w ∷ []) (picture a b (Some nc) None (Some nw))
 unfolding clap_on_literals
 picture_from_wide a b c w nc nw wa wb wc ww ec ew hc hw =
-    let runs : Runs (leaf 12) (walk_from nothing_held) (a ∷ b ∷ c ∷ codes "--width" ∷ w ∷ [])
+    let runs : Runs (leaf 13) (walk_from nothing_held) (a ∷ b ∷ c ∷ codes "--width" ∷ w ∷ [])
     (end_at (text_row (codes "scenario") a ∷ text_row (codes "history") b ∷
     text_row (codes "first") c ∷ []) (codes "width") w 4) =
-    word_steps (leaf 12) _ _ _ a _ _ wa refl (word_steps (leaf 12) _ _ _ b _ _ wb refl
-    (word_steps (leaf 12) _ _ _ c _ _ wc refl (steps (leaf 12) _ _ (codes "--width") _ _ (rw ec refl) refl
-    (word_steps (leaf 12) _ _ _ w _ _ ww refl (ends (leaf 12) _))))) in
+    word_steps (leaf 13) _ _ _ a _ _ wa refl (word_steps (leaf 13) _ _ _ b _ _ wb refl
+    (word_steps (leaf 13) _ _ _ c _ _ wc refl (steps (leaf 13) _ _ (codes "--width") _ _ (rw ec refl) refl
+    (word_steps (leaf 13) _ _ _ w _ _ ww refl (ends (leaf 13) _))))) in
     record {
-      taken = ap is_taken_if (level_taken (leaf 12) _ _ runs (rw ew refl));
-      wanted = ap (asked_at 12 (codes "picture")) runs.walked_to ∙ rw (hc, hw) refl;
+      taken = ap is_taken_if (level_taken (leaf 13) _ _ runs (rw ew refl));
+      wanted = ap (asked_at 13 (codes "picture")) runs.walked_to ∙ rw (hc, hw) refl;
     }
 
 picture_between_wide : (a b c d w : Text) (nc nd nw : ℕ) → IsWord a → IsWord b → IsWord c → IsWord d → IsWord w →
@@ -284,16 +297,16 @@ picture_between_wide : (a b c d w : Text) (nc nd nw : ℕ) → IsWord a → IsWo
     Asks (codes "picture" ∷ a ∷ b ∷ c ∷ d ∷ codes "--width" ∷ w ∷ []) (picture a b (Some nc) (Some nd) (Some nw))
 unfolding clap_on_literals
 picture_between_wide a b c d w nc nd nw wa wb wc wd ww ec ed ew hc hd hw =
-    let runs : Runs (leaf 12) (walk_from nothing_held) (a ∷ b ∷ c ∷ d ∷ codes "--width" ∷ w ∷ [])
+    let runs : Runs (leaf 13) (walk_from nothing_held) (a ∷ b ∷ c ∷ d ∷ codes "--width" ∷ w ∷ [])
     (end_at (text_row (codes "scenario") a ∷ text_row (codes "history") b ∷
     text_row (codes "first") c ∷ text_row (codes "last") d ∷ []) (codes "width") w 5) =
-    word_steps (leaf 12) _ _ _ a _ _ wa refl (word_steps (leaf 12) _ _ _ b _ _ wb refl
-    (word_steps (leaf 12) _ _ _ c _ _ wc refl (word_steps (leaf 12) _ _ _ d _ _ wd (rw ec refl)
-    (steps (leaf 12) _ _ (codes "--width") _ _ (rw ed refl) refl
-    (word_steps (leaf 12) _ _ _ w _ _ ww refl (ends (leaf 12) _)))))) in
+    word_steps (leaf 13) _ _ _ a _ _ wa refl (word_steps (leaf 13) _ _ _ b _ _ wb refl
+    (word_steps (leaf 13) _ _ _ c _ _ wc refl (word_steps (leaf 13) _ _ _ d _ _ wd (rw ec refl)
+    (steps (leaf 13) _ _ (codes "--width") _ _ (rw ed refl) refl
+    (word_steps (leaf 13) _ _ _ w _ _ ww refl (ends (leaf 13) _)))))) in
     record {
-      taken = ap is_taken_if (level_taken (leaf 12) _ _ runs (rw ew refl));
-      wanted = ap (asked_at 12 (codes "picture")) runs.walked_to ∙ rw (hc, hd, hw) refl;
+      taken = ap is_taken_if (level_taken (leaf 13) _ _ runs (rw ew refl));
+      wanted = ap (asked_at 13 (codes "picture")) runs.walked_to ∙ rw (hc, hd, hw) refl;
     }
 
 picture_plain : (scenario history : Text) (first last width : Option ℕ) → IsWord scenario → IsWord history →
@@ -326,13 +339,13 @@ plot_asks : (a b c : Text) (nc : ℕ) → IsWord a → IsWord b → IsWord c →
     number_in c ≡ Some nc → Asks (codes "plot" ∷ a ∷ b ∷ c ∷ []) (plot a b nc None)
 unfolding clap_on_literals
 plot_asks a b c nc wa wb wc ec hc =
-    let runs : Runs (leaf 13) (walk_from nothing_held) (a ∷ b ∷ c ∷ [])
+    let runs : Runs (leaf 14) (walk_from nothing_held) (a ∷ b ∷ c ∷ [])
     (end_at (text_row (codes "scenario") a ∷ text_row (codes "history") b ∷ []) (codes "point") c 4) =
-    word_steps (leaf 13) _ _ _ a _ _ wa refl (word_steps (leaf 13) _ _ _ b _ _ wb refl
-    (word_steps (leaf 13) _ _ _ c _ _ wc refl (ends (leaf 13) _))) in
+    word_steps (leaf 14) _ _ _ a _ _ wa refl (word_steps (leaf 14) _ _ _ b _ _ wb refl
+    (word_steps (leaf 14) _ _ _ c _ _ wc refl (ends (leaf 14) _))) in
     record {
-      taken = ap is_taken_if (level_taken (leaf 13) _ _ runs (rw ec refl));
-      wanted = ap (asked_at 13 (codes "plot")) runs.walked_to ∙ rw hc refl;
+      taken = ap is_taken_if (level_taken (leaf 14) _ _ runs (rw ec refl));
+      wanted = ap (asked_at 14 (codes "plot")) runs.walked_to ∙ rw hc refl;
     }
 
 plot_wide : (a b c w : Text) (nc nw : ℕ) → IsWord a → IsWord b → IsWord c → IsWord w →
@@ -340,15 +353,15 @@ plot_wide : (a b c w : Text) (nc nw : ℕ) → IsWord a → IsWord b → IsWord 
     number_in w ≡ Some nw → Asks (codes "plot" ∷ a ∷ b ∷ c ∷ codes "--width" ∷ w ∷ []) (plot a b nc (Some nw))
 unfolding clap_on_literals
 plot_wide a b c w nc nw wa wb wc ww ec ew hc hw =
-    let runs : Runs (leaf 13) (walk_from nothing_held) (a ∷ b ∷ c ∷ codes "--width" ∷ w ∷ [])
+    let runs : Runs (leaf 14) (walk_from nothing_held) (a ∷ b ∷ c ∷ codes "--width" ∷ w ∷ [])
     (end_at (text_row (codes "scenario") a ∷ text_row (codes "history") b ∷
     text_row (codes "point") c ∷ []) (codes "width") w 4) =
-    word_steps (leaf 13) _ _ _ a _ _ wa refl (word_steps (leaf 13) _ _ _ b _ _ wb refl
-    (word_steps (leaf 13) _ _ _ c _ _ wc refl (steps (leaf 13) _ _ (codes "--width") _ _ (rw ec refl) refl
-    (word_steps (leaf 13) _ _ _ w _ _ ww refl (ends (leaf 13) _))))) in
+    word_steps (leaf 14) _ _ _ a _ _ wa refl (word_steps (leaf 14) _ _ _ b _ _ wb refl
+    (word_steps (leaf 14) _ _ _ c _ _ wc refl (steps (leaf 14) _ _ (codes "--width") _ _ (rw ec refl) refl
+    (word_steps (leaf 14) _ _ _ w _ _ ww refl (ends (leaf 14) _))))) in
     record {
-      taken = ap is_taken_if (level_taken (leaf 13) _ _ runs (rw ew refl));
-      wanted = ap (asked_at 13 (codes "plot")) runs.walked_to ∙ rw (hc, hw) refl;
+      taken = ap is_taken_if (level_taken (leaf 14) _ _ runs (rw ew refl));
+      wanted = ap (asked_at 14 (codes "plot")) runs.walked_to ∙ rw (hc, hw) refl;
     }
 
 plot_plain : (scenario history : Text) (point : ℕ) (width : Option ℕ) → IsWord scenario → IsWord history →
@@ -366,26 +379,26 @@ plot_plain s h p (Some w) ws wh whole wide =
 chart_asks : (a b : Text) → IsWord a → IsWord b → Asks (codes "chart" ∷ a ∷ b ∷ []) (chart a b None)
 unfolding clap_on_literals
 chart_asks a b wa wb =
-    let runs : Runs (leaf 14) (walk_from nothing_held) (a ∷ b ∷ [])
+    let runs : Runs (leaf 15) (walk_from nothing_held) (a ∷ b ∷ [])
     (end_at (text_row (codes "scenario") a ∷ []) (codes "history") b 3) =
-    word_steps (leaf 14) _ _ _ a _ _ wa refl (word_steps (leaf 14) _ _ _ b _ _ wb refl (ends (leaf 14) _)) in
+    word_steps (leaf 15) _ _ _ a _ _ wa refl (word_steps (leaf 15) _ _ _ b _ _ wb refl (ends (leaf 15) _)) in
     record {
-      taken = ap is_taken_if (level_taken (leaf 14) _ _ runs refl);
-      wanted = ap (asked_at 14 (codes "chart")) runs.walked_to;
+      taken = ap is_taken_if (level_taken (leaf 15) _ _ runs refl);
+      wanted = ap (asked_at 15 (codes "chart")) runs.walked_to;
     }
 
 chart_wide : (a b w : Text) (nw : ℕ) → IsWord a → IsWord b → IsWord w → is_unsigned_in 600 4000 w ≡ true →
     number_in w ≡ Some nw → Asks (codes "chart" ∷ a ∷ b ∷ codes "--width" ∷ w ∷ []) (chart a b (Some nw))
 unfolding clap_on_literals
 chart_wide a b w nw wa wb ww ew hw =
-    let runs : Runs (leaf 14) (walk_from nothing_held) (a ∷ b ∷ codes "--width" ∷ w ∷ [])
+    let runs : Runs (leaf 15) (walk_from nothing_held) (a ∷ b ∷ codes "--width" ∷ w ∷ [])
     (end_at (text_row (codes "scenario") a ∷ text_row (codes "history") b ∷ []) (codes "width") w 3) =
-    word_steps (leaf 14) _ _ _ a _ _ wa refl (word_steps (leaf 14) _ _ _ b _ _ wb refl
-    (steps (leaf 14) _ _ (codes "--width") _ _ refl refl
-    (word_steps (leaf 14) _ _ _ w _ _ ww refl (ends (leaf 14) _)))) in
+    word_steps (leaf 15) _ _ _ a _ _ wa refl (word_steps (leaf 15) _ _ _ b _ _ wb refl
+    (steps (leaf 15) _ _ (codes "--width") _ _ refl refl
+    (word_steps (leaf 15) _ _ _ w _ _ ww refl (ends (leaf 15) _)))) in
     record {
-      taken = ap is_taken_if (level_taken (leaf 14) _ _ runs (rw ew refl));
-      wanted = ap (asked_at 14 (codes "chart")) runs.walked_to ∙ rw hw refl;
+      taken = ap is_taken_if (level_taken (leaf 15) _ _ runs (rw ew refl));
+      wanted = ap (asked_at 15 (codes "chart")) runs.walked_to ∙ rw hw refl;
     }
 
 chart_plain : (scenario history : Text) (width : Option ℕ) → IsWord scenario → IsWord history → IsWidth width
@@ -410,11 +423,11 @@ name_others : (k : Text) (keeps : List Text) → All IsName (k ∷ keeps) → Al
 name_others k keeps names = λ i d within. names (suc i) d (omega (arith, within))
 
 more_keeps : (a : Text) (so_far keeps : List Text) → All IsName keeps
-    → Runs (leaf 15) (among_keeps a so_far) keeps (among_keeps a (so_far ++ keeps))
+    → Runs (leaf 16) (among_keeps a so_far) keeps (among_keeps a (so_far ++ keeps))
 unfolding clap_on_literals
-more_keeps a so_far [] names = rw (append-nil so_far) (ends (leaf 15) _)
+more_keeps a so_far [] names = rw (append-nil so_far) (ends (leaf 16) _)
 more_keeps a so_far (k ∷ keeps) names =
-    word_steps (leaf 15) _ _ _ k _ _ (name_is_word k (name_first k keeps names)) refl
+    word_steps (leaf 16) _ _ _ k _ _ (name_is_word k (name_first k keeps names)) refl
     (rw (← append_assoc so_far (k ∷ []) keeps)
     (more_keeps a (so_far ++ k ∷ []) keeps (name_others k keeps names)))
 
@@ -434,13 +447,13 @@ merge_asks : (a k : Text) (keeps : List Text) → IsWord a → IsWord k → All 
     → length (k ∷ keeps) ≤ 26 → Asks (codes "merge" ∷ a ∷ k ∷ keeps) (merge a (k ∷ keeps))
 unfolding clap_on_literals
 merge_asks a k keeps wa wk names few =
-    let runs : Runs (leaf 15) (walk_from nothing_held) (a ∷ k ∷ keeps) (among_keeps a (k ∷ keeps)) =
-    word_steps (leaf 15) _ _ _ a _ _ wa refl (word_steps (leaf 15) _ _ _ k _ _ wk refl
+    let runs : Runs (leaf 16) (walk_from nothing_held) (a ∷ k ∷ keeps) (among_keeps a (k ∷ keeps)) =
+    word_steps (leaf 16) _ _ _ a _ _ wa refl (word_steps (leaf 16) _ _ _ k _ _ wk refl
     (more_keeps a (k ∷ []) keeps names)) in
     record {
-      taken = merge_taken a k keeps ∙ ap is_taken_if (level_taken (leaf 15) _ _ runs
+      taken = merge_taken a k keeps ∙ ap is_taken_if (level_taken (leaf 16) _ _ runs
           (rw (few_keeps (length (k ∷ keeps)) (omega arith) few, texts_pass false (k ∷ keeps)) refl));
-      wanted = merge_found a k keeps ∙ ap (asked_at 15 (codes "merge")) runs.walked_to;
+      wanted = merge_found a k keeps ∙ ap (asked_at 16 (codes "merge")) runs.walked_to;
     }
 
 merge_plain : (scenario : Text) (keeps : List Text) → IsName scenario → All IsName keeps → 1 ≤ length keeps
@@ -466,6 +479,7 @@ plain (replay scenario history) h = replay_asks scenario history (name_is_word s
 plain (make number) h = make_asks (decimal number) number (whole_is_word number h) (whole_is_in number h)
     (whole_reads number h)
 plain (keys scenario) h = keys_asks scenario (name_is_word scenario h)
+plain (key scenario actor) h = key_asks scenario actor (name_is_word scenario h.0) (name_is_word actor h.1)
 plain (verify public message signature) h = verify_asks public message signature (name_is_word public h.0)
     (name_is_word message h.1) (name_is_word signature h.2)
 plain (parts scenario history originator number) h = parts_asks scenario history (decimal originator)

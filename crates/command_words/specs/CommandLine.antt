@@ -1,4 +1,4 @@
--- The command line as `clap` is to have it: sixteen subcommands, each with required words, numbers of a
+-- The command line as `clap` is to have it: seventeen subcommands, each with required words, numbers of a
 -- range among them; pictures have numbers that may be left out, and `merge` takes one to 26 files.
 -- It is this project's own. How `clap` reads words for it is the kit's definition (`fault_of`, `subcommand_of`).
 use Rattle.std.specs.Prelude.{◌≡◌, ℕ, true, false, List, [], ◌∷◌, Some, codes}
@@ -58,6 +58,9 @@ make_shape = command (codes "make") (whole_rule (codes "number") ∷ [])
 abbrev pub keys_shape : Shape
 keys_shape = command (codes "keys") (text_rule (codes "scenario") ∷ [])
 
+abbrev pub key_shape : Shape
+key_shape = command (codes "key") (text_rule (codes "scenario") ∷ text_rule (codes "actor") ∷ [])
+
 abbrev pub verify_shape : Shape
 verify_shape = command (codes "verify")
     (text_rule (codes "public") ∷ text_rule (codes "message") ∷ text_rule (codes "signature") ∷ [])
@@ -109,9 +112,9 @@ top_shape = record (new_shape (codes "spire")) {
 abbrev pub spire_app : App
 spire_app = record {
   top = top_shape;
-  subs = play_shape ∷ run_shape ∷ replay_shape ∷ make_shape ∷ keys_shape ∷ verify_shape ∷ parts_shape ∷ rebuild_shape
-      ∷ blame_shape ∷ trend_shape ∷ delays_shape ∷ page_shape ∷ picture_shape ∷ plot_shape ∷ chart_shape
-      ∷ merge_shape ∷ [];
+  subs = play_shape ∷ run_shape ∷ replay_shape ∷ make_shape ∷ keys_shape ∷ key_shape ∷ verify_shape ∷ parts_shape
+      ∷ rebuild_shape ∷ blame_shape ∷ trend_shape ∷ delays_shape ∷ page_shape ∷ picture_shape ∷ plot_shape
+      ∷ chart_shape ∷ merge_shape ∷ [];
 }
 
 -- the command has this shape, no subcommand and no global argument

@@ -18,6 +18,7 @@ pub data Wanted : Type 0 where
   replay : Text → Text → Wanted
   make : ℕ → Wanted
   keys : Text → Wanted
+  key : Text → Text → Wanted
   verify : Text → Text → Text → Wanted
   parts : Text → Text → ℕ → ℕ → Wanted
   rebuild : Text → Text → Wanted
@@ -38,6 +39,7 @@ wanted (asked.Run scenario script words hands turns) = run scenario.now script.n
 wanted (asked.Replay scenario history) = replay scenario.now history.now
 wanted (asked.Make number) = make number
 wanted (asked.Keys scenario) = keys scenario.now
+wanted (asked.Key scenario actor) = key scenario.now actor.now
 wanted (asked.Verify public message signature) = verify public.now message.now signature.now
 wanted (asked.Parts scenario history originator number) = parts scenario.now history.now originator number
 wanted (asked.Rebuild scenario pieces) = rebuild scenario.now pieces.now
@@ -94,6 +96,10 @@ make_in rows = with_number (codes "number") rows (λ number. Some (make number))
 
 abbrev pub keys_in : List Row → Option Wanted
 keys_in rows = with_text (codes "scenario") rows (λ scenario. Some (keys scenario))
+
+abbrev pub key_in : List Row → Option Wanted
+key_in rows = with_text (codes "scenario") rows (λ scenario.
+    with_text (codes "actor") rows (λ actor. Some (key scenario actor)))
 
 abbrev pub verify_in : List Row → Option Wanted
 verify_in rows = with_text (codes "public") rows (λ public.
@@ -154,6 +160,7 @@ command_in name rows = if bytes_eq name (codes "play") then play_in rows
     else (if bytes_eq name (codes "replay") then replay_in rows
     else (if bytes_eq name (codes "make") then make_in rows
     else (if bytes_eq name (codes "keys") then keys_in rows
+    else (if bytes_eq name (codes "key") then key_in rows
     else (if bytes_eq name (codes "verify") then verify_in rows
     else (if bytes_eq name (codes "parts") then parts_in rows
     else (if bytes_eq name (codes "rebuild") then rebuild_in rows
@@ -164,7 +171,7 @@ command_in name rows = if bytes_eq name (codes "play") then play_in rows
     else (if bytes_eq name (codes "picture") then picture_in rows
     else (if bytes_eq name (codes "plot") then plot_in rows
     else (if bytes_eq name (codes "chart") then chart_in rows
-    else (if bytes_eq name (codes "merge") then merge_in rows else None)))))))))))))))
+    else (if bytes_eq name (codes "merge") then merge_in rows else None))))))))))))))))
 
 -- the command that `clap` found, by its name and its rows
 abbrev pub asked_in : Option (Text × List Row) → Option Wanted
@@ -192,6 +199,7 @@ words_of (run scenario script words hands turns) = codes "run" ∷ scenario ∷ 
 words_of (replay scenario history) = codes "replay" ∷ scenario ∷ history ∷ []
 words_of (make number) = codes "make" ∷ decimal number ∷ []
 words_of (keys scenario) = codes "keys" ∷ scenario ∷ []
+words_of (key scenario actor) = codes "key" ∷ scenario ∷ actor ∷ []
 words_of (verify public message signature) = codes "verify" ∷ public ∷ message ∷ signature ∷ []
 words_of (parts scenario history originator number) =
     codes "parts" ∷ scenario ∷ history ∷ decimal originator ∷ decimal number ∷ []
@@ -234,6 +242,7 @@ IsPlain (run scenario script words hands turns) = IsName scenario × IsName scri
 IsPlain (replay scenario history) = IsName scenario × IsName history
 IsPlain (make number) = IsWhole number
 IsPlain (keys scenario) = IsName scenario
+IsPlain (key scenario actor) = IsName scenario × IsName actor
 IsPlain (verify public message signature) = IsName public × IsName message × IsName signature
 IsPlain (parts scenario history originator number) =
     IsName scenario × IsName history × IsWhole originator × IsWhole number

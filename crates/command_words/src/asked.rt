@@ -2,7 +2,7 @@
 ghost use Rattle.std.specs.Prelude.{◌≡◌, IfOk, map, option_map};
 ghost use Rattle.clap.specs.Words.{all_of, first_of, found_of, rows_of, subcommand_rows_of};
 ghost use Rattle.command_words.specs.Wanted.{asked_in, number_of, wanted};
-ghost use Rattle.command_words.specs.Wanted.{play_in, run_in, replay_in, make_in, keys_in};
+ghost use Rattle.command_words.specs.Wanted.{play_in, run_in, replay_in, make_in, keys_in, key_in};
 ghost use Rattle.command_words.specs.Wanted.{verify_in, parts_in, rebuild_in, blame_in, trend_in, delays_in, page_in};
 ghost use Rattle.command_words.specs.Wanted.{picture_in, plot_in, chart_in, merge_in};
 
@@ -38,6 +38,11 @@ pub enum Asked<'a> {
     /// Print the public keys of a scenario.
     Keys {
         scenario: &'a str,
+    },
+    /// Print what an actor's own key is made of.
+    Key {
+        scenario: &'a str,
+        actor: &'a str,
     },
     /// Verify a signature of a message.
     Verify {
@@ -180,6 +185,15 @@ fn keys<'a>(found: &ArgMatches<'a>) -> Option<Asked<'a>>
     })
 }
 
+fn key<'a>(found: &ArgMatches<'a>) -> Option<Asked<'a>>
+    ensures { option_map wanted result ≡ key_in (rows_of (found_of found.now)) }
+{
+    Some(Asked::Key {
+        scenario: text(found, "scenario")?,
+        actor: text(found, "actor")?,
+    })
+}
+
 fn verify<'a>(found: &ArgMatches<'a>) -> Option<Asked<'a>>
     ensures { option_map wanted result ≡ verify_in (rows_of (found_of found.now)) }
 {
@@ -310,6 +324,7 @@ pub fn asked_of<'a>(
         "replay" => Ok(replay(found)),
         "make" => Ok(make(found)),
         "keys" => Ok(keys(found)),
+        "key" => Ok(key(found)),
         "verify" => Ok(verify(found)),
         "parts" => Ok(parts(found)),
         "rebuild" => Ok(rebuild(found)),

@@ -2,7 +2,7 @@
 ghost use Rattle.std.specs.Prelude.{◌≡◌, ◌∷◌, [], IfOk, codes, false, true};
 ghost use Rattle.clap.specs.Words.{App, Shape, app_of, rule_of, with_subcommand};
 ghost use Rattle.command_words.specs.CommandLine.{IsCommand, command, free_rule, number_rule, option_rule, spire_app, text_rule, top_shape, width_rule};
-ghost use Rattle.command_words.specs.CommandLine.{play_shape, run_shape, replay_shape, make_shape, keys_shape};
+ghost use Rattle.command_words.specs.CommandLine.{play_shape, run_shape, replay_shape, make_shape, keys_shape, key_shape};
 ghost use Rattle.command_words.specs.CommandLine.{verify_shape, parts_shape, rebuild_shape, blame_shape, trend_shape, delays_shape, page_shape};
 ghost use Rattle.command_words.specs.CommandLine.{keeps_rule, picture_shape, plot_shape, chart_shape, merge_shape};
 
@@ -122,6 +122,14 @@ fn keys<'a>(alloc: Global) -> Result<Command<'a>, AllocError>
     ensures { IfOk result (IsCommand keys_shape) }
 {
     Command::new(alloc, "keys").arg(text(alloc, "scenario"))
+}
+
+fn key<'a>(alloc: Global) -> Result<Command<'a>, AllocError>
+    ensures { IfOk result (IsCommand key_shape) }
+{
+    Command::new(alloc, "key")
+        .arg(text(alloc, "scenario"))?
+        .arg(text(alloc, "actor"))
 }
 
 fn verify<'a>(alloc: Global) -> Result<Command<'a>, AllocError>
@@ -259,6 +267,7 @@ pub fn command_line<'a>(alloc: Global) -> Result<Command<'a>, AllocError>
     let commands = joined(commands, replay(alloc));
     let commands = joined(commands, make(alloc));
     let commands = joined(commands, keys(alloc));
+    let commands = joined(commands, key(alloc));
     let commands = joined(commands, verify(alloc));
     let commands = joined(commands, parts(alloc));
     let commands = joined(commands, rebuild(alloc));

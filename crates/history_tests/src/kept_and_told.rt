@@ -38,7 +38,7 @@ fn life_of(
     let mut file = MemoryFile::make(alloc, kept, Vec::from_slice(alloc, failing)?, 5);
     let mut sink = MemorySink::make(alloc, Vec::from_slice(alloc, failing_puts)?);
     let mut lines = ReadLines::make(alloc, input)?;
-    let mut station = begin(alloc, &scenario, actor, &mut file)?;
+    let mut station = begin(alloc, &scenario, None, actor, &mut file)?;
     let answer = live(&mut station, &mut lines, &mut file, &mut sink);
     Ok(Lived {
         answer,

@@ -15,7 +15,7 @@ use Rattle.history_rules.specs.Legal.{TakesWell, IsLegal, says}
 use Rattle.world_rules.specs.Scenarios.{setup_of}
 use Rattle.printed_history.specs.declared.reading.SoFar.{SoFar}
 use Rattle.printed_history.specs.Histories.{entry_with, is_running}
-use Rattle.printed_history.specs.Reading.{HasMore, IsSoFar, contents_in, world_in}
+use Rattle.printed_history.specs.Reading.{HasMore, IsBegun, contents_in, world_in}
 use Rattle.joint_lists.specs.Plain.{plain}
 use Rattle.joint_lists.specs.Joint.{AreStations, IsJoint, count, kept_by}
 use Rattle.joint_lists.specs.Joining.{left, placed}
@@ -30,21 +30,21 @@ use Rattle.joined_histories.specs.Amid.{IsAmid}
 -- ---- Before the first entry, and behind the last.
 
 pub at_first : (c : Contents) (lists : List (List Entry)) (next : List ℕ) (r : SoFar) → AreStations c lists →
-    count lists < 2 ^ 32 → IsSoFar r → contents_in r ≡ c → r.history ≡ [] → next ≡ replicate (length lists) 0 →
-    IsAmid c lists next r
-at_first c lists next r are few is same none zeros =
-    let empty : length r.history ≡ 0 = ap length none in
+    count lists < 2 ^ 32 → IsBegun c None r → next ≡ replicate (length lists) 0 → IsAmid c lists next r
+at_first c lists next r are few begun zeros =
+    let empty : length r.history ≡ 0 = ap length begun.none in
     let all : left lists next ≡ count lists = ap (left lists) zeros ∙ left_first lists in
     record {
-      is_so_far = is;
-      same = same;
+      is_so_far = begun.is_so_far;
+      same = begun.same;
+      all = begun.at_hand;
       stations = are;
-      joined = none_joined lists next r.history none
+      joined = none_joined lists next r.history begun.none
           (ap length zeros ∙ length-replicate (length lists) 0)
           (λ actor. ap (λ ns. get_or ns actor 0) zeros ∙ none_next (length lists) actor);
       few = omega (arith, empty, all);
       short = few;
-      ordered = none_ordered (setup_of c) lists r.history none;
+      ordered = none_ordered (setup_of c) lists r.history begun.none;
     }
 
 none_more : (lists : List (List Entry)) (next : List ℕ) (actor : ℕ) → length next ≡ length lists →
@@ -151,6 +151,7 @@ module _ (c : Contents) (lists : List (List Entry)) (next : List ℕ) (r : SoFar
       record {
         is_so_far = has.is_so_far;
         same = has.same ∙ amid.same;
+        all = has.at_hand ∙ amid.all;
         stations = amid.stations;
         joined = joined_more lists next more r.history new.history actor (get_or next actor 0) made x amid.joined
             comes.has.within refl comes.has.some comes.found grown has.longer refl same_plain;

@@ -4,6 +4,7 @@ ghost use Rattle.std.specs.List.{All};
 ghost use Rattle.scenario_file.specs.Reading.{contents};
 ghost use Rattle.scenario_file.specs.Valid.{IsScenario};
 ghost use Rattle.script_grammar.specs.Names.{who_of};
+ghost use Rattle.world_rules.specs.Scenarios.{actors_in};
 ghost use Rattle.run_lines.specs.Runs.{pieces};
 ghost use Rattle.kept_lines.specs.Reading.{Reads, entry_part, fault_at};
 ghost use Rattle.joined_histories.specs.Files.{AddsFile, AreKept, IsShort, KeepsStations, ReadsFiles, bytes_in, files_in, given_of, owner_by, there, with_file, with_list, with_more};
@@ -128,6 +129,7 @@ fn add_list(
 ) -> Result<(), JoinRefusal>
     requires scenario { IsScenario (contents scenario.now) }
     requires short { IsShort bytes.now }
+    requires all { length kept.old.lists.items ≡ actors_in (contents scenario.now) }
     requires alike { length kept.old.lists.items ≡ length kept.old.gave.items }
     ensures adds { AddsFile (with_more (contents scenario.now) (given_of kept.old) file actor bytes.now (slice_get kept.old.gave.items actor)) result kept.new }
     ensures keeps { OnOk result (KeepsStations (contents scenario.now) (length bytes.now) kept.old kept.new) }
@@ -138,7 +140,8 @@ fn add_list(
     if gave {
         return Err(JoinRefusal::Twice { file });
     }
-    match reopen(alloc, scenario, actor, bytes) {
+    let begun = SoFar::begin_one(alloc, scenario, actor)?;
+    match reopen(alloc, begun, actor, bytes) {
         Ok(so_far) => {
             kept.put(actor as usize, list_of(so_far));
             Ok(())
@@ -159,6 +162,7 @@ fn add_file(
     requires scenario { IsScenario (contents scenario.now) }
     requires company { company.now ≡ who_of (contents scenario.now) }
     requires short { IsShort bytes.now }
+    requires all { length kept.old.lists.items ≡ actors_in (contents scenario.now) }
     requires alike { length kept.old.lists.items ≡ length kept.old.gave.items }
     ensures adds { AddsFile (with_file (contents scenario.now) (given_of kept.old) file bytes.now) result kept.new }
     ensures keeps { OnOk result (KeepsStations (contents scenario.now) (length bytes.now) kept.old kept.new) }

@@ -1,5 +1,5 @@
 //! Lists joined to one history.
-ghost use Rattle.std.specs.Prelude.{◌≡◌, ◌≤◌, ◌<◌, ◌+◌, ◌*◌, ◌^◌, IfOk, OnOk, length, set, slice_index, true};
+ghost use Rattle.std.specs.Prelude.{◌≡◌, ◌≤◌, ◌<◌, ◌+◌, ◌*◌, ◌^◌, None, IfOk, OnOk, length, set, slice_index, true};
 ghost use Rattle.std.specs.List.{All};
 ghost use Rattle.scenario_file.specs.Reading.{contents};
 ghost use Rattle.scenario_file.specs.Valid.{IsScenario};
@@ -51,7 +51,7 @@ fn joined<'a>(alloc: Global, scenario: &'a Scenario, kept: &Kept) -> Result<SoFa
     requires scenario { IsScenario (contents scenario.now) }
     requires stations { AreStations (contents scenario.now) kept.now.lists.items }
     requires few { count kept.now.lists.items < 2 ^ 32 }
-    ensures at_hand { IfOk result (λ so_far. IsSoFar so_far × (contents_in so_far ≡ contents scenario.now)) }
+    ensures at_hand { IfOk result (λ so_far. IsSoFar so_far × (contents_in so_far ≡ contents scenario.now) × (so_far.only ≡ None)) }
     ensures joint { IfOk result (λ so_far. IsJoint (contents scenario.now) kept.now.lists.items so_far.history) }
     ensures order { IfOk result (λ so_far. EarlyOnlyWhereAllAre (setup_of (contents scenario.now)) so_far.history) }
     ensures short { IfOk result (λ so_far. length so_far.history < 2 ^ 32) }

@@ -1,10 +1,8 @@
 //! What an actor kept, read again: its list, with the bench on which the actor did it.
-ghost use Rattle.std.specs.Prelude.{◌≡◌, ◌<◌, ◌^◌, ◌&&◌, ◌++◌, ◌∷◌, [], length, take, nat_eq, IfOk};
+ghost use Rattle.std.specs.Prelude.{◌≡◌, ◌<◌, ◌^◌, ◌&&◌, ◌++◌, ◌∷◌, [], length, take, true, nat_eq, IfOk};
 ghost use Rattle.std.specs.Str.{bytes_eq};
-ghost use Rattle.scenario_file.specs.Reading.{contents};
-ghost use Rattle.scenario_file.specs.Valid.{IsScenario};
 ghost use Rattle.script_grammar.specs.Names.{who_of};
-ghost use Rattle.printed_history.specs.Reading.{IsSoFar, Takes, contents_in, world_in};
+ghost use Rattle.printed_history.specs.Reading.{IsSoFar, Takes, contents_in, is_at_hand, world_in};
 ghost use Rattle.kept_lines.specs.Adding.{Adds, list_read};
 ghost use Rattle.kept_lines.specs.Reading.{Reads, entry_part, entry_told, is_actor, kept_in, line_in};
 ghost use Rattle.joint_lists.specs.Stations.{IsStation};
@@ -15,30 +13,31 @@ use checked_frames::RingMemory;
 use plain_lists::Want;
 use printed_history::SoFar;
 use run_lines::{EntryLine, first_line, read_entry_line};
-use scenario_file::Scenario;
 use script_grammar::Company;
 use std::alloc::Global;
 
 /// How many bytes a digest takes, with the word before it.
 const DIGEST: usize = 72;
 
-/// The list of which an actor kept these bytes, as its history. What stands behind the last line feed was torn, and is passed
-/// over.
+/// The list of which an actor at hand kept these bytes, as its history: they are read into one that has no entry yet. What
+/// stands behind the last line feed was torn, and is passed over.
 pub fn reopen<'a>(
     alloc: Global,
-    scenario: &'a Scenario,
+    begun: SoFar<'a>,
     actor: u32,
     bytes: &[u8],
 ) -> Result<SoFar<'a>, KeptRefusal>
-    requires scenario { IsScenario (contents scenario.now) }
+    requires at_hand { IsSoFar begun }
+    requires none { begun.history ≡ [] }
+    requires own { is_at_hand begun actor ≡ true }
     requires short { length bytes.now < 2 ^ 32 }
-    ensures list { Reads (list_read result) (kept_in (contents scenario.now) actor bytes.now) }
-    ensures at_hand { IfOk result (λ so_far. IsSoFar so_far × (contents_in so_far ≡ contents scenario.now)) }
-    ensures station { IfOk result (λ so_far. IsStation (contents scenario.now) actor so_far.history) }
+    ensures list { Reads (list_read result) (kept_in (contents_in begun.entry) actor bytes.now) }
+    ensures at_hand { IfOk result (λ so_far. IsSoFar so_far × (contents_in so_far ≡ contents_in begun.entry) × (so_far.only ≡ begun.entry.only)) }
+    ensures station { IfOk result (λ so_far. IsStation (contents_in begun.entry) actor so_far.history) }
     ensures short { IfOk result (λ so_far. length so_far.history < 2 ^ 32) }
 {
-    let company = Company::of(alloc, scenario);
-    let mut so_far = SoFar::begin(alloc, scenario)?;
+    let company = begun.company();
+    let mut so_far = begun;
     let mut memory = RingMemory::new(alloc, &so_far.ring);
     let mut rest = bytes;
     while let Some((line, after)) = first_line(rest) {
@@ -60,6 +59,7 @@ fn add_line(
     line: &[u8],
 ) -> Result<(), KeptRefusal>
     requires at_hand { IsSoFar so_far.old }
+    requires own { is_at_hand so_far.old actor ≡ true }
     requires short { length so_far.old.history < 2 ^ 32 }
     requires company { company.now ≡ who_of (contents_in so_far.old) }
     ensures { Adds (line_in (contents_in so_far.old) actor so_far.old.history line.now) result so_far.old so_far.new }
@@ -101,6 +101,7 @@ fn take_told(
     line: EntryLine,
 ) -> Result<bool, Want>
     requires at_hand { IsSoFar so_far.old }
+    requires own { is_at_hand so_far.old actor ≡ true }
     requires short { length so_far.old.history < 2 ^ 32 }
     ensures { IfOk result (λ comes. Takes (entry_told (world_in so_far.old) actor so_far.old.history line) comes so_far.old so_far.new) }
 {

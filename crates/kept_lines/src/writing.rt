@@ -15,7 +15,6 @@ use plain_lists::Want;
 use printed_history::SoFar;
 use run_lines::put_entry;
 use scenario_file::Cast;
-use script_grammar::Company;
 use sha2::{Digest, Sha256};
 use std::alloc::Global;
 use world_entries::Entry;
@@ -86,8 +85,7 @@ pub fn put_last(alloc: Global, bytes: &mut Vec<u8>, so_far: &SoFar<'_>) -> Resul
     ensures { OnOk result ((before : List HistoryEntry) (e : HistoryEntry) → so_far.now.history ≡ before ++ e ∷ []
         → bytes.new.items ≡ bytes.old.items ++ (kept_line (contents_in so_far.now) before e ++ codes "\n")) }
 {
-    let company = Company::of(alloc, so_far.scenario);
-    put_line(alloc, bytes, company.cast(), so_far)?;
+    put_line(alloc, bytes, so_far.company().cast(), so_far)?;
     bytes.push(b'\n')?;
     Ok(())
 }

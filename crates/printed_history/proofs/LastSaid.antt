@@ -1,6 +1,6 @@
 -- The last entry of what is at hand, its actor's bench and its frames.
-use Rattle.std.proofs.Common.{◌≡◌, ℕ, ◌+◌, ◌<◌, List, [], ◌∷◌, ◌++◌, Option, Some, None, length, map, get_or, refl}
-use Rattle.std.proofs.Common.{sym, ◌∙◌, ap, subst, arith}
+use Rattle.std.proofs.Common.{◌≡◌, ℕ, ◌+◌, ◌<◌, true, List, [], ◌∷◌, ◌++◌, Option, Some, None, length, map, get_or}
+use Rattle.std.proofs.Common.{refl, sym, ◌∙◌, ap, subst, arith}
 use Rattle.std.proofs.lemmas.List.{length-append, length-map, get_or_push}
 use Rattle.std.specs.Borrow.{Bor}
 use Rattle.std.specs.Option.{option_map}
@@ -22,18 +22,10 @@ use Rattle.world_history.specs.State.{BenchState, setup_in}
 use Rattle.world_history.specs.Seats.{frames_of_each}
 use Rattle.world_history.specs.Benches.{bench_in}
 use Rattle.printed_history.specs.declared.reading.SoFar.{SoFar}
-use Rattle.printed_history.specs.Reading.{contents_in, IsSoFar}
+use Rattle.printed_history.specs.Reading.{is_among, is_at_hand, IsSoFar}
+use Rattle.printed_history.proofs.AtHand.{last_theirs}
 use Rattle.printed_history.proofs.LastFrames.{each_last, frames_there}
 use Rattle.plain_lists.proofs.Lists.{mapped_at}
-use Rattle.quorum_sets.proofs.Numbered.{length-numbered}
-
--- each actor has a bench
-pub bench_placed : (r : SoFar) (actor : ℕ) → IsSoFar r → actor < actors_in (contents_in r) →
-    actor < length r.benches.items
-bench_placed r actor is there =
-    let size : length r.benches.items ≡ actors_in (contents_in r) = ap length is.are_benches
-    ∙ length-numbered (bench_in (contents_in r) r.history) (actors_in (contents_in r)) in
-    omega arith
 
 -- a list that isn't empty ends with an entry
 pub record EndsWith (list : List Entry) : Type 0 where
@@ -80,6 +72,15 @@ last_there c list actor legal some is =
     (legal.entries r.before r.last stood).actor in
     subst (λ (g : Group). actor < g.n + g.clients) (group_is c)
     (subst (λ (a : ℕ). a < (setup_of c).group.n + (setup_of c).group.clients) (sym (is r.before r.last r.whole)) there)
+
+-- and at hand
+pub last_own : (r : SoFar) (actor : ℕ) → IsSoFar r → 0 < length r.history →
+    ((before : List Entry) (e : Entry) → r.history ≡ before ++ e ∷ [] → actor ≡ e.actor) →
+    is_at_hand r actor ≡ true
+last_own r actor is some last =
+    let ends : EndsWith r.history = ends_with r.history some in
+    ap (is_among r.only) (last ends.before ends.last ends.whole)
+    ∙ last_theirs r.only r.history ends.before ends.last is.are_theirs ends.whole
 
 -- its own list ends with it
 pub own_ends : (list before : List Entry) (e : Entry) → list ≡ before ++ e ∷ [] →

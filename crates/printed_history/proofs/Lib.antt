@@ -1,4 +1,5 @@
 mod Places
+pub mod AtHand
 mod FramesFound
 pub mod EventTold
 pub mod NextEntry

@@ -15,12 +15,14 @@ use Rattle.world_history.specs.State.{BenchState}
 use Rattle.world_history.specs.Benches.{benches_of}
 use Rattle.printed_history.specs.declared.reading.SoFar.{SoFar}
 use Rattle.printed_history.specs.Histories.{entry_from, entries_from, not_legal, history_of, history_in}
-use Rattle.printed_history.specs.Reading.{contents_in, world_in, IsSoFar, Comes}
+use Rattle.printed_history.specs.Reading.{contents_in, world_in, IsSoFar, IsBegun, Comes}
+use Rattle.printed_history.proofs.AtHand.{whole_benches}
 
 -- The lines that are left tell the rest of what all tell.
 pub record IsAmid (c : Contents) (lines rest : List EntryLine) (count : ℕ) (r : SoFar) : Type 0 where
   pub is_so_far : IsSoFar r
   pub same : contents_in r ≡ c
+  pub all : r.only ≡ None
   pub many : length r.history ≡ count
   pub right : entries_from (setup_of c) [] lines ≡ entries_from (setup_of c) r.history rest
 
@@ -29,14 +31,15 @@ told_next w before rest o =
     elim o [ None ↦ not_legal (length before) | Some e ↦ entries_from w (before ++ e ∷ []) rest ]
 
 -- before the first line
-pub first_line : (c : Contents) (lines rest : List EntryLine) (r : SoFar) → rest ≡ lines → IsSoFar r →
-    contents_in r ≡ c → r.history ≡ [] → IsAmid c lines rest 0 r
-first_line c lines rest r are is same none = record {
-  is_so_far = is;
-  same = same;
-  many = ap length none;
+pub first_line : (c : Contents) (lines rest : List EntryLine) (r : SoFar) → rest ≡ lines → IsBegun c None r →
+    IsAmid c lines rest 0 r
+first_line c lines rest r are begun = record {
+  is_so_far = begun.is_so_far;
+  same = begun.same;
+  all = begun.at_hand;
+  many = ap length begun.none;
   right = ap (entries_from (setup_of c) []) (sym are)
-      ∙ ap (λ (es : List Entry). entries_from (setup_of c) es rest) (sym none);
+      ∙ ap (λ (es : List Entry). entries_from (setup_of c) es rest) (sym begun.none);
 }
 
 next_line : (c : Contents) (lines rest left : List EntryLine) (l : EntryLine) (count : ℕ) (r : SoFar) →
@@ -55,6 +58,7 @@ read_on c lines rest l count more old new amid one came = by (entry_from (world_
     by (Some e) is comes = record {
       is_so_far = comes.1.is_so_far;
       same = comes.1.same ∙ amid.same;
+      all = comes.1.at_hand ∙ amid.all;
       many = ap length comes.1.longer ∙ length-append old.history (e ∷ []) ∙ ap (λ (n : ℕ). n + 1) amid.many ∙ sym one;
       right =
           amid.right
@@ -144,8 +148,7 @@ pub read_benches : (c : Contents) (lines yielded rest : List EntryLine) (r : SoF
     (benches : List BenchState) → IsAmid c lines rest (length yielded) r
     → history ≡ r.history → benches ≡ r.benches.items → benches ≡ benches_of c history
 read_benches c lines yielded rest r history benches amid is are =
-    are ∙ amid.is_so_far.are_benches ∙ ap (λ (x : Contents). benches_of x r.history) amid.same
-    ∙ ap (benches_of c) (sym is)
+    are ∙ whole_benches c r amid.is_so_far amid.same amid.all ∙ ap (benches_of c) (sym is)
 
 -- The history that a text's lines tell.
 pub lines_told : (c : Contents) (bytes : List ℕ) (lines : List EntryLine) (result : Reading (List Entry)) →

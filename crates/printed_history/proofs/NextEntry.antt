@@ -14,7 +14,7 @@ use Rattle.message_types.specs.declared.signed.Signed.{Signed}
 use Rattle.message_types.specs.declared.body.Body.{Body}
 use Rattle.quorum_sets.specs.Masters.{numbers_below}
 use Rattle.protocol_rules.specs.Group.{Group}
-use Rattle.scenario_file.specs.Reading.{Contents}
+use Rattle.scenario_file.specs.Reading.{Contents, contents}
 use Rattle.script_grammar.specs.declared.kinds.Kind.{Kind}
 use Rattle.agreement.proofs.KnownAsItGrows.{own-append, own_first, own_other, own_none}
 use Rattle.history_rules.specs.Events.{Event, Entry}
@@ -26,21 +26,22 @@ use Rattle.history_laws.proofs.OwnEntries.{own_of_legal, own_stands}
 use Rattle.history_laws.proofs.EntryByEntry.{one_more_is_legal}
 use Rattle.world_rules.specs.Frames.{frames_of, frames_at_stamp}
 use Rattle.world_rules.specs.Scenarios.{setup_of, actors_in}
-use Rattle.world_rules.proofs.Fields.{group_is}
+use Rattle.world_rules.proofs.Fields.{group_is, setup_goes_by}
 use Rattle.world_history.specs.Signed.{ring_in}
 use Rattle.world_history.specs.State.{BenchState, setup_in, entry_at, with_entry}
-use Rattle.world_history.specs.Benches.{bench_in, benches_of}
+use Rattle.world_history.specs.Benches.{bench_in}
 use Rattle.run_lines.specs.declared.entry_line.EntryLine.{EntryLine}
 use Rattle.printed_history.specs.declared.reading.SoFar.{SoFar}
 use Rattle.printed_history.specs.Histories.{is_running, are_kinds, entry_with, entry_by, entry_of_event, entry_from}
 use Rattle.printed_history.specs.Histories.{event_from, standing_event}
-use Rattle.printed_history.specs.Reading.{calls_by, standing_frame, frame_in, contents_in, world_in, IsAtHand}
-use Rattle.printed_history.specs.Reading.{IsSoFar, HasMore, Comes}
+use Rattle.printed_history.specs.Reading.{calls_by, standing_frame, frame_in, contents_in, world_in, is_among}
+use Rattle.printed_history.specs.Reading.{place_of, those_of, IsAtHand, IsSoFar, HasMore, Comes}
+use Rattle.printed_history.proofs.AtHand.{place_within, benches_set, IsItsBench, its_bench, theirs_more}
 use Rattle.printed_history.proofs.FramesFound.{frames_more}
 use Rattle.quorum_sets.proofs.Numbered.{numbered_set, numbered_at, length-numbered}
 use Rattle.agreement.proofs.Places.{stands_last}
 use Rattle.history_rules.proofs.Entries.{own_fewer}
-use Rattle.world_history.proofs.HistoryReplays.{bench_at, bench_stays, bench_with}
+use Rattle.world_history.proofs.HistoryReplays.{bench_stays, bench_with}
 use Rattle.history_rules.proofs.Frames.{calls_few}
 
 -- the entry that the actor's event makes
@@ -76,13 +77,12 @@ actor_there c before actor runs =
     subst (λ (g : Group). actor < g.n + g.clients) (group_is c) (grind (arith, both.0))
 
 -- the actor has a bench, and its keeper's calls are counted
-pub bench_there : (r : SoFar) (actor : ℕ) → IsSoFar r → is_running (world_in r) r.history actor ≡ true →
-    actor < length r.benches.items
-bench_there r actor is runs =
-    let there = actor_there (contents_in r) r.history actor runs in
-    let size : length r.benches.items ≡ actors_in (contents_in r) = ap length is.are_benches
-    ∙ length-numbered (bench_in (contents_in r) r.history) (actors_in (contents_in r)) in
-    omega arith
+pub bench_there : (r : SoFar) (actor place : ℕ) → IsSoFar r → is_running (world_in r) r.history actor ≡ true →
+    place ≡ place_of r.only actor → place < length r.benches.items
+bench_there r actor place is runs here =
+    subst (λ (p : ℕ). p < length r.benches.items) (sym here)
+    (place_within (contents_in r) r.history r.only actor r.benches.items
+    (actor_there (contents_in r) r.history actor runs) is.are_benches)
 
 pub calls_there : (r : SoFar) (actor : ℕ) → IsSoFar r → is_running (world_in r) r.history actor ≡ true →
     actor < length r.calls.items
@@ -110,10 +110,10 @@ pub record CanAct (limit stamp : ℕ) (c : Contents) (event : Event) (b : BenchS
   pub works : b.is_spent ≡ false
   pub world : ring_in c ≡ ring_in b.world
 
-can_act_next : (r : SoFar) (actor limit : ℕ) (event : Event) (b : BenchState) → IsSoFar r → length r.history < limit →
-    MayCome (world_in r) r.history actor event
-    → b ≡ get_or r.benches.items actor b → CanAct limit (length r.history) (contents_in r) event b
-can_act_next r actor limit event b is few may at =
+can_act_next : (r : SoFar) (actor place limit : ℕ) (event : Event) (b : BenchState) → IsSoFar r →
+    length r.history < limit → MayCome (world_in r) r.history actor event → IsItsBench r actor place b →
+    CanAct limit (length r.history) (contents_in r) event b
+can_act_next r actor place limit event b is few may its =
     let c : Contents = contents_in r in
     let owned = next_owned (setup_of c) r.history actor event is.is_legal may in
     let fewer = own_fewer r.history actor in
@@ -127,14 +127,14 @@ can_act_next r actor limit event b is few may at =
       world = refl;
     } in
     subst (λ (x : BenchState). CanAct limit (length r.history) c event x)
-    (sym (bench_at c r.history actor r.benches.items b (actor_there c r.history actor may.running)
-    is.are_benches at)) at_first
+    (sym (its_bench r actor place b is (actor_there c r.history actor may.running) its)) at_first
 
-pub can_act : (r : SoFar) (actor limit stamp : ℕ) (event : Event) (b : BenchState) → IsSoFar r →
-    length r.history < limit → MayCome (world_in r) r.history actor event
-    → b ≡ get_or r.benches.items actor b → stamp ≡ length r.history → CanAct limit stamp (contents_in r) event b
-can_act r actor limit stamp event b is few may at now = subst (λ (s : ℕ). CanAct limit s (contents_in r) event b)
-    (sym now) (can_act_next r actor limit event b is few may at)
+pub can_act : (r : SoFar) (actor place limit stamp : ℕ) (event : Event) (b : BenchState) → IsSoFar r →
+    length r.history < limit → MayCome (world_in r) r.history actor event → IsItsBench r actor place b →
+    stamp ≡ length r.history → CanAct limit stamp (contents_in r) event b
+can_act r actor place limit stamp event b is few may its now =
+    subst (λ (s : ℕ). CanAct limit s (contents_in r) event b) (sym now)
+    (can_act_next r actor place limit event b is few may its)
 
 -- the actor's bench makes the entry
 bench_grows : (c : Contents) (before : List Entry) (actor : ℕ) (event : Event)
@@ -150,29 +150,25 @@ bench_grows c before actor event =
     ap (bench_with c actor) (sym longer)
 
 -- so the benches are those of one entry more
-benches_next : (c : Contents) (before : List Entry) (actor : ℕ) (event : Event) (old new : List BenchState)
-    (b grown : BenchState) → actor < actors_in c
-    → old ≡ benches_of c before → b ≡ bench_in c before actor → grown ≡ with_entry b (length before) event →
-    new ≡ set old actor grown
-    → new ≡ benches_of c (before ++ next_of (setup_of c) before actor event ∷ [])
-benches_next c before actor event old new b grown there are is has put =
+benches_next : (c : Contents) (before : List Entry) (only : Option ℕ) (actor place : ℕ) (event : Event)
+    (old new : List BenchState) (b grown : BenchState) → actor < actors_in c → is_among only actor ≡ true →
+    old ≡ map (bench_in c before) (those_of c only) → place ≡ place_of only actor → b ≡ bench_in c before actor →
+    grown ≡ with_entry b (length before) event → new ≡ set old place grown
+    → new ≡ map (bench_in c (before ++ next_of (setup_of c) before actor event ∷ [])) (those_of c only)
+benches_next c before only actor place event old new b grown there own are here is has put =
     let made : grown ≡ bench_in c (before ++ next_of (setup_of c) before actor event ∷ []) actor =
     has ∙ ap (λ (x : BenchState). with_entry x (length before) event) is ∙ bench_grows c before actor event in
-    put ∙ (λ j. set (are j) actor (made j))
-    ∙ numbered_set (bench_in c before) (bench_in c (before ++ next_of (setup_of c) before actor event ∷ []))
-    (actors_in c) actor there
-    (bench_stays c before (next_of (setup_of c) before actor event))
+    benches_set c before (before ++ next_of (setup_of c) before actor event ∷ []) only actor place old new grown there
+    own are here made put (bench_stays c before (next_of (setup_of c) before actor event))
 
 -- its entry is the next
-pub its_entry : (r : SoFar) (actor : ℕ) (event : Event) (b : BenchState) → IsSoFar r →
-    is_running (world_in r) r.history actor ≡ true
-    → b ≡ get_or r.benches.items actor b →
+pub its_entry : (r : SoFar) (actor place : ℕ) (event : Event) (b : BenchState) → IsSoFar r →
+    is_running (world_in r) r.history actor ≡ true → IsItsBench r actor place b →
     entry_at b (length r.history) event ≡ next_of (world_in r) r.history actor event
 unfolding entry_at
-its_entry r actor event b is runs at =
-    let c : Contents = contents_in r in
+its_entry r actor place event b is runs its =
     ap (λ (x : BenchState). entry_at x (length r.history) event)
-    (bench_at c r.history actor r.benches.items b (actor_there c r.history actor runs) is.are_benches at)
+    (its_bench r actor place b is (actor_there (contents_in r) r.history actor runs) its)
 
 -- so a history's calls can be counted
 pub calls_counted : (r : SoFar) (actor d limit : ℕ) → IsSoFar r → is_running (world_in r) r.history actor ≡ true →
@@ -214,28 +210,30 @@ calls_more before e old actors d low were =
         (own_other e [] a (λ (same : e.actor ≡ a). apart (sym same)) ∙ own_none a) ∙ append-nil (own before a)))
 
 -- What changed at an event of an actor whose bench was `b`.
-pub record HasActed (old new : SoFar) (actor : ℕ) (event : Event) (b grown : BenchState) (e : Entry)
+pub record HasActed (old new : SoFar) (actor place : ℕ) (event : Event) (b grown : BenchState) (e : Entry)
     (posted : List (Signed Body)) (d stamp : ℕ) : Type 0 where
   pub now : stamp ≡ length old.history
   pub same : contents_in new ≡ contents_in old
+  pub at_hand : new.only ≡ old.only
   pub ring : new.ring ≡ old.ring
-  pub was : b ≡ get_or old.benches.items actor b
+  pub was : IsItsBench old actor place b
   pub acted : grown ≡ with_entry b stamp event
   pub made : e ≡ entry_at b stamp event
-  pub benches : new.benches.items ≡ set old.benches.items actor grown
+  pub benches : new.benches.items ≡ set old.benches.items place grown
   pub calls : new.calls.items ≡ set old.calls.items actor (get_or old.calls.items actor d + length (calls_at e))
   pub posts : new.posted ≡ old.posted ++ posted ∷ []
   pub frames : (p : ℕ) → slice_get posted p ≡ standing_frame (setup_in b)
       (slice_get (frames_of (setup_in b) b.list (entry_at b stamp event)) p)
   pub history : new.history ≡ old.history ++ e ∷ []
 
-pub has_more : (old new : SoFar) (actor : ℕ) (event : Event) (b grown : BenchState) (e : Entry)
+pub has_more : (old new : SoFar) (actor place : ℕ) (event : Event) (b grown : BenchState) (e : Entry)
     (posted : List (Signed Body)) (d stamp : ℕ)
     → IsSoFar old → MayCome (world_in old) old.history actor event →
-    HasActed old new actor event b grown e posted d stamp
+    HasActed old new actor place event b grown e posted d stamp
     → HasMore old new (next_of (world_in old) old.history actor event)
-has_more old new actor event b grown e posted d stamp is may acted = record {
+has_more old new actor place event b grown e posted d stamp is may acted = record {
   same = acted.same;
+  at_hand = acted.at_hand;
   is_so_far = subst (λ (x : Contents). IsAtHand x new) (sym acted.same) hand;
   longer = longer;
 }
@@ -254,19 +252,25 @@ has_more old new actor event b grown e posted d stamp is may acted = record {
 
     one : e ≡ next
     one = acted.made ∙ ap (λ (s : ℕ). entry_at b s event) acted.now
-        ∙ its_entry old actor event b is may.running acted.was
+        ∙ its_entry old actor place event b is may.running acted.was
 
     longer : new.history ≡ before ++ next ∷ []
     longer = acted.history ∙ ap (λ (x : Entry). before ++ x ∷ []) one
 
     is_bench : b ≡ bench_in c before actor
-    is_bench = bench_at c before actor old.benches.items b there is.are_benches acted.was
+    is_bench = its_bench old actor place b is there acted.was
 
-    benches : new.benches.items ≡ benches_of c new.history
+    benches : new.benches.items ≡ map (bench_in c new.history) (those_of c new.only)
     benches =
-        benches_next c before actor event old.benches.items new.benches.items b grown there is.are_benches is_bench
-        (acted.acted ∙ ap (λ (s : ℕ). with_entry b s event) acted.now) acted.benches
-        ∙ ap (benches_of c) (sym longer)
+        benches_next c before old.only actor place event old.benches.items new.benches.items b grown there acted.was.own
+        is.are_benches acted.was.here is_bench (acted.acted ∙ ap (λ (s : ℕ). with_entry b s event) acted.now)
+        acted.benches
+        ∙ (λ i. map (bench_in c (sym longer i)) (those_of c (sym acted.at_hand i)))
+
+    theirs : list_all (λ x. is_among new.only x.actor) new.history ≡ true
+    theirs =
+        (λ i. list_all (λ (x : Entry). is_among (acted.at_hand i) x.actor) (longer i))
+        ∙ theirs_more old.only before next is.are_theirs acted.was.own
 
     calls : new.calls.items ≡ map (calls_by new.history) (numbers_below (actors_in c))
     calls =
@@ -288,7 +292,7 @@ has_more old new actor event b grown e posted d stamp is may acted = record {
         (slice_get (frames_of (setup_in b) b.list (entry_at b s event)) p)) acted.now
         ∙ (λ i. standing_frame (setup_in (is_bench i))
         (slice_get (frames_of (setup_in (is_bench i)) (is_bench i).list
-        (its_entry old actor event b is may.running acted.was i)) p))
+        (its_entry old actor place event b is may.running acted.was i)) p))
 
     frames : (s p : ℕ) → frame_in new.posted s p ≡ standing_frame (setup_of c)
         (slice_get (frames_at_stamp (setup_of c) new.history s) p)
@@ -303,6 +307,7 @@ has_more old new actor event b grown e posted d stamp is may acted = record {
       scenario = is.scenario;
       is_legal = subst (IsLegal (setup_of c)) (sym longer)
           (one_more_is_legal (setup_of c) before next is.is_legal (next_legal (setup_of c) before actor event may));
+      are_theirs = theirs;
       is_ring = acted.ring ∙ is.is_ring;
       are_benches = benches;
       are_calls = calls;
@@ -311,14 +316,14 @@ has_more old new actor event b grown e posted d stamp is may acted = record {
     }
 
 -- the kinds of what is said, by the entry that was made
-pub kinds_told : (r : SoFar) (actor stamp : ℕ) (event : Event) (b : BenchState) (e : Entry) (said : List Body)
+pub kinds_told : (r : SoFar) (actor place stamp : ℕ) (event : Event) (b : BenchState) (e : Entry) (said : List Body)
     (kinds : List Kind) (are : Bool) → IsSoFar r
-    → is_running (world_in r) r.history actor ≡ true → b ≡ get_or r.benches.items actor b → stamp ≡ length r.history →
+    → is_running (world_in r) r.history actor ≡ true → IsItsBench r actor place b → stamp ≡ length r.history →
     e ≡ entry_at b stamp event → said ≡ e.said
     → are_kinds kinds said ≡ are → are_kinds kinds (says (world_in r) r.history actor event) ≡ are
-kinds_told r actor stamp event b e said kinds are is runs at now made told so =
+kinds_told r actor place stamp event b e said kinds are is runs its now made told so =
     let same : e ≡ next_of (world_in r) r.history actor event = made ∙ ap (λ (s : ℕ). entry_at b s event) now
-    ∙ its_entry r actor event b is runs at in
+    ∙ its_entry r actor place event b is runs its in
     ap (are_kinds kinds) (sym (told ∙ ap (λ (x : Entry). x.said) same)) ∙ so
 
 -- an entry with these kinds comes
@@ -418,13 +423,18 @@ adds_event w actor event kinds o old new told is was =
     (λ comes. Comes (entry_of_event w old.history actor kinds x) comes old new)) is was
 
 -- what an actor's bench says of an event's role
-pub fits_there : (r : SoFar) (actor : ℕ) (event : Event) (b : BenchState) → IsSoFar r →
-    is_running (world_in r) r.history actor ≡ true → b ≡ get_or r.benches.items actor b
+pub fits_there : (r : SoFar) (actor place : ℕ) (event : Event) (b : BenchState) → IsSoFar r →
+    is_running (world_in r) r.history actor ≡ true → IsItsBench r actor place b
     → (setup_in b).fits b.actor event ≡ (world_in r).fits actor event
-fits_there r actor event b is runs at =
+fits_there r actor place event b is runs its =
     ap (λ (x : BenchState). (setup_in x).fits x.actor event)
-    (bench_at (contents_in r) r.history actor r.benches.items b (actor_there (contents_in r) r.history actor runs)
-    is.are_benches at)
+    (its_bench r actor place b is (actor_there (contents_in r) r.history actor runs) its)
+
+-- keepers fail alike, whatever keys are held
+pub same_failing : (r : SoFar) (actor : ℕ) →
+    (setup_of (contents r.scenario.now)).failing actor ≡ (world_in r).failing actor
+same_failing r actor =
+    (setup_goes_by (contents r.scenario.now)).failing actor ∙ sym ((setup_goes_by (contents_in r)).failing actor)
 
 -- whether an actor runs, by the calls that are counted
 pub runs_by : (r : SoFar) (actor calls : ℕ) (fails : Bool) → IsSoFar r → slice_get r.calls.items actor ≡ Some calls

@@ -1,12 +1,17 @@
 -- A history as it stands while its text is read. (This project's own.)
 use Rattle.std.specs.Prelude.{◌≡◌, ℕ, Bool, true, false, if◌then◌else◌, List, [], ◌∷◌, ◌++◌, Option, Some, None}
-use Rattle.std.specs.Prelude.{Result, Ok, Err, filter, length, map, slice_get}
+use Rattle.std.specs.Prelude.{Result, Ok, Err, filter, length, map, nat_eq, slice_get}
+use Rattle.std.specs.Borrow.{Bor}
+use Rattle.std.specs.List.{list_all}
+use Rattle.std.specs.Option.{option_copied}
 use Rattle.message_types.specs.declared.signed.Signed.{Signed}
 use Rattle.message_types.specs.declared.body.Body.{Body}
 use Rattle.checked_frames.specs.Standing.{Ring}
 use Rattle.checked_frames.specs.Standing as checked
 use Rattle.quorum_sets.specs.Masters.{numbers_below}
-use Rattle.scenario_file.specs.Reading.{Contents, contents}
+use Rattle.scenario_file.specs.declared.held.HeldKeys.{HeldKeys}
+use Rattle.scenario_file.specs.declared.scenario.Scenario.{Scenario}
+use Rattle.scenario_file.specs.Reading.{Contents, contents, with_held}
 use Rattle.scenario_file.specs.Valid.{IsScenario}
 use Rattle.history_rules.specs.Events.{Event, Cry, Entry}
 use Rattle.history_rules.specs.Setup.{Setup, stands, own}
@@ -19,7 +24,7 @@ use Rattle.world_entries.specs.declared.entry.Event.{Event as EventWord}
 use Rattle.world_history.specs.State.{BenchState, setup_in}
 use Rattle.world_history.specs.Seats.{frames_of_each}
 use Rattle.world_history.specs.Signed.{ring_in}
-use Rattle.world_history.specs.Benches.{benches_of}
+use Rattle.world_history.specs.Benches.{bench_in}
 use Rattle.run_lines.specs.declared.refusal.HistoryRefusal.{HistoryRefusal}
 use Rattle.run_lines.specs.Runs.{Reading}
 use Rattle.printed_history.specs.declared.histories.Replay.{Replay}
@@ -49,20 +54,43 @@ abbrev pub posted_of : Ring → BenchState → ℕ → Event → List (Signed Bo
 posted_of ring b place (Cry bytes) = filter (checked.stands ring) (cried (Cry bytes))
 posted_of ring b place _ = list_at (slice_get (frames_of_each (setup_in b) b.actor [] b.list) place)
 
+-- the scenario by its seed, or by the keys that are held
+abbrev pub known_by : Scenario → Option (Bor HeldKeys) → Contents
+known_by s held = with_held (contents s) (option_copied held)
+
 -- the scenario and its setup
 abbrev pub contents_in : SoFar → Contents
-contents_in r = contents r.scenario.now
+contents_in r = known_by r.scenario.now r.held
 
 abbrev pub world_in : SoFar → Setup
 world_in r = setup_of (contents_in r)
 
--- What is at hand of the entries of a scenario that are read so far: their benches, the calls of their keepers, and the
--- frames that stand.
+-- Where only one actor is at hand it is that one, and else it may be any.
+abbrev pub is_among : Option ℕ → ℕ → Bool
+is_among None actor = true
+is_among (Some one) actor = nat_eq actor one
+
+-- the actors at hand, in the order of their benches: that one, or else all that the scenario has
+abbrev pub those_of : Contents → Option ℕ → List ℕ
+those_of c None = numbers_below (actors_in c)
+those_of c (Some one) = one ∷ []
+
+-- the place of an actor's bench among theirs
+abbrev pub place_of : Option ℕ → ℕ → ℕ
+place_of None actor = actor
+place_of (Some one) actor = 0
+
+abbrev pub is_at_hand : SoFar → ℕ → Bool
+is_at_hand r actor = is_among r.only actor
+
+-- What is at hand of the entries of a scenario that are read so far: the benches of the actors at hand, who alone act in
+-- them, the calls of all keepers, and the frames that stand.
 pub record IsAtHand (c : Contents) (r : SoFar) : Type 0 where
   pub scenario : IsScenario c
   pub is_legal : IsLegal (setup_of c) r.history
+  pub are_theirs : list_all (λ e. is_among r.only e.actor) r.history ≡ true
   pub is_ring : r.ring ≡ ring_in c
-  pub are_benches : r.benches.items ≡ benches_of c r.history
+  pub are_benches : r.benches.items ≡ map (bench_in c r.history) (those_of c r.only)
   pub are_calls : r.calls.items ≡ map (calls_by r.history) (numbers_below (actors_in c))
   pub as_many : length r.posted ≡ length r.history
   pub are_frames : (stamp place : ℕ) → frame_in r.posted stamp place ≡ standing_frame (setup_of c)
@@ -71,14 +99,22 @@ pub record IsAtHand (c : Contents) (r : SoFar) : Type 0 where
 abbrev pub IsSoFar : SoFar → Type 0
 IsSoFar r = IsAtHand (contents_in r) r
 
+-- Of this scenario no entry is read yet, and these actors are at hand.
+pub record IsBegun (c : Contents) (only : Option ℕ) (r : SoFar) : Type 0 where
+  pub is_so_far : IsSoFar r
+  pub same : contents_in r ≡ c
+  pub at_hand : r.only ≡ only
+  pub none : r.history ≡ []
+
 -- an event as it is kept, as one of histories
 abbrev pub event_found : Option EventWord → Option Event
 event_found None = None
 event_found (Some event) = Some (event_of event)
 
--- The same scenario's entries with one more.
+-- The same scenario's entries with one more, the same actors being at hand.
 pub record HasMore (old new : SoFar) (e : Entry) : Type 0 where
   pub same : contents_in new ≡ contents_in old
+  pub at_hand : new.only ≡ old.only
   pub is_so_far : IsSoFar new
   pub longer : new.history ≡ old.history ++ e ∷ []
 

@@ -9,7 +9,7 @@ use Rattle.scenario_file.specs.Valid.{IsScenario}
 use Rattle.scenario_file.specs.declared.refusal.ScenarioRefusal.{ScenarioRefusal}
 use Rattle.scenario_file.specs.declared.refusal.ScenarioRefusal.TheVariants as scenario
 use Rattle.history_rules.specs.Events.{Entry}
-use Rattle.command_words.specs.Wanted.{Wanted, play, run, replay, make, keys, verify, parts, rebuild, blame, trend, delays, page}
+use Rattle.command_words.specs.Wanted.{Wanted, play, run, replay, make, keys, key, verify, parts, rebuild, blame, trend, delays, page}
 use Rattle.command_words.specs.Wanted.{picture, plot, chart, merge}
 use Rattle.command_words.specs.Wanted.{is_command, wanted_in}
 use Rattle.command_ends.specs.Refusals.{status_of}
@@ -26,7 +26,8 @@ use Rattle.command_ends.specs.declared.refusal.Refusal.TheVariants as refusal
 use Rattle.run_commands.specs.declared.questions.Question.{Question}
 use Rattle.run_commands.specs.Posed.{posed}
 use Rattle.run_commands.specs.Readers.{Readers, KeepsRules, NoRequest, request_refusal}
-use Rattle.run_commands.specs.Reading.{accepted, scenario_at, scenario_refusal, with_scenario, with_history}
+use Rattle.command_files.specs.Scenarios.{scenario_at, scenario_refusal}
+use Rattle.run_commands.specs.Reading.{accepted, with_scenario, with_history}
 use Rattle.run_commands.specs.Reading.{with_answer, with_pieces}
 use Rattle.run_commands.specs.Course.{QuestionCourse, RebuildCourse, CommandStep, AskedStep, NextStep}
 use Rattle.run_commands.specs.Answered.{asked_by, Spells, Answered, Unanswered, KeepsAnswers, HasPieces, Rebuilt}
@@ -126,6 +127,7 @@ course-of r (run scenario script words hands turns) p contents step is comes = n
 course-of r (replay scenario history) p contents step is comes = none p is
 course-of r (make number) p contents step is comes = none p is
 course-of r (keys scenario) p contents step is comes = none p is
+course-of r (key scenario actor) p contents step is comes = none p is
 course-of r (verify public message sig) p contents step is comes = none p is
 course-of r (rebuild scenario pieces) p contents step is comes = none p is
 course-of r (merge scenario keeps) p contents step is comes = none p is

@@ -1,6 +1,6 @@
 -- What comes next is one step, but for the text of a run in threads or of a merge, which may be one of several.
 use Rattle.std.proofs.Common.{inl, inr, ◌≡◌, ℕ, Bool, true, false, List, [], ◌∷◌, Option, None, Some, sym, ◌∙◌, true≢false, length}
-use Rattle.command_words.specs.Wanted.{Wanted, play, run, replay, make, keys, verify, parts, rebuild, blame, trend, delays, page}
+use Rattle.command_words.specs.Wanted.{Wanted, play, run, replay, make, keys, key, verify, parts, rebuild, blame, trend, delays, page}
 use Rattle.command_words.specs.Wanted.{picture, plot, chart, merge}
 use Rattle.command_words.specs.Wanted.{is_command, wanted_in}
 use Rattle.command_ends.specs.Steps.{Step}
@@ -31,6 +31,7 @@ certain-command r (play scenario script words) contents one other single a b = a
 certain-command r (replay scenario history) contents one other single a b = a ∙ sym b
 certain-command r (make number) contents one other single a b = a ∙ sym b
 certain-command r (keys scenario) contents one other single a b = a ∙ sym b
+certain-command r (key scenario actor) contents one other single a b = a ∙ sym b
 certain-command r (verify public message sig) contents one other single a b =
     certain-verify (public_in public) message sig contents one other a b
 certain-command r (run scenario script words hands turns) contents one other single a b = absurd (true≢false single)
@@ -75,6 +76,7 @@ alike-command r (play scenario script words) contents one other a b = alike-same
 alike-command r (replay scenario history) contents one other a b = alike-same one other (a ∙ sym b)
 alike-command r (make number) contents one other a b = alike-same one other (a ∙ sym b)
 alike-command r (keys scenario) contents one other a b = alike-same one other (a ∙ sym b)
+alike-command r (key scenario actor) contents one other a b = alike-same one other (a ∙ sym b)
 alike-command r (verify public message sig) contents one other a b =
     alike-same one other (certain-verify (public_in public) message sig contents one other a b)
 alike-command r (parts scenario history originator number) contents one other a b = alike-same one other (a ∙ sym b)

@@ -19,7 +19,7 @@ use Rattle.script_lines.specs.Scripts.{script_in}
 use Rattle.script_lines.specs.Sayings.{words_in}
 use Rattle.script_lines.specs.declared.script.Line.{Line}
 use Rattle.script_lines.specs.declared.saying.Saying.{Saying}
-use Rattle.command_words.specs.Wanted.{Wanted, play, run, replay, make, keys, verify, parts, rebuild, blame, trend, delays, page}
+use Rattle.command_words.specs.Wanted.{Wanted, play, run, replay, make, keys, key, verify, parts, rebuild, blame, trend, delays, page}
 use Rattle.command_words.specs.Wanted.{picture, plot, chart, merge}
 use Rattle.command_words.specs.Wanted.{is_command, wanted_in}
 use Rattle.command_ends.specs.Refusals.{status_of}
@@ -33,7 +33,8 @@ use Rattle.command_ends.specs.declared.refusal.LineFault.{LineFault}
 use Rattle.command_ends.specs.declared.refusal.Refusal.{Refusal}
 use Rattle.command_ends.specs.declared.refusal.Refusal.TheVariants as refusal
 use Rattle.run_commands.specs.Readers.{Readers, KeepsRules, Tells, are_few, are_in_range}
-use Rattle.run_commands.specs.Reading.{accepted, scenario_at, scenario_refusal, script_refusal, words_refusal}
+use Rattle.command_files.specs.Scenarios.{scenario_at, scenario_refusal}
+use Rattle.run_commands.specs.Reading.{accepted, script_refusal, words_refusal}
 use Rattle.run_commands.specs.Reading.{with_scenario, with_script}
 use Rattle.run_commands.specs.Course.{CommandStep, AskedStep, NextStep, play_step, replay_step}
 use Rattle.run_commands.specs.Course.{Accepted, ScriptedCourse, MergeCourse, MergeEnds, MergeNext, MergeStep, RunCourse, RunEnds, RunStep}
@@ -480,6 +481,7 @@ by-wanted r laws call text (Some (replay scenario history)) asked asks contents 
 by-wanted r laws call text None asked asks contents loaded next told put = not-asked asks
 by-wanted r laws call text (Some (make number)) asked asks contents loaded next told put = not-asked asks
 by-wanted r laws call text (Some (keys scenario)) asked asks contents loaded next told put = not-asked asks
+by-wanted r laws call text (Some (key scenario actor)) asked asks contents loaded next told put = not-asked asks
 by-wanted r laws call text (Some (verify public message sig)) asked asks contents loaded next told put = not-asked asks
 by-wanted r laws call text (Some (run scenario script words hands turns)) asked asks contents loaded next told put =
     run-run r laws call scenario script words hands turns text asked contents loaded next told put

@@ -19,7 +19,8 @@ use Rattle.command_ends.specs.declared.refusal.Refusal.TheVariants as refusal
 use Rattle.command_ends.proofs.Completes.{alike-same}
 use Rattle.command_ends.proofs.Courses.{comes-now}
 use Rattle.run_commands.specs.Readers.{Readers, MergeGives, are_few, keep_refusal}
-use Rattle.run_commands.specs.Reading.{scenario_at, scenario_refusal, with_scenario}
+use Rattle.command_files.specs.Scenarios.{scenario_at, scenario_refusal}
+use Rattle.run_commands.specs.Reading.{with_scenario}
 use Rattle.run_commands.specs.Course.{MergeEnds, MergeNext, MergeCourse, MergeStep}
 use Rattle.run_commands.specs.Told.{told_merges}
 use Rattle.run_commands.proofs.Scripting.{accepted-value, accepted-fault}

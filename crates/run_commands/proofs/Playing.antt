@@ -17,7 +17,8 @@ use Rattle.command_ends.specs.declared.refusal.Refusal.{Refusal}
 use Rattle.command_ends.specs.declared.refusal.Refusal.TheVariants as refusal
 use Rattle.run_commands.specs.MadeScript.{made_script}
 use Rattle.run_commands.specs.Readers.{Readers, PlayGives, ReplayGives}
-use Rattle.run_commands.specs.Reading.{accepted, scenario_at, scenario_refusal, with_scenario, with_script, with_words}
+use Rattle.command_files.specs.Scenarios.{scenario_at, scenario_refusal}
+use Rattle.run_commands.specs.Reading.{accepted, with_scenario, with_script, with_words}
 use Rattle.run_commands.specs.Reading.{with_play}
 use Rattle.run_commands.specs.Course.{made_history, VerifyStep}
 use Rattle.run_commands.specs.Told.{GivesTold, PlayEnds, ReplayEnds, ReplayCourse, ToldStep, ToldAsked, ToldNext}

@@ -4,7 +4,7 @@ use Rattle.std.proofs.lemmas.Option.{same_Some}
 use Rattle.std.specs.declared.vec.Vec.{Vec}
 use Rattle.std.specs.declared.alloc.Global.{Global}
 use Rattle.scenario_file.specs.Reading.{Contents}
-use Rattle.command_words.specs.Wanted.{Wanted, play, run, replay, make, keys, verify, parts, rebuild, blame, trend, delays, page}
+use Rattle.command_words.specs.Wanted.{Wanted, play, run, replay, make, keys, key, verify, parts, rebuild, blame, trend, delays, page}
 use Rattle.command_words.specs.Wanted.{picture, plot, chart, merge}
 use Rattle.command_ends.specs.Steps.{Step}
 use Rattle.command_ends.specs.Steps.Step.{Load, Gives, Refuses}
@@ -62,6 +62,7 @@ question-cause r (run scenario script words hands turns) p held first last resul
 question-cause r (replay scenario history) p held first last result is cause = none p is
 question-cause r (make number) p held first last result is cause = none p is
 question-cause r (keys scenario) p held first last result is cause = none p is
+question-cause r (key scenario actor) p held first last result is cause = none p is
 question-cause r (verify public message sig) p held first last result is cause = none p is
 question-cause r (rebuild scenario pieces) p held first last result is cause = none p is
 question-cause r (merge scenario keeps) p held first last result is cause = none p is

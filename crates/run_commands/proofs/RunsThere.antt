@@ -16,7 +16,8 @@ use Rattle.command_ends.specs.Ended.{ErrorSink}
 use Rattle.command_ends.specs.declared.refusal.Refusal.{Refusal}
 use Rattle.command_ends.specs.declared.refusal.Refusal.TheVariants as refusal
 use Rattle.run_commands.specs.Readers.{Readers, KeepsRules, IsScriptOf, AreWordsOf, are_in_range}
-use Rattle.run_commands.specs.Reading.{scenario_at, scenario_refusal, script_refusal, words_refusal}
+use Rattle.command_files.specs.Scenarios.{scenario_at, scenario_refusal}
+use Rattle.run_commands.specs.Reading.{script_refusal, words_refusal}
 use Rattle.run_commands.specs.Course.{Accepted, RunEnds, RunCourse, RunStep, AskedStep, NextStep, play_step}
 use Rattle.run_commands.specs.Keeps.{HasEnd}
 use Rattle.run_commands.proofs.Headlines.{scenario-valid}

@@ -12,7 +12,8 @@ use Rattle.command_ends.specs.declared.limits.TheConstants.{MOST_BYTES}
 use Rattle.command_ends.specs.declared.refusal.Refusal.{Refusal}
 use Rattle.command_ends.proofs.Completes.{is_load}
 use Rattle.run_commands.specs.Readers.{Readers}
-use Rattle.run_commands.specs.Reading.{accepted, scenario_at, scenario_refusal, script_refusal, words_refusal}
+use Rattle.command_files.specs.Scenarios.{scenario_at, scenario_refusal}
+use Rattle.run_commands.specs.Reading.{accepted, script_refusal, words_refusal}
 use Rattle.run_commands.specs.Reading.{with_scenario, with_script, with_words}
 use Rattle.run_commands.specs.Course.{Accepted, ScriptedCourse}
 

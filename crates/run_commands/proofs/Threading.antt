@@ -18,7 +18,8 @@ use Rattle.command_ends.specs.declared.refusal.Refusal.TheVariants as refusal
 use Rattle.command_ends.proofs.Completes.{alike-same}
 use Rattle.command_ends.proofs.Courses.{comes-now}
 use Rattle.run_commands.specs.Readers.{Readers, RunGives}
-use Rattle.run_commands.specs.Reading.{scenario_at, scenario_refusal, script_refusal, words_refusal}
+use Rattle.command_files.specs.Scenarios.{scenario_at, scenario_refusal}
+use Rattle.run_commands.specs.Reading.{script_refusal, words_refusal}
 use Rattle.run_commands.specs.Course.{Accepted, RunCourse, RunEnds, RunStep}
 use Rattle.run_commands.specs.Told.{told_runs}
 

@@ -8,7 +8,7 @@ use Rattle.script_lines.specs.Scripts.{script_in}
 use Rattle.script_lines.specs.Sayings.{words_in}
 use Rattle.script_lines.specs.declared.script.Line.{Line}
 use Rattle.script_lines.specs.declared.saying.Saying.{Saying}
-use Rattle.command_words.specs.Wanted.{Wanted, play, run, replay, make, keys, verify, parts, rebuild, blame, trend, delays, page}
+use Rattle.command_words.specs.Wanted.{Wanted, play, run, replay, make, keys, key, verify, parts, rebuild, blame, trend, delays, page}
 use Rattle.command_words.specs.Wanted.{picture, plot, chart, merge}
 use Rattle.command_words.specs.Wanted.{is_command, wanted_in}
 use Rattle.command_ends.specs.Steps.{Step}
@@ -20,7 +20,8 @@ use Rattle.command_ends.specs.declared.refusal.LineFault.{LineFault}
 use Rattle.command_ends.specs.declared.refusal.Refusal.{Refusal}
 use Rattle.command_ends.specs.declared.refusal.Refusal.TheVariants as refusal
 use Rattle.run_commands.specs.Readers.{Readers, are_few, are_in_range}
-use Rattle.run_commands.specs.Reading.{accepted, scenario_at, scenario_refusal, script_refusal, words_refusal}
+use Rattle.command_files.specs.Scenarios.{scenario_at, scenario_refusal}
+use Rattle.run_commands.specs.Reading.{accepted, script_refusal, words_refusal}
 use Rattle.run_commands.specs.Reading.{with_script, with_words, with_play, with_history}
 use Rattle.run_commands.specs.Course.{Accepted, MergeEnds, MergeNext, MergeStep, RunEnds, RunStep, ScriptedCourse, CommandStep, AskedStep, NextStep}
 use Rattle.run_commands.specs.Course.{play_step, replay_step}
@@ -194,6 +195,7 @@ module _ (r : Readers) where
       run-told (are_in_range hands turns) scenario script words turns contents step told
   told-command (make number) contents step told = told
   told-command (keys scenario) contents step told = told
+  told-command (key scenario actor) contents step told = told
   told-command (verify public message sig) contents step told = told
   told-command (rebuild scenario pieces) contents step told = told
   told-command (parts scenario history originator number) contents step told = told

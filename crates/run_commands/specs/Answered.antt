@@ -16,7 +16,7 @@ use Rattle.command_ends.specs.declared.refusal.Refusal.TheVariants as refusal
 use Rattle.run_commands.specs.declared.questions.Question.{Question}
 use Rattle.run_commands.specs.Posed.{posed}
 use Rattle.run_commands.specs.Readers.{Readers, NoRequest}
-use Rattle.run_commands.specs.Reading.{scenario_at}
+use Rattle.command_files.specs.Scenarios.{scenario_at}
 
 -- what the words ask over a history, where they ask something
 abbrev pub asked_by : List (List ℕ) → Option Question

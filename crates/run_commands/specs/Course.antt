@@ -9,13 +9,13 @@ use Rattle.script_lines.specs.Sayings.{words_in}
 use Rattle.script_lines.specs.declared.script.Line.{Line}
 use Rattle.script_lines.specs.declared.saying.Saying.{Saying}
 use Rattle.hash_signatures.specs.Verification.{Verifies}
-use Rattle.command_words.specs.Wanted.{Wanted, play, run, replay, make, keys, verify, parts, rebuild, blame, trend, delays, page}
+use Rattle.command_words.specs.Wanted.{Wanted, play, run, replay, make, keys, key, verify, parts, rebuild, blame, trend, delays, page}
 use Rattle.command_words.specs.Wanted.{picture, plot, chart, merge}
 use Rattle.command_words.specs.Wanted.{is_command, wanted_in}
 use Rattle.run_commands.specs.MadeScenario.{made_scenario}
 use Rattle.run_commands.specs.MadeScript.{made_script}
 use Rattle.run_commands.specs.Summary.{summary}
-use Rattle.run_commands.specs.Keys.{keys_text}
+use Rattle.run_commands.specs.Keys.{keys_text, own_key_in}
 use Rattle.run_commands.specs.Verifying.{public_in, verified_text}
 use Rattle.command_ends.specs.declared.limits.TheConstants.{MOST_BYTES, MOST_KEPT_BYTES}
 use Rattle.command_ends.specs.Steps.{Step}
@@ -26,7 +26,8 @@ use Rattle.command_ends.specs.declared.refusal.Refusal.TheVariants as refusal
 use Rattle.run_commands.specs.declared.questions.Question.{Question}
 use Rattle.run_commands.specs.declared.questions.Question.TheVariants as question
 use Rattle.run_commands.specs.Readers.{Readers, are_few, are_in_range, keep_refusal}
-use Rattle.run_commands.specs.Reading.{scenario_at, scenario_refusal, script_refusal, words_refusal}
+use Rattle.command_files.specs.Scenarios.{scenario_at, scenario_refusal}
+use Rattle.run_commands.specs.Reading.{script_refusal, words_refusal}
 use Rattle.run_commands.specs.Reading.{with_scenario, with_script, with_words, with_play, with_history, with_answer}
 use Rattle.run_commands.specs.Reading.{with_pieces}
 
@@ -114,6 +115,19 @@ keys_step scenario (a ∷ more) = with_scenario a (λ c. Gives (keys_text c))
 abbrev pub KeysCourse : List ℕ → List (List ℕ) → Step → Type 0
 KeysCourse scenario contents step = step ≡ keys_step scenario contents
 
+-- the text that there is to be, or a word of the command is wrong where there is none
+abbrev pub or_usage : Option (List ℕ) → Step
+or_usage (Some text) = Gives text
+or_usage None = Refuses refusal.Usage
+
+-- the own key of the actor of a name, of which the scenario has one
+abbrev pub key_step : List ℕ → List ℕ → List (List ℕ) → Step
+key_step scenario actor [] = Load scenario MOST_BYTES
+key_step scenario actor (a ∷ more) = with_scenario a (λ c. or_usage (own_key_in c actor))
+
+abbrev pub KeyCourse : List ℕ → List ℕ → List (List ℕ) → Step → Type 0
+KeyCourse scenario actor contents step = step ≡ key_step scenario actor contents
+
 -- the message and the signature are loaded, and the text is there where the key verifies
 abbrev pub VerifyStep : List ℕ → List ℕ → List ℕ → List (List ℕ) → Step → Type 0
 VerifyStep public message sig [] step = step ≡ Load message MOST_BYTES
@@ -153,6 +167,7 @@ CommandStep r (play scenario script words) contents step = step ≡ play_step r 
 CommandStep r (replay scenario history) contents step = step ≡ replay_step r scenario history contents
 CommandStep r (make number) contents step = step ≡ make_step r number
 CommandStep r (keys scenario) contents step = KeysCourse scenario contents step
+CommandStep r (key scenario actor) contents step = KeyCourse scenario actor contents step
 CommandStep r (verify public message sig) contents step = VerifyCourse (public_in public) message sig contents step
 CommandStep r (run scenario script words hands turns) contents step =
     RunStep r (are_in_range hands turns) scenario script words turns contents step

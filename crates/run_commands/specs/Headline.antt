@@ -19,7 +19,7 @@ use Rattle.script_lines.specs.declared.saying.Saying.{Saying}
 use Rattle.command_words.specs.Wanted.{Wanted, play, run, replay, merge, wanted_in}
 use Rattle.command_ends.specs.Calls.{Call, IsContent}
 use Rattle.run_commands.specs.Readers.{Readers, AreNotRaw, Tells}
-use Rattle.run_commands.specs.Reading.{scenario_at}
+use Rattle.command_files.specs.Scenarios.{scenario_at}
 
 -- contents that are the files', one of each, in order
 abbrev pub AreContents : (List ℕ → Option (List ℕ)) → List (List ℕ) → List (List ℕ) → Type 0

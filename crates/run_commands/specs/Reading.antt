@@ -1,9 +1,6 @@
 -- What a file's content leads to: the next step, where it is accepted, or the refusal. (This project's own.)
-use Rattle.std.specs.Prelude.{ℕ, List, Result, Ok, Err, if◌then◌else◌}
-use Rattle.std.specs.Str.{is_utf8}
-use Rattle.scenario_file.specs.Reading.{Contents, scenario_in}
-use Rattle.scenario_file.specs.declared.refusal.ScenarioRefusal.{ScenarioRefusal}
-use Rattle.scenario_file.specs.declared.refusal.ScenarioRefusal.TheVariants as scenario
+use Rattle.std.specs.Prelude.{ℕ, List, Result, Ok, Err}
+use Rattle.scenario_file.specs.Reading.{Contents}
 use Rattle.script_grammar.specs.declared.fault.ScriptRefusal.{ScriptRefusal}
 use Rattle.script_grammar.specs.declared.fault.ScriptRefusal.TheVariants as script
 use Rattle.script_grammar.specs.Names.{who_of}
@@ -16,24 +13,12 @@ use Rattle.command_ends.specs.Steps.{Step}
 use Rattle.command_ends.specs.Steps.Step.{Gives, Refuses}
 use Rattle.command_ends.specs.declared.refusal.LineFault.{LineFault}
 use Rattle.command_ends.specs.declared.refusal.LineFault.TheVariants as line
-use Rattle.command_ends.specs.declared.refusal.ScenarioFault.TheVariants as fault
+use Rattle.command_files.specs.Scenarios.{scenario_at, scenario_refusal}
 use Rattle.command_ends.specs.declared.refusal.Refusal.{Refusal}
 use Rattle.command_ends.specs.declared.refusal.Refusal.TheVariants as refusal
 use Rattle.command_ends.specs.declared.refusal.NoAnswer.{NoAnswer}
 use Rattle.run_commands.specs.declared.questions.Question.{Question}
 use Rattle.run_commands.specs.Readers.{Readers, request_refusal}
-
--- bytes that are no text are no scenario either
-unfoldable pub scenario_at : List ℕ → Result Contents ScenarioRefusal
-scenario_at bytes = if is_utf8 bytes then scenario_in bytes else Err scenario.BadToml
-
-abbrev pub scenario_refusal : ScenarioRefusal → Refusal
-scenario_refusal scenario.BadToml = refusal.Scenario fault.BadToml
-scenario_refusal (scenario.MissingKey name) = refusal.Scenario (fault.MissingKey name)
-scenario_refusal (scenario.BadValue name) = refusal.Scenario (fault.BadValue name)
-scenario_refusal (scenario.TooMany name) = refusal.Scenario (fault.TooMany name)
-scenario_refusal (scenario.UnknownKey name) = refusal.Scenario (fault.UnknownKey name)
-scenario_refusal scenario.Want = refusal.Memory
 
 abbrev pub script_refusal : ScriptRefusal → Refusal
 script_refusal (script.BadLine number) = refusal.Script line.BadLine number

@@ -11,7 +11,7 @@ use Rattle.command_ends.specs.Steps.Step.{Gives, Refuses}
 use Rattle.command_ends.specs.declared.refusal.LineFault.{LineFault}
 use Rattle.command_ends.specs.declared.refusal.Refusal.TheVariants as refusal
 use Rattle.run_commands.specs.Readers.{Readers, Tells, are_few, are_in_range}
-use Rattle.run_commands.specs.Reading.{scenario_at, scenario_refusal}
+use Rattle.command_files.specs.Scenarios.{scenario_at, scenario_refusal}
 use Rattle.run_commands.specs.Course.{Accepted, ScriptedCourse, RunStep, MergeStep, CommandStep, replay_step}
 
 -- the text of a history, which tells it

@@ -4,7 +4,7 @@ ghost use Rattle.scenario_file.specs.Reading.{contents};
 ghost use Rattle.scenario_file.specs.Valid.{IsScenario};
 ghost use Rattle.command_ends.specs.Calls.{TextCause, FaultsOfFiles};
 ghost use Rattle.run_commands.specs.Readers.{AreShort, are_few};
-ghost use Rattle.run_commands.specs.Reading.{scenario_at};
+ghost use Rattle.command_files.specs.Scenarios.{scenario_at};
 ghost use Rattle.run_commands.specs.Course.{MergeCourse, MergeStep};
 ghost use Rattle.run_commands.specs.Told.{told_merges};
 

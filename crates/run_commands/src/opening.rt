@@ -7,12 +7,13 @@ ghost use Rattle.script_lines.specs.Sayings.{words_in};
 ghost use Rattle.script_lines.specs.Scripts.{script_in};
 ghost use Rattle.command_ends.specs.Calls.{FaultsOfFiles};
 ghost use Rattle.run_commands.specs.Readers.{IsScriptOf, AreWordsOf};
-ghost use Rattle.run_commands.specs.Reading.{scenario_at, scenario_refusal, with_scenario, with_script, with_words};
+ghost use Rattle.command_files.specs.Scenarios.{scenario_at};
+ghost use Rattle.run_commands.specs.Reading.{with_scenario, with_script, with_words};
 ghost use Rattle.run_commands.specs.Opened.{Leads, OpenCause, IsOf};
 
-use command_ends::{LineFault, Refusal, ScenarioFault, load};
+use command_ends::{LineFault, Refusal, load};
 use outside::Files;
-use scenario_file::{Scenario, ScenarioRefusal};
+use scenario_file::Scenario;
 use script_lines::{Script, ScriptRefusal, Words};
 use std::alloc::Global;
 
@@ -80,24 +81,7 @@ pub fn read_scenario(alloc: Global, content: &[u8]) -> Result<Scenario, Refusal>
     ensures found { IfOk result (λ scenario. scenario_at content.now ≡ Ok (contents scenario)) }
     ensures valid { IfOk result (λ scenario. IsScenario (contents scenario)) }
 {
-    match Scenario::read(alloc, content) {
-        Ok(scenario) => Ok(scenario),
-        Err(refusal) => Err(scenario_refusal(refusal)),
-    }
-}
-
-fn scenario_refusal(refusal: ScenarioRefusal) -> Refusal
-    ensures { result ≡ scenario_refusal refusal }
-{
-    let fault = match refusal {
-        ScenarioRefusal::BadToml => ScenarioFault::BadToml,
-        ScenarioRefusal::MissingKey { name } => ScenarioFault::MissingKey { name },
-        ScenarioRefusal::BadValue { name } => ScenarioFault::BadValue { name },
-        ScenarioRefusal::TooMany { name } => ScenarioFault::TooMany { name },
-        ScenarioRefusal::UnknownKey { name } => ScenarioFault::UnknownKey { name },
-        ScenarioRefusal::Want => return Refusal::Memory,
-    };
-    Refusal::Scenario { fault }
+    command_files::read_scenario(alloc, content)
 }
 
 /// The script of a content.

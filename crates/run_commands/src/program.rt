@@ -9,7 +9,7 @@ use crate::made::make;
 use crate::merged::merge;
 use crate::questions::posed;
 use crate::runs::Runs;
-use crate::scripted::{keys, play, replay};
+use crate::scripted::{key, keys, play, replay};
 use crate::threaded::{RunWords, run};
 use crate::verifying::verify;
 use command_ends::Refusal;
@@ -83,6 +83,7 @@ fn unposed_text<R: Runs, F: Files>(
         Asked::Replay { scenario, history } => replay(alloc, runs, scenario, history, files),
         Asked::Make { number } => make(alloc, runs, number),
         Asked::Keys { scenario } => keys(alloc, scenario, files),
+        Asked::Key { scenario, actor } => key(alloc, scenario, actor, files),
         Asked::Verify {
             public,
             message,

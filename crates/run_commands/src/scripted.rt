@@ -5,14 +5,14 @@ ghost use Rattle.command_ends.specs.Steps.Step.{Gives};
 ghost use Rattle.command_ends.specs.Calls.{TextCause, FaultsOfFiles};
 ghost use Rattle.script_grammar.specs.Names.{who_of};
 ghost use Rattle.script_lines.specs.Scripts.{script_in};
-ghost use Rattle.run_commands.specs.Keys.{keys_text};
+ghost use Rattle.run_commands.specs.Keys.{keys_text, own_key_in};
 ghost use Rattle.run_commands.specs.Readers.{IsScriptOf};
-ghost use Rattle.run_commands.specs.Reading.{scenario_at};
-ghost use Rattle.run_commands.specs.Course.{KeysCourse, ScriptedCourse};
+ghost use Rattle.command_files.specs.Scenarios.{scenario_at};
+ghost use Rattle.run_commands.specs.Course.{KeyCourse, KeysCourse, ScriptedCourse, or_usage};
 ghost use Rattle.run_commands.specs.Told.{PlayEnds, ReplayCourse};
 ghost use Rattle.run_commands.specs.Made.{Makes};
 
-use crate::actor_lines::keys_text;
+use crate::actor_lines::{keys_text, own_key_text};
 use crate::opening::{open_scenario, open_script, open_words};
 use crate::runs::Runs;
 use command_ends::{Refusal, load};
@@ -134,6 +134,33 @@ fn keys_of(alloc: Global, scenario: &Scenario) -> Result<Vec<u8>, Refusal>
 {
     match keys_text(alloc, scenario) {
         Ok(text) => Ok(text.into_bytes()),
+        Err(_) => Err(Refusal::Memory),
+    }
+}
+
+/// What the own key of a scenario's actor is made of.
+pub fn key<F: Files>(
+    alloc: Global,
+    scenario: &str,
+    actor: &str,
+    files: &mut F,
+) -> Result<Vec<u8>, Refusal>
+    ensures file_faults { FaultsOfFiles result (F.faults files.old) (F.faults files.new) }
+    ensures cause { TextCause (KeyCourse scenario.now actor.now) (F.held files.old) (F.faults files.old) (F.faults files.new) [] result }
+{
+    match open_scenario(alloc, scenario, files) {
+        Ok(scenario) => key_of(alloc, &scenario, actor),
+        Err(refusal) => Err(refusal),
+    }
+}
+
+fn key_of(alloc: Global, scenario: &Scenario, actor: &str) -> Result<Vec<u8>, Refusal>
+    requires { IsScenario (contents scenario.now) }
+    ensures { Makes (or_usage (own_key_in (contents scenario.now) actor.now)) result }
+{
+    match own_key_text(alloc, scenario, actor) {
+        Ok(Some(text)) => Ok(text.into_bytes()),
+        Ok(None) => Err(Refusal::Usage),
         Err(_) => Err(Refusal::Memory),
     }
 }

@@ -6,7 +6,7 @@ ghost use Rattle.script_grammar.specs.Names.{who_of};
 ghost use Rattle.script_lines.specs.Scripts.{script_in};
 ghost use Rattle.command_ends.specs.Calls.{TextCause, FaultsOfFiles};
 ghost use Rattle.run_commands.specs.Readers.{IsScriptOf, are_in_range};
-ghost use Rattle.run_commands.specs.Reading.{scenario_at};
+ghost use Rattle.command_files.specs.Scenarios.{scenario_at};
 ghost use Rattle.run_commands.specs.Course.{RunCourse, RunStep};
 ghost use Rattle.run_commands.specs.Told.{told_runs};
 

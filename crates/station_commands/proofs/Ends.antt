@@ -1,5 +1,5 @@
 -- Why a life ended so: at the opening of its file, at its beginning, or as it lived.
-use Rattle.std.proofs.Common.{◌≡◌, ◌≤◌, ◌^◌, ℕ, List, Option, Result, Ok, Err, IfSome, refl, sym, subst, length}
+use Rattle.std.proofs.Common.{◌≡◌, ℕ, List, Option, Result, Err, IfSome, refl, subst}
 use Rattle.outside.specs.Faults.{HasRisen}
 use Rattle.outside.specs.declared.files.LoadAnswer.TheVariants as load
 use Rattle.scenario_file.specs.Reading.{Contents}
@@ -10,7 +10,8 @@ use Rattle.stations.specs.declared.beginning.BeginRefusal.TheVariants as begin
 use Rattle.stations.specs.declared.living.TheConstants.{MOST_LINE as most_line}
 use Rattle.stations.specs.declared.living.Halt.{Halt}
 use Rattle.stations.specs.declared.living.Halt.TheVariants as halt
-use Rattle.stations.specs.Beginning.{BeginsWith, IsHeldWhole}
+use Rattle.stations.specs.Beginning.{BeginsWith, IsHeldWhole, TellsKey}
+use Rattle.world_rules.specs.Scenarios.{HasKey}
 use Rattle.stations.specs.Station.{list_of}
 use Rattle.stations.specs.declared.station.Station.{Station}
 use Rattle.printed_history.specs.Reading.{contents_in}
@@ -19,23 +20,32 @@ use Rattle.command_ends.specs.declared.refusal.Refusal.TheVariants as ends
 use Rattle.station_commands.specs.declared.refusal.StationFault.TheVariants as fault
 use Rattle.station_commands.specs.declared.refusal.StationRefusal.{StationRefusal}
 use Rattle.station_commands.specs.declared.refusal.StationRefusal.TheVariants as refusal
-use Rattle.station_commands.specs.Lives.{LifeCause, Lived, LivedUntilFull, NotBegun, NothingOrLived, OpenCause, PutsNothing}
+use Rattle.station_commands.specs.Lives.{LifeCause, Lived, NotBegun, OpenCause, PutsNothing}
 use Rattle.station_commands.specs.Lives.{Reach, AreEntriesOf, HasBegun, begin_refusal, halt_refusal}
 use Rattle.station_commands.specs.Lives.NothingOrLived.{nothing, lived}
+
+-- that the key is another one is told where it is
+pub other_key : (c : Contents) (actor : ℕ) (e : BeginRefusal) → e ≡ begin.OtherKey
+    → (let result : Result Station BeginRefusal = Err e in TellsKey c actor result) → HasKey c actor → ⊥
+other_key c actor begin.OtherKey same tells has = tells has
+other_key c actor (begin.NotLoaded why) same tells has = cc
+other_key c actor (begin.NotRead why) same tells has = cc
+other_key c actor begin.Want same tells has = cc
 
 -- a station that `stations` refuses to begin
 pub not_begun : (c : Contents) (actor : ℕ) (held : Option Held) (before after : ℕ) (name : List ℕ) (e : BeginRefusal)
     → IfSome held (λ it. BeginsWith c actor it.bytes (Err e))
-    → (e ≡ begin.NotLoaded load.Failed → HasRisen before after)
+    → (e ≡ begin.NotLoaded load.Failed → HasRisen before after) → (e ≡ begin.OtherKey → HasKey c actor → ⊥)
     → NotBegun c actor held before after name (begin_refusal e name)
-not_begun c actor held before after name (begin.NotLoaded load.Failed) is failed = (refl, failed refl)
-not_begun c actor held before after name (begin.NotLoaded load.TooLong) is failed = (refl, is)
-not_begun c actor held before after name (begin.NotLoaded load.Want) is failed = tt
-not_begun c actor held before after name (begin.NotRead (kept.BadLine line)) is failed = is
-not_begun c actor held before after name (begin.NotRead (kept.NotLegal stamp)) is failed = is
-not_begun c actor held before after name (begin.NotRead (kept.OtherWords stamp)) is failed = is
-not_begun c actor held before after name (begin.NotRead kept.Want) is failed = tt
-not_begun c actor held before after name begin.Want is failed = tt
+not_begun c actor held before after name (begin.NotLoaded load.Failed) is failed other = (refl, failed refl)
+not_begun c actor held before after name (begin.NotLoaded load.TooLong) is failed other = (refl, is)
+not_begun c actor held before after name (begin.NotLoaded load.Want) is failed other = tt
+not_begun c actor held before after name (begin.NotRead (kept.BadLine line)) is failed other = is
+not_begun c actor held before after name (begin.NotRead (kept.NotLegal stamp)) is failed other = is
+not_begun c actor held before after name (begin.NotRead (kept.OtherWords stamp)) is failed other = is
+not_begun c actor held before after name (begin.NotRead kept.Want) is failed other = tt
+not_begun c actor held before after name begin.Want is failed other = tt
+not_begun c actor held before after name begin.OtherKey is failed other = other refl
 
 -- the file wasn't opened
 pub ends_unopened : (c : Contents) (actor : ℕ) (name : List ℕ) (reach : Reach) (e : StationRefusal) → PutsNothing reach
@@ -57,6 +67,9 @@ ends_unopened c actor name reach (refusal.Known (ends.NoAnswer why)) none cause 
 ends_unopened c actor name reach (refusal.Known ends.Output) none cause = absurd cause
 ends_unopened c actor name reach (refusal.Own fault.InUse) none cause = none
 ends_unopened c actor name reach (refusal.Own (fault.NotKept why)) none cause = absurd cause
+ends_unopened c actor name reach (refusal.Own (fault.BadRing line)) none cause = absurd cause
+ends_unopened c actor name reach (refusal.Own (fault.BadKey line)) none cause = absurd cause
+ends_unopened c actor name reach (refusal.Own fault.OtherKey) none cause = absurd cause
 ends_unopened c actor name reach (refusal.Own fault.Input) none cause = absurd cause
 ends_unopened c actor name reach (refusal.Own fault.Keep) none cause = absurd cause
 ends_unopened c actor name reach (refusal.Own fault.Full) none cause = absurd cause
@@ -78,6 +91,9 @@ unbegun c actor name reach (refusal.Known ends.NotVerified) none cause = absurd 
 unbegun c actor name reach (refusal.Known (ends.NoAnswer why)) none cause = absurd cause
 unbegun c actor name reach (refusal.Known ends.Output) none cause = absurd cause
 unbegun c actor name reach (refusal.Own (fault.NotKept why)) none cause = (none, cause)
+unbegun c actor name reach (refusal.Own fault.OtherKey) none cause = (none, cause)
+unbegun c actor name reach (refusal.Own (fault.BadRing line)) none cause = absurd cause
+unbegun c actor name reach (refusal.Own (fault.BadKey line)) none cause = absurd cause
 unbegun c actor name reach (refusal.Own fault.InUse) none cause = absurd cause
 unbegun c actor name reach (refusal.Own fault.Input) none cause = absurd cause
 unbegun c actor name reach (refusal.Own fault.Keep) none cause = absurd cause

@@ -1,3 +1,4 @@
 pub mod Scenarios
+pub mod Holdings
 pub mod Ends
 pub mod Calls

@@ -1,4 +1,5 @@
 pub mod Refusals
 pub mod Opening
+pub mod Holding
 pub mod Lives
 pub mod Courses

@@ -4,6 +4,7 @@ use Rattle.outside.specs.Faults.{HasRisen}
 use Rattle.outside.specs.declared.files.LoadAnswer.TheVariants as load
 use Rattle.scenario_file.specs.Reading.{Contents}
 use Rattle.history_rules.specs.Events.{Entry}
+use Rattle.world_rules.specs.Scenarios.{HasKey}
 use Rattle.kept_lines.specs.Reading.{kept_in}
 use Rattle.kept_lines.specs.declared.refusal.KeptRefusal.{KeptRefusal}
 use Rattle.kept_lines.specs.declared.refusal.KeptRefusal.TheVariants as kept
@@ -91,6 +92,7 @@ NotBegun c actor held before after name (refusal.Known (ends.TooLong named)) =
     (named ≡ name) × IfSome held (λ it. 2 ^ 32 ≤ length it.bytes)
 NotBegun c actor held before after name (refusal.Own (fault.NotKept why)) =
     IfSome held (λ it. IsFirstFault why (kept_in c actor (whole_lines it.bytes)))
+NotBegun c actor held before after name (refusal.Own fault.OtherKey) = HasKey c actor → ⊥
 NotBegun c actor held before after name (refusal.Known ends.Memory) = Unit {0}
 NotBegun c actor held before after name other = ⊥
 
@@ -106,6 +108,7 @@ begin_refusal (begin.NotRead (kept.BadLine line)) name = refusal.Own (fault.NotK
 begin_refusal (begin.NotRead (kept.NotLegal stamp)) name = refusal.Own (fault.NotKept (keep.NotLegal stamp))
 begin_refusal (begin.NotRead (kept.OtherWords stamp)) name = refusal.Own (fault.NotKept (keep.OtherWords stamp))
 begin_refusal (begin.NotRead kept.Want) name = refusal.Known ends.Memory
+begin_refusal begin.OtherKey name = refusal.Own fault.OtherKey
 begin_refusal begin.Want name = refusal.Known ends.Memory
 
 -- ---- How it lives.
@@ -161,6 +164,7 @@ LifeCause c actor name reach (Err (refusal.Known (ends.TooLong named))) =
 LifeCause c actor name reach (Err (refusal.Own fault.InUse)) = PutsNothing reach
 LifeCause c actor name reach (Err (refusal.Own (fault.NotKept why))) = PutsNothing reach
     × IfSome (reach.lies name) (λ it. IsFirstFault why (kept_in c actor (whole_lines it.bytes)))
+LifeCause c actor name reach (Err (refusal.Own fault.OtherKey)) = PutsNothing reach × (HasKey c actor → ⊥)
 LifeCause c actor name reach (Err (refusal.Own fault.Input)) =
     Lived c actor name reach × HasRisen reach.line_faults_before reach.line_faults_after
 LifeCause c actor name reach (Err (refusal.Own fault.Keep)) =

@@ -1,6 +1,6 @@
 -- The status of what ends a station alone, the line that tells of it, and how a station that ended so tells it. (This
 -- project's own.)
-use Rattle.std.specs.Prelude.{◌≡◌, ℕ, List, ◌++◌, codes, Result, Ok, Err}
+use Rattle.std.specs.Prelude.{◌≡◌, ℕ, List, ◌++◌, codes, decimal, Result, Ok, Err}
 use Rattle.outside.specs.Faults.{HasRisen}
 use Rattle.outside.specs.Piece.{with_piece}
 use Rattle.command_ends.specs.Output.{PutsBeginning}
@@ -14,6 +14,9 @@ use Rattle.station_commands.specs.declared.refusal.StationRefusal.TheVariants as
 abbrev pub status_of : StationFault → ℕ
 status_of fault.InUse = 3
 status_of (fault.NotKept why) = 5
+status_of (fault.BadRing line) = 5
+status_of (fault.BadKey line) = 5
+status_of fault.OtherKey = 5
 status_of fault.Input = 11
 status_of fault.Keep = 10
 status_of fault.Full = 10
@@ -21,6 +24,9 @@ status_of fault.Full = 10
 abbrev pub line_text : StationFault → List ℕ
 line_text fault.InUse = codes "spire: keep InUse\n"
 line_text (fault.NotKept why) = codes "spire: keep " ++ keep_fault_text why ++ codes "\n"
+line_text (fault.BadRing line) = codes "spire: ring BadLine " ++ decimal line ++ codes "\n"
+line_text (fault.BadKey line) = codes "spire: key BadLine " ++ decimal line ++ codes "\n"
+line_text fault.OtherKey = codes "spire: key OtherKey\n"
 line_text fault.Input = codes "spire: input fault\n"
 line_text fault.Keep = codes "spire: keep fault\n"
 line_text fault.Full = codes "spire: keep full\n"

@@ -1,10 +1,10 @@
 //! A station that begins: its file is opened, recovered and read.
-ghost use Rattle.std.specs.Prelude.{◌≡◌, ◌<◌, true, IfOk, IfSome, OnOk};
+ghost use Rattle.std.specs.Prelude.{◌≡◌, ◌<◌, true, IfOk, IfSome, OnOk, length, option_copied};
 ghost use Rattle.scenario_file.specs.Reading.{contents};
 ghost use Rattle.scenario_file.specs.Valid.{IsScenario};
 ghost use Rattle.script_grammar.specs.Names.{is_correct, who_of};
 ghost use Rattle.world_rules.specs.Scenarios.{actors_in};
-ghost use Rattle.printed_history.specs.Reading.{contents_in};
+ghost use Rattle.printed_history.specs.Reading.{contents_in, known_by};
 ghost use Rattle.stations.specs.Beginning.{IsHeldWhole};
 ghost use Rattle.stations.specs.Station.{IsReady, list_of};
 ghost use Rattle.station_commands.specs.Lives.{BeginCause, OpenCause, AreEntriesOf, begin_refusal};
@@ -15,7 +15,7 @@ use command_ends::{KeepFault, Refusal};
 use kept_lines::KeptRefusal;
 use outside::LoadAnswer;
 use plain_lists::{Text, Want};
-use scenario_file::Scenario;
+use scenario_file::{HeldKeys, Scenario};
 use station_files::{KeptFile, OpenAnswer};
 use stations::{BeginRefusal, Station, begin};
 use std::alloc::Global;
@@ -41,10 +41,11 @@ pub(crate) fn open_named<K: Keep>(
     }
 }
 
-/// The station that the file of this name tells.
+/// The station that the file of this name tells, of one who holds these keys, or all.
 pub(crate) fn begin_kept<'a, K: KeptFile>(
     alloc: Global,
     scenario: &'a Scenario,
+    held: Option<&'a HeldKeys>,
     actor: u32,
     name: Text,
     keep: &mut K,
@@ -52,13 +53,14 @@ pub(crate) fn begin_kept<'a, K: KeptFile>(
     requires scenario { IsScenario (contents scenario.now) }
     requires there { actor < actors_in (contents scenario.now) }
     requires correct { is_correct (who_of (contents scenario.now)) actor ≡ true }
+    requires ring { IfSome (option_copied held) (λ keys. length keys.ring ≡ actors_in (contents scenario.now)) }
     ensures ready { IfOk result (λ station. IsReady station) }
-    ensures same { IfOk result (λ station. (contents_in station.so_far ≡ contents scenario.now) × (station.actor ≡ actor)) }
-    ensures read { IfOk result (λ station. AreEntriesOf (contents scenario.now) actor (K.held keep.old) (list_of station)) }
+    ensures same { IfOk result (λ station. (contents_in station.so_far ≡ known_by scenario.now held.entry) × (station.actor ≡ actor)) }
+    ensures read { IfOk result (λ station. AreEntriesOf (known_by scenario.now held.entry) actor (K.held keep.old) (list_of station)) }
     ensures whole { IfOk result (λ station. IsHeldWhole (contents_in station.so_far) (list_of station) (K.held keep.new)) }
-    ensures cause { BeginCause (contents scenario.now) actor (K.held keep.old) (K.faults keep.old) (K.faults keep.new) name result }
+    ensures cause { BeginCause (known_by scenario.now held.entry) actor (K.held keep.old) (K.faults keep.old) (K.faults keep.new) name result }
 {
-    match begin(alloc, scenario, actor, keep) {
+    match begin(alloc, scenario, held, actor, keep) {
         Ok(station) => Ok(station),
         Err(refusal) => Err(begin_refusal(refusal, name)),
     }
@@ -68,6 +70,7 @@ fn begin_refusal(refusal: BeginRefusal, name: Text) -> StationRefusal
     ensures { result ≡ begin_refusal refusal name }
 {
     let fault = match refusal {
+        BeginRefusal::OtherKey => return StationRefusal::Own(StationFault::OtherKey),
         BeginRefusal::NotLoaded(LoadAnswer::Failed) => {
             return StationRefusal::Known(Refusal::Fault { name });
         }

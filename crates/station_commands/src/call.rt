@@ -5,8 +5,9 @@ ghost use Rattle.scenario_file.specs.Valid.{IsScenario};
 ghost use Rattle.command_ends.specs.Ended.{sink_of};
 ghost use Rattle.station_words.specs.Wanted.{wanted};
 ghost use Rattle.station_commands.specs.Lives.{reach_of};
-ghost use Rattle.station_commands.specs.Courses.{InScenario, Course, StationEnds, given_of, words_refusal};
+ghost use Rattle.station_commands.specs.Courses.{InScenario, Course, StationEnds, shelf_of, words_refusal};
 
+use crate::holding::open_keys;
 use crate::keep::Keep;
 use crate::life::live_kept;
 use crate::opening::{find_actor, open_scenario};
@@ -20,11 +21,13 @@ use station_files::Lines;
 use station_words::{StationWords, read_station};
 use std::alloc::Global;
 
-/// Lives the life of the actor that the words name until the input ends: `station SCENARIO ACTOR KEEP`. What it does is kept in
-/// the file KEEP, and no word is put to `out` that isn't kept. That file is touched only once words, scenario and actor are
-/// found right. Gives the status, and puts the line of a refusal to `err`: 0 where the input ended, 2 for other words, or where
-/// ACTOR is no correct actor, 3 for a file, be it one that another process has, 4 for a scenario that is refused, 5 for
-/// a file that isn't what the actor kept, 6 for the output, 7 for want of memory, 10 where nothing more could be kept, 11 for the input.
+/// Lives the life of the actor that the words name until the input ends: `station SCENARIO ACTOR KEEP`, or with RING KEY behind, which
+/// hold the ring of all public keys and the actor's own key: then the scenario has no seed. What it does is kept in the file KEEP, and
+/// no word is put to `out` that isn't kept. That file is touched only once words, scenario, actor and the files of keys are found
+/// right. Gives the status, and puts the line of a refusal to `err`: 0 where the input ended, 2 for other words, or where ACTOR is no
+/// correct actor, 3 for a file, be it one that another process has, 4 for a scenario that is refused, 5 for a file that isn't what
+/// the actor kept, or for keys that aren't a ring or the actor's, 6 for the output, 7 for want of memory, 10 where nothing more could
+/// be kept, 11 for the input.
 pub fn station<F: Files, K: Keep, L: Lines, O: Sink, E: Sink>(
     alloc: Global,
     words: &[String],
@@ -35,7 +38,7 @@ pub fn station<F: Files, K: Keep, L: Lines, O: Sink, E: Sink>(
     err: &mut E,
 ) -> u8
     ensures { StationEnds (keep.new ≡ keep.old)
-        (given_of (map string_bytes words.now) (F.held files.old) (F.faults files.old) (F.faults files.new))
+        (map string_bytes words.now) (shelf_of (F.held files.old) (F.faults files.old) (F.faults files.new))
         (reach_of (K.lies keep.old) (K.held keep.new) (K.faults keep.old) (K.faults keep.new) (L.waiting lines.old) (L.faults lines.old) (L.faults lines.new) (O.told out.old) (O.told out.new) (O.faults out.old) (O.faults out.new))
         (sink_of (E.faults err.old) (E.faults err.new) (E.told err.old) (E.told err.new))
         result }
@@ -55,7 +58,7 @@ fn live_as_asked<F: Files, K: Keep, L: Lines, O: Sink>(
     out: &mut O,
 ) -> Result<(), StationRefusal>
     ensures { Course (keep.new ≡ keep.old)
-        (given_of (map string_bytes words.now) (F.held files.old) (F.faults files.old) (F.faults files.new))
+        (map string_bytes words.now) (shelf_of (F.held files.old) (F.faults files.old) (F.faults files.new))
         (reach_of (K.lies keep.old) (K.held keep.new) (K.faults keep.old) (K.faults keep.new) (L.waiting lines.old) (L.faults lines.old) (L.faults lines.new) (O.told out.old) (O.told out.new) (O.faults out.old) (O.faults out.new))
         result }
 {
@@ -63,8 +66,8 @@ fn live_as_asked<F: Files, K: Keep, L: Lines, O: Sink>(
         Ok(asked) => asked,
         Err(answer) => return Err(StationRefusal::Known(words_refusal(answer))),
     };
-    match open_scenario(alloc, asked.scenario, files) {
-        Ok(scenario) => live_in(alloc, &scenario, &asked, keep, lines, out),
+    match open_scenario(alloc, asked.scenario, asked.keys, files) {
+        Ok(scenario) => live_in(alloc, &scenario, &asked, files, keep, lines, out),
         Err(refusal) => Err(StationRefusal::Known(refusal)),
     }
 }
@@ -78,21 +81,35 @@ fn words_refusal(answer: WordsAnswer) -> Refusal
     }
 }
 
-fn live_in<K: Keep, L: Lines, O: Sink>(
+fn live_in<F: Files, K: Keep, L: Lines, O: Sink>(
     alloc: Global,
     scenario: &Scenario,
     asked: &StationWords<'_>,
+    files: &mut F,
     keep: &mut K,
     lines: &mut L,
     out: &mut O,
 ) -> Result<(), StationRefusal>
     requires { IsScenario (contents scenario.now) }
-    ensures { InScenario (keep.new ≡ keep.old) (contents scenario.now) (wanted asked.now)
+    ensures { InScenario (keep.new ≡ keep.old) (contents scenario.now) (wanted asked.now) (shelf_of (F.held files.old) (F.faults files.old) (F.faults files.new))
         (reach_of (K.lies keep.old) (K.held keep.new) (K.faults keep.old) (K.faults keep.new) (L.waiting lines.old) (L.faults lines.old) (L.faults lines.new) (O.told out.old) (O.told out.new) (O.faults out.old) (O.faults out.new))
         result }
 {
-    match find_actor(alloc, scenario, asked.actor) {
-        Ok(actor) => live_kept(alloc, scenario, actor, asked.keep, keep, lines, out),
-        Err(refusal) => Err(StationRefusal::Known(refusal)),
+    let actor = match find_actor(alloc, scenario, asked.actor) {
+        Ok(actor) => actor,
+        Err(refusal) => return Err(StationRefusal::Known(refusal)),
+    };
+    match open_keys(alloc, scenario, asked.actor, asked.keys, files) {
+        Ok(keys) => live_kept(
+            alloc,
+            scenario,
+            keys.as_ref(),
+            actor,
+            asked.keep,
+            keep,
+            lines,
+            out,
+        ),
+        Err(refusal) => Err(refusal),
     }
 }

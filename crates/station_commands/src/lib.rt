@@ -4,7 +4,9 @@
 
 mod beginning;
 pub mod call;
+mod holding;
 mod keep;
+pub mod laws;
 mod life;
 mod opening;
 mod refusal;

@@ -8,6 +8,12 @@ pub enum StationFault {
     InUse,
     /// The file isn't what the actor kept.
     NotKept { fault: KeepFault },
+    /// The first line of the ring's file that isn't its actor's. Lines are counted from 1.
+    BadRing { line: u64 },
+    /// The own key's file isn't the actor's line.
+    BadKey { line: u64 },
+    /// The own key isn't the one whose public key the ring has for the actor.
+    OtherKey,
     /// The lines can't be read any more.
     Input,
     /// The file couldn't be written or made durable.

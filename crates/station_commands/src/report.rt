@@ -46,7 +46,10 @@ fn status_of(fault: StationFault) -> u8
 {
     match fault {
         StationFault::InUse => 3,
-        StationFault::NotKept { fault: _ } => 5,
+        StationFault::NotKept { fault: _ }
+        | StationFault::BadRing { line: _ }
+        | StationFault::BadKey { line: _ }
+        | StationFault::OtherKey => 5,
         StationFault::Keep | StationFault::Full => 10,
         StationFault::Input => 11,
     }
@@ -58,6 +61,9 @@ fn line_of(alloc: Global, fault: StationFault) -> Result<String, AllocError>
     match fault {
         StationFault::InUse => String::from_str(alloc, "spire: keep InUse\n"),
         StationFault::NotKept { fault } => keep_line(alloc, fault),
+        StationFault::BadRing { line } => format!(in alloc; "spire: ring BadLine {line}\n"),
+        StationFault::BadKey { line } => format!(in alloc; "spire: key BadLine {line}\n"),
+        StationFault::OtherKey => String::from_str(alloc, "spire: key OtherKey\n"),
         StationFault::Input => String::from_str(alloc, "spire: input fault\n"),
         StationFault::Keep => String::from_str(alloc, "spire: keep fault\n"),
         StationFault::Full => String::from_str(alloc, "spire: keep full\n"),

@@ -2,7 +2,7 @@
 ghost use Rattle.std.specs.Prelude.{◌≡◌, IfOk, [], false, true};
 ghost use Rattle.clap.specs.Words.{app_of, rule_of};
 ghost use Rattle.command_words.specs.CommandLine.{IsCommand, text_rule, top_shape};
-ghost use Rattle.station_words.specs.CommandLine.{station_app, station_shape};
+ghost use Rattle.station_words.specs.CommandLine.{keys_rule, station_app, station_shape};
 
 use clap::{Arg, Command};
 use std::alloc::{AllocError, Global};
@@ -15,13 +15,22 @@ fn text<'a>(alloc: Global, id: &'a str) -> Arg<'a>
     Arg::new(alloc, id).required(true)
 }
 
+// The files of a ring and of an own key, which may be left out.
+fn keys<'a>(alloc: Global) -> Arg<'a>
+    ensures rule { rule_of result ≡ keys_rule }
+    ensures local { result.global ≡ false }
+{
+    Arg::new(alloc, "keys").num_args(2..=2)
+}
+
 fn station<'a>(alloc: Global) -> Result<Command<'a>, AllocError>
     ensures { IfOk result (IsCommand station_shape) }
 {
     Command::new(alloc, "station")
         .arg(text(alloc, "scenario"))?
         .arg(text(alloc, "actor"))?
-        .arg(text(alloc, "keep"))
+        .arg(text(alloc, "keep"))?
+        .arg(keys(alloc))
 }
 
 fn top<'a>(alloc: Global) -> Command<'a>

@@ -33,7 +33,7 @@ fn found_in<'a>(matches: &ArgMatches<'a>) -> Result<StationWords<'a>, WordsAnswe
 
 /// The station that the words, those behind the program's name, ask for. It is given only where `clap` takes the words, and
 /// is the one that `clap` finds in them; `Usage` comes only where `clap` refuses them for another cause than memory. Three
-/// names behind `station`, which aren't empty and don't begin with a hyphen, are given back.
+/// names behind `station`, or five, which aren't empty and don't begin with a hyphen, are given back.
 pub fn read_station<'a>(alloc: Global, words: &'a [String]) -> Result<StationWords<'a>, WordsAnswer>
     ensures taken { IfOk result (λ station. is_taken (map string_bytes words.entry.now) ≡ true) }
     ensures asked { IfOk result (λ station. wanted_in (map string_bytes words.entry.now) ≡ Some (wanted station)) }

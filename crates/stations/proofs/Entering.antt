@@ -7,11 +7,11 @@ use Rattle.agreement.proofs.Places.{stands_last}
 use Rattle.scenario_file.specs.Reading.{Contents}
 use Rattle.script_grammar.specs.Names.{is_correct, who_of}
 use Rattle.history_rules.specs.Events.{Entry}
-use Rattle.world_rules.specs.Scenarios.{setup_of, actors_in}
+use Rattle.world_rules.specs.Scenarios.{HasKey, setup_of, actors_in}
 use Rattle.run_lines.specs.declared.event_line.EventLine.{EventLine}
 use Rattle.printed_history.specs.declared.reading.SoFar.{SoFar}
 use Rattle.printed_history.specs.Histories.{event_from, standing_event, entry_next}
-use Rattle.printed_history.specs.Reading.{IsSoFar, HasMore, Takes, contents_in, world_in}
+use Rattle.printed_history.specs.Reading.{IsSoFar, HasMore, Takes, contents_in, is_among, is_at_hand, world_in}
 use Rattle.joint_lists.specs.Stations.{IsStation, acts_alone}
 use Rattle.joint_lists.proofs.Alone.{alone_more}
 use Rattle.kept_lines.specs.Lines.{kept_line, kept_from, kept_file}
@@ -195,6 +195,10 @@ pub made_ready : AnsweredIsStation → (old new : Station) (asked : Asked) (fron
     new.size ≡ old.size → IsReadyFor (list_of old) new
 made_ready law old new asked front m ready actor taken size = record {
   at_hand = m.more.is_so_far;
+  own = (λ i. is_among (m.more.at_hand i) (actor i)) ∙ ready.own;
+  key =
+      subst (λ (c : Contents). HasKey c new.actor) (sym m.more.same)
+      (subst (HasKey (contents_in old.so_far)) (sym actor) ready.key);
   station =
       subst (λ (c : Contents). IsStation c new.actor (list_of new)) (sym m.more.same)
       (subst (λ (a : ℕ). IsStation (contents_in old.so_far) a (list_of new)) (sym actor)
@@ -296,6 +300,10 @@ pub counted : (before : List Entry) (e : Entry) (old new : Station) (bytes : ℕ
     AreTaken (before ++ e ∷ []) new.taken → IsReady new
 counted before e old new bytes whole ready far actor size room are taken = record {
   at_hand = subst IsSoFar (sym far) ready.at_hand;
+  own = (λ i. is_at_hand (far i) (actor i)) ∙ ready.own;
+  key =
+      subst (λ (x : SoFar). HasKey (contents_in x) new.actor) (sym far)
+      (subst (HasKey (contents_in old.so_far)) (sym actor) ready.key);
   station =
       subst (λ (x : SoFar). IsStation (contents_in x) new.actor x.history) (sym far)
       (subst (λ (a : ℕ). IsStation (contents_in old.so_far) a (list_of old)) (sym actor) ready.station);
@@ -381,6 +389,10 @@ pub moved : (s new : Station) → new.so_far ≡ s.so_far → new.actor ≡ s.ac
     new.size ≡ s.size → IsReady s → IsReady new
 moved s new far actor taken size ready = record {
   at_hand = subst IsSoFar (sym far) ready.at_hand;
+  own = (λ i. is_at_hand (far i) (actor i)) ∙ ready.own;
+  key =
+      subst (λ (x : SoFar). HasKey (contents_in x) new.actor) (sym far)
+      (subst (HasKey (contents_in s.so_far)) (sym actor) ready.key);
   station =
       subst (λ (x : SoFar). IsStation (contents_in x) new.actor x.history) (sym far)
       (subst (λ (a : ℕ). IsStation (contents_in s.so_far) a (list_of s)) (sym actor) ready.station);

@@ -25,7 +25,6 @@ use Rattle.world_history.specs.Benches.{bench_in}
 use Rattle.world_history.specs.Seats.{frames_of_each}
 use Rattle.world_history.specs.State.{BenchState, setup_in}
 use Rattle.world_rules.specs.Scenarios.{setup_of}
-use Rattle.world_rules.proofs.Fields.{seed_has_keys}
 use Rattle.stations.specs.declared.station.Station.{Station}
 use Rattle.stations.specs.Station.{IsReady, list_of}
 use Rattle.stations.specs.Telling.{Tells}
@@ -104,8 +103,7 @@ shown_stand s b place o f kept ready is are carries shows some there =
     ap (list_all (stands (setup_of (contents_in s.so_far))))
     (frames_shown s b place o f at.before at.after at.entry ready is shows some at.whole at.here)
     ∙ said_stand (contents_in s.so_far) s.actor (list_of s) at.before at.entry ready.at_hand.scenario ready.station
-    ready.there (seed_has_keys (contents_in s.so_far) s.actor refl) ready.correct
-    (record { after = at.after; whole = at.whole }) short
+    ready.there ready.key ready.correct (record { after = at.after; whole = at.whole }) short
     (carries at.before at.after at.entry (list_shown s b kept ready is are ∙ at.whole) at.here)
   where
     at : Split (list_of s) place

@@ -3,6 +3,7 @@ use Rattle.std.specs.Prelude.{◌≡◌, ◌^◌, ◌≤◌, ℕ, List, Option, 
 use Rattle.outside.specs.declared.files.LoadAnswer.{LoadAnswer}
 use Rattle.outside.specs.declared.files.LoadAnswer.TheVariants as load
 use Rattle.scenario_file.specs.Reading.{Contents}
+use Rattle.world_rules.specs.Scenarios.{HasKey}
 use Rattle.history_rules.specs.Events.{Entry}
 use Rattle.kept_lines.specs.Lines.{kept_file}
 use Rattle.kept_lines.specs.declared.refusal.KeptRefusal.{KeptRefusal}
@@ -33,6 +34,13 @@ abbrev pub TellsWant : BeginRefusal → Type 0
 TellsWant (refusal.NotLoaded load.Want) = ⊥
 TellsWant (refusal.NotRead kept.Want) = ⊥
 TellsWant other = Unit {0}
+
+-- It is told that the key that is held isn't the actor's where that is so, and nowhere else. Memory may be wanting before it
+-- is known.
+abbrev pub TellsKey : Contents → ℕ → Result Station BeginRefusal → Type 0
+TellsKey c actor (Err refusal.OtherKey) = HasKey c actor → ⊥
+TellsKey c actor (Err refusal.Want) = Unit {0}
+TellsKey c actor other = HasKey c actor
 
 -- It begins with the entries that the file's whole lines tell, and is refused for their first fault, or where the bytes are
 -- more than are read.

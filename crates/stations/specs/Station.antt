@@ -3,8 +3,8 @@ use Rattle.std.specs.Prelude.{◌≡◌, ℕ, ◌<◌, ◌^◌, true, false, Lis
 use Rattle.scenario_file.specs.Reading.{Contents}
 use Rattle.script_grammar.specs.Names.{is_correct, who_of}
 use Rattle.history_rules.specs.Events.{Entry}
-use Rattle.world_rules.specs.Scenarios.{actors_in}
-use Rattle.printed_history.specs.Reading.{IsSoFar, contents_in}
+use Rattle.world_rules.specs.Scenarios.{HasKey, actors_in}
+use Rattle.printed_history.specs.Reading.{IsSoFar, contents_in, is_at_hand}
 use Rattle.joint_lists.specs.Stations.{IsStation}
 use Rattle.kept_lines.specs.Lines.{kept_line, kept_from, kept_file}
 use Rattle.station_files.specs.Batch.{Waiting}
@@ -20,10 +20,12 @@ use Rattle.stations.specs.Taken.{AreTaken}
 abbrev pub list_of : Station → List Entry
 list_of s = s.so_far.history
 
--- A correct actor of a scenario by itself, with what is at hand of its entries. The frames that it took and the bytes that
--- are kept are those of these entries, which are few enough to be read again.
+-- A correct actor of a scenario by itself, which has its key, with what is at hand of its entries. The frames that it took
+-- and the bytes that are kept are those of these entries, which are few enough to be read again.
 pub record IsReadyFor (counted : List Entry) (s : Station) : Type 0 where
   pub at_hand : IsSoFar s.so_far
+  pub own : is_at_hand s.so_far s.actor ≡ true
+  pub key : HasKey (contents_in s.so_far) s.actor
   pub station : IsStation (contents_in s.so_far) s.actor s.so_far.history
   pub there : s.actor < actors_in (contents_in s.so_far)
   pub correct : is_correct (who_of (contents_in s.so_far)) s.actor ≡ true

@@ -5,7 +5,6 @@ ghost use Rattle.history_rules.specs.Events.{Entry as HistoryEntry};
 ghost use Rattle.world_entries.specs.Entries.{entry_of};
 ghost use Rattle.kept_lines.specs.Lines.{kept_file};
 ghost use Rattle.run_lines.specs.declared.event_line.EventLine.TheVariants as line;
-ghost use Rattle.scenario_file.specs.Reading.{contents};
 ghost use Rattle.printed_history.specs.Reading.{contents_in};
 ghost use Rattle.station_rules.specs.Coming.{is_given, is_repeated};
 ghost use Rattle.station_rules.specs.Answers.{Start, Given};
@@ -236,7 +235,7 @@ impl<'a> Station<'a> {
         ensures { OnOk result (Tells (contents_in self.now.so_far) (notes_since (cast_in self.now.so_far) (reached_by since) (bench_of self.now)) batch.old batch.new) }
     {
         let bench = self.so_far.bench(self.actor);
-        let cast = self.so_far.scenario.cast();
+        let cast = self.so_far.company().cast();
         note_since(self.so_far.alloc, batch, cast, since, bench)
     }
 
@@ -250,13 +249,7 @@ impl<'a> Station<'a> {
         let bench = self.so_far.bench(self.actor);
         carries_at(bench.list(), place);
         match bench.frames_at(place) {
-            Some(frames) => say_frames(
-                self.so_far.alloc,
-                batch,
-                self.so_far.scenario,
-                self.actor,
-                frames,
-            ),
+            Some(frames) => say_frames(self.so_far.alloc, batch, &self.so_far, self.actor, frames),
             None => unreachable!(),
         }
     }

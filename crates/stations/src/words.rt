@@ -2,12 +2,10 @@
 ghost use Rattle.std.specs.Prelude.{◌≡◌, ◌≤◌, ◌++◌, true, OnOk, IsTrue, string_bytes};
 ghost use Rattle.std.specs.List.{flat_map, list_all};
 ghost use Rattle.scenario_file.specs.Actors.{actors_of};
-ghost use Rattle.scenario_file.specs.Reading.{contents};
-ghost use Rattle.scenario_file.specs.Valid.{IsScenario};
 ghost use Rattle.history_rules.specs.Setup.{stands};
-ghost use Rattle.world_rules.specs.Scenarios.{setup_of};
 ghost use Rattle.world_history.specs.Addressing.{IsClientFew};
 ghost use Rattle.message_types.specs.Spelling.{has_spelling};
+ghost use Rattle.printed_history.specs.Reading.{IsSoFar, contents_in, world_in};
 ghost use Rattle.station_lives.specs.Saying.{names, more_names, word_line};
 ghost use Rattle.stations.specs.Telling.{Tells};
 
@@ -15,9 +13,9 @@ use checked_frames::Checked;
 use message_forms::write_frame;
 use message_types::Frame;
 use plain_lists::Want;
+use printed_history::SoFar;
 use run_lines::{put_actor, put_hex};
-use scenario_file::{Cast, Scenario};
-use script_grammar::Company;
+use scenario_file::Cast;
 use station_files::Batch;
 use std::alloc::Global;
 use world_history::addressees;
@@ -55,19 +53,19 @@ fn put_names(text: &mut String, cast: Cast, actors: &[u32]) -> Result<(), Want>
 fn put_word(
     alloc: Global,
     text: &mut String,
-    scenario: &Scenario,
+    so_far: &SoFar<'_>,
     actor: u32,
     frame: &Frame,
 ) -> Result<(), Want>
-    requires scenario { IsScenario (contents scenario.now) }
+    requires at_hand { IsSoFar so_far.now }
     requires spelled { IsTrue (has_spelling frame.now) }
     requires client { IsClientFew frame.now.body }
-    ensures { OnOk result (string_bytes text.new ≡ string_bytes text.old ++ word_line (contents scenario.now) actor frame.now) }
+    ensures { OnOk result (string_bytes text.new ≡ string_bytes text.old ++ word_line (contents_in so_far.now) actor frame.now) }
 {
-    let to = addressees(alloc, &scenario.sizes, actor, &frame.body)?;
+    let to = addressees(alloc, &so_far.scenario.sizes, actor, &frame.body)?;
     let bytes = write_frame(alloc, frame)?;
     text.push_str("say ")?;
-    put_names(text, Company::of(alloc, scenario).cast(), to.as_slice())?;
+    put_names(text, so_far.company().cast(), to.as_slice())?;
     text.push_str(" ")?;
     put_hex(alloc, text, bytes.as_slice())?;
     text.push_str("\n")?;
@@ -78,16 +76,16 @@ fn put_word(
 fn say_frame(
     alloc: Global,
     batch: &mut Batch,
-    scenario: &Scenario,
+    so_far: &SoFar<'_>,
     actor: u32,
     frame: &Checked,
 ) -> Result<(), Want>
-    requires scenario { IsScenario (contents scenario.now) }
-    requires stand { stands (setup_of (contents scenario.now)) frame.now ≡ true }
-    ensures { OnOk result (batch.new ≡ record batch.old { out = batch.old.out ++ word_line (contents scenario.now) actor frame.now; has_words = true }) }
+    requires at_hand { IsSoFar so_far.now }
+    requires stand { stands (world_in so_far.now) frame.now ≡ true }
+    ensures { OnOk result (batch.new ≡ record batch.old { out = batch.old.out ++ word_line (contents_in so_far.now) actor frame.now; has_words = true }) }
 {
     let mut text = String::new(alloc);
-    put_word(alloc, &mut text, scenario, actor, frame.frame())?;
+    put_word(alloc, &mut text, so_far, actor, frame.frame())?;
     batch.say(text.as_bytes())?;
     Ok(())
 }
@@ -96,16 +94,16 @@ fn say_frame(
 pub(crate) fn say_frames(
     alloc: Global,
     batch: &mut Batch,
-    scenario: &Scenario,
+    so_far: &SoFar<'_>,
     actor: u32,
     frames: &[Checked],
 ) -> Result<(), Want>
-    requires scenario { IsScenario (contents scenario.now) }
-    requires stand { list_all (stands (setup_of (contents scenario.now))) frames.now ≡ true }
-    ensures { OnOk result (Tells (contents scenario.now) (flat_map (word_line (contents scenario.now) actor) frames.now) batch.old batch.new) }
+    requires at_hand { IsSoFar so_far.now }
+    requires stand { list_all (stands (world_in so_far.now)) frames.now ≡ true }
+    ensures { OnOk result (Tells (contents_in so_far.now) (flat_map (word_line (contents_in so_far.now) actor) frames.now) batch.old batch.new) }
 {
     for frame in frames {
-        say_frame(alloc, batch, scenario, actor, frame)?;
+        say_frame(alloc, batch, so_far, actor, frame)?;
     }
     Ok(())
 }

@@ -15,6 +15,10 @@ const FIRST_KEY: &[u8] =
 const LAST_KEY: &[u8] =
     b"s0 000000010000000500000003fb3d36db74b5fcfa587e204743b7e6511b2cd599f8820fcde2ac3e464b5f88543ca88ac4137c13d05bc3bde413f891c1\n";
 
+// Made with Python's hashlib: the hash of the seed, the actor's number in 32 bits and 0, and the first half of the one with 1.
+const OWN_KEY: &[u8] =
+    b"s0 082eda49d024e3e7c5cae1ec033bfba89d40b8db06a6084d187090a0d0f90012 fb3d36db74b5fcfa587e204743b7e651\n";
+
 /// What a command ends in: its status, the line on the error output, and what was put to the output.
 #[derive(Drop)]
 struct Ending {
@@ -99,6 +103,7 @@ fn words_and_files_are_refused_by_name(rt: HostRuntime) -> Result<(), Fail> {
             b"spire: scenario MissingKey f\n".as_slice(),
             4,
         ),
+        ("key script m4", SCENARIO, b"spire: usage\n".as_slice(), 2),
     ] {
         assert_eq!(rt; told(&rt, rt.alloc(), line, script, wanted)?, status);
     }
@@ -207,5 +212,8 @@ fn the_keys_are_the_known_ones(rt: HostRuntime) -> Result<(), Fail> {
     assert_eq!(rt; ending.put.len(), 620);
     assert!(rt; ending.put.starts_with(FIRST_KEY));
     assert!(rt; ending.put.ends_with(LAST_KEY));
+    let own = run(rt.alloc(), "key script s0", scenario.as_str())?;
+    assert_eq!(rt; own.status, 0);
+    assert!(rt; own.put.as_slice() == OWN_KEY);
     Ok(())
 }

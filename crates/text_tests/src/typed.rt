@@ -108,9 +108,14 @@ fn commands_over_keys_and_parts(rt: HostRuntime) -> Result<(), Fail> {
         scenario: "s",
         pieces: "p",
     };
+    let key = Asked::Key {
+        scenario: "s",
+        actor: "m0",
+    };
     for (line, asked) in [
         ("make -- +7", Asked::Make { number: 7 }),
         ("keys s", Asked::Keys { scenario: "s" }),
+        ("key s m0", key),
         ("verify k m help", verify),
         ("parts s h 3 12", parts),
         ("rebuild s p", rebuild),

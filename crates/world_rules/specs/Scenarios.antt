@@ -47,6 +47,7 @@ abbrev pub key_with : Option HeldKeys → List ℕ → List ℕ → ℕ → Key
 key_with None seed heights actor = key_of seed heights actor
 key_with (Some held) seed heights actor = key_from held.seed held.identifier heights W4
 
+-- the key with which an actor of the scenario signs
 unfoldable pub key_in : Contents → ℕ → Key
 key_in c actor = key_with c.held c.settings.seed c.settings.heights actor
 
@@ -55,6 +56,7 @@ abbrev pub public_with : Option HeldKeys → Key → ℕ → List ℕ
 public_with None key actor = key_public key
 public_with (Some held) key actor = slice_index_or held.ring actor []
 
+-- the public key by which the actor's words are checked, in this scenario
 unfoldable pub public_in : Contents → ℕ → List ℕ
 public_in c actor = public_with c.held (key_in c actor) actor
 

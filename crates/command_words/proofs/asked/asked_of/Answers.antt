@@ -37,6 +37,9 @@ returns-in-make c = named (goal.at.returns-in-make c).In-Some (codes "make") _ c
 pub returns-in-keys : goal.returns-in-keys
 returns-in-keys c = named (goal.at.returns-in-keys c).In-Some (codes "keys") _ c.in-keys.is c.keys.ensures
 
+pub returns-in-key : goal.returns-in-key
+returns-in-key c = named (goal.at.returns-in-key c).In-Some (codes "key") _ c.in-key.is c.key.ensures
+
 pub returns-in-verify : goal.returns-in-verify
 returns-in-verify c =
     named (goal.at.returns-in-verify c).In-Some (codes "verify") _ c.in-verify.is c.verify.ensures
@@ -92,6 +95,7 @@ returns-in_default-name c =
       other_name _ _ c.in_default-name.not-replay,
       other_name _ _ c.in_default-name.not-make,
       other_name _ _ c.in_default-name.not-keys,
+      other_name _ _ c.in_default-name.not-key,
       other_name _ _ c.in_default-name.not-verify,
       other_name _ _ c.in_default-name.not-parts,
       other_name _ _ c.in_default-name.not-rebuild,

@@ -16,6 +16,9 @@ add_file-requires-clause-short c =
     (length c.args.files.now - length c.loop-bytes.rest.now) c.as_slice.result.now c.loop-bytes.kept c.loop-bytes.invariant
     (c.in-Some.ensures.cases.0 ∙ ap (λ (b : List ℕ). b ∷ c.in-Some.after.now) (sym c.as_slice.ensures))
 
+pub add_file-requires-clause-all : goal.add_file-requires-clause-all
+add_file-requires-clause-all c = c.loop-bytes.invariant.are.stations.all
+
 pub loop-bytes-preserved : goal.loop-bytes-preserved
 loop-bytes-preserved c =
     one_file_more (contents c.args.scenario.now) c.args.files.now c.loop-bytes.rest.now c.in-Some.after.now

@@ -2,10 +2,14 @@
 use Rattle.std.proofs.Common.{◌<◌, ◌≤◌, ◌^◌, length, get_or, arith}
 use Rattle.world_entries.specs.Entries.{entry_of, event_of}
 use Rattle.printed_history.specs.Reading.{contents_in}
+use Rattle.printed_history.proofs.AtHand.{all_own}
 use Rattle.joint_lists.specs.Joint.{count, kept_by}
 use Rattle.joined_histories.proofs.Left.{HasNext, has_next}
 use Rattle.joined_histories.proofs.Next.{fits, kept_few, next_comes, on_ok, one_more, runs, takes}
 use Rattle.joined_histories.proofs.joining.add_next.Goals as goal
+
+pub enter-requires-clause-own : goal.enter-requires-clause-own
+enter-requires-clause-own c = all_own c.args.actor c.args.so_far.now c.requires.amid.all
 
 pub enter-requires-clause-running : goal.enter-requires-clause-running
 enter-requires-clause-running c =

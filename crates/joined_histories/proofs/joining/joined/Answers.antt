@@ -12,7 +12,7 @@ loop-due-init c =
     let many : c.len.result ≡ length c.args.kept.now.lists.items =
     omega (arith, c.len.ensures, c.args.kept.now.lists.ok) in (
       at_first (contents c.args.scenario.now) c.args.kept.now.lists.items c.in_ok-next.next.items c.in_ok-so_far.so_far
-          c.requires.stations c.requires.few c.in_ok-so_far.ensures.0 c.in_ok-so_far.ensures.1 c.in_ok-so_far.ensures.2
+          c.requires.stations c.requires.few c.in_ok-so_far.ensures
           (c.in_ok-next.ensures.items_if_clones_equal (λ y h. h) ∙ ap (λ (n : ℕ). replicate n 0) many),
       subst (λ (ns : List ℕ). MatchOption c.in_ok-due.due (NoneLeft c.args.kept.now.lists.items ns)
           (IsDue (setup_of (contents c.args.scenario.now)) c.args.kept.now.lists.items ns)) c.as_slice.ensures.value c.in_ok-due.ensures,
@@ -36,6 +36,13 @@ abbrev none_left : (c : goal.After-drop-next-2) → NoneLeft c.args.kept.now.lis
 none_left c = subst (λ (due : Option ℕ). MatchOption due (NoneLeft c.args.kept.now.lists.items c.loop-due.next.items)
     (IsDue (setup_of (contents c.args.scenario.now)) c.args.kept.now.lists.items c.loop-due.next.items)) c.in_default.is
     c.loop-due.invariant.1
+
+pub returns-clause-at_hand : goal.returns-clause-at_hand
+returns-clause-at_hand c = (
+  c.loop-due.invariant.0.is_so_far,
+  c.loop-due.invariant.0.same,
+  c.loop-due.invariant.0.all,
+)
 
 pub returns-clause-joint : goal.returns-clause-joint
 returns-clause-joint c =

@@ -11,12 +11,14 @@ loop-line-init c = record {
   whole = c.into_iter-line-iterator.ensures.into_iter_gives.0 ∙ c.into_vec-line-items.ensures;
   amid = first_line (contents c.args.scenario.now) c.args.lines c.into_iter-line-iterator.result.rest.items
       c.in_ok-so_far.so_far
-      (c.into_iter-line-iterator.ensures.into_iter_gives.0 ∙ c.into_vec-line-items.ensures) c.in_ok-so_far.ensures.0
-      c.in_ok-so_far.ensures.1 c.in_ok-so_far.ensures.2;
+      (c.into_iter-line-iterator.ensures.into_iter_gives.0 ∙ c.into_vec-line-items.ensures) c.in_ok-so_far.ensures;
 }
 
 pub add-requires-clause-at_hand : goal.add-requires-clause-at_hand
 add-requires-clause-at_hand c = c.loop-line.invariant.amid.is_so_far
+
+pub add-requires-clause-all : goal.add-requires-clause-all
+add-requires-clause-all c = c.loop-line.invariant.amid.all
 
 pub add-requires-clause-short : goal.add-requires-clause-short
 add-requires-clause-short c =

@@ -1,6 +1,6 @@
 use Rattle.std.proofs.Common.{◌≡◌, Ok}
 use Rattle.scenario_file.specs.Reading.{contents}
-use Rattle.run_commands.specs.Reading.{scenario_at}
+use Rattle.command_files.specs.Scenarios.{scenario_at}
 use Rattle.run_commands.proofs.Openings.{found-in}
 use Rattle.run_commands.proofs.opening.open_scenario.Goals as goal
 

@@ -1,20 +1,9 @@
--- A content leads to the scenario that is read of it, or to the refusal that the fault of its reading stands
--- for. Reading and definition agree on each content.
-use Rattle.std.proofs.Common.{Ok, Err, ap}
-use Rattle.scenario_file.specs.Reading.{contents}
-use Rattle.run_commands.proofs.Scenarios.{shown-at, leads-on, leads-by}
+-- A content leads to the scenario that is read of it, or to the refusal that the fault of its reading stands for.
+use Rattle.run_commands.proofs.Scenarios.{found, leads}
 use Rattle.run_commands.proofs.opening.read_scenario.Goals as goal
 
-pub returns-in-Ok-clause-leads : goal.returns-in-Ok-clause-leads
-returns-in-Ok-clause-leads c =
-    leads-on c.args.content.now (contents c.in-Ok.scenario)
-    (shown-at c.args.content.now (Ok c.in-Ok.scenario) c.in-Ok.ensures.text c.in-Ok.ensures.no_text)
+pub returns-clause-leads : goal.returns-clause-leads
+returns-clause-leads c = leads c.args.content.now c.read_scenario.result c.read_scenario.ensures.cause
 
-pub returns-in-Err-clause-leads : goal.returns-in-Err-clause-leads
-returns-in-Err-clause-leads c =
-    leads-by c.args.content.now c.in-Err.refusal (Err c.scenario_refusal.result) (ap Err c.scenario_refusal.ensures)
-    (shown-at c.args.content.now (Err c.in-Err.refusal) c.in-Err.ensures.text c.in-Err.ensures.no_text)
-
-pub returns-in-Ok-clause-found : goal.returns-in-Ok-clause-found
-returns-in-Ok-clause-found c =
-    shown-at c.args.content.now (Ok c.in-Ok.scenario) c.in-Ok.ensures.text c.in-Ok.ensures.no_text
+pub returns-clause-found : goal.returns-clause-found
+returns-clause-found c = found c.args.content.now c.read_scenario.result c.read_scenario.ensures.cause

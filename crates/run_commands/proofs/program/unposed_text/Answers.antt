@@ -30,6 +30,10 @@ pub returns-in-Keys-clause-cause : goal.returns-in-Keys-clause-cause
 returns-in-Keys-clause-cause g c =
     of-words g.R.Runs.readers _ _ _ _ _ c.keys.result (ap wanted c.in-Keys.is) c.keys.ensures.cause
 
+pub returns-in-Key-clause-cause : goal.returns-in-Key-clause-cause
+returns-in-Key-clause-cause g c =
+    of-words g.R.Runs.readers _ _ _ _ _ c.key.result (ap wanted c.in-Key.is) c.key.ensures.cause
+
 pub returns-in-Verify-clause-cause : goal.returns-in-Verify-clause-cause
 returns-in-Verify-clause-cause g c =
     of-words g.R.Runs.readers _ _ _ _ _ c.verify.result (ap wanted c.in-Verify.is) c.verify.ensures.cause

@@ -1,7 +1,6 @@
 -- The file is opened, then the station begins, then it lives; each may end the call.
-use Rattle.std.proofs.Common.{◌∙◌, ℕ, Option, Result, Err, refl, sym, ap, subst}
-use Rattle.scenario_file.specs.Reading.{Contents, contents}
-use Rattle.station_files.specs.Held.{Held}
+use Rattle.std.proofs.Common.{◌∙◌, Err, refl, sym, ap, subst}
+use Rattle.printed_history.specs.Reading.{known_by}
 use Rattle.stations.specs.Going.{origin}
 use Rattle.station_commands.specs.declared.refusal.StationRefusal.{StationRefusal}
 use Rattle.station_commands.specs.Lives.{LifeCause, Reach, reach_of}
@@ -15,7 +14,7 @@ returns-in-Err g c =
     (g.L.Lines.waiting c.args.lines.now) (g.L.Lines.faults c.args.lines.now) (g.L.Lines.faults c.args.lines.now)
     (g.O.Sink.told c.args.out.now) (g.O.Sink.told c.args.out.now) (g.O.Sink.faults c.args.out.now)
     (g.O.Sink.faults c.args.out.now) in
-    ends_unopened (contents c.args.scenario.now) c.args.actor c.args.name.now reach c.in-Err.refusal refl
+    ends_unopened (known_by c.args.scenario.now c.args.held) c.args.actor c.args.name.now reach c.in-Err.refusal refl
     c.in-Err.ensures.cause
 
 pub returns-in-Err-begin_kept : goal.returns-in-Err-begin_kept
@@ -25,7 +24,7 @@ returns-in-Err-begin_kept g c =
     (g.L.Lines.waiting c.args.lines.now) (g.L.Lines.faults c.args.lines.now) (g.L.Lines.faults c.args.lines.now)
     (g.O.Sink.told c.args.out.now) (g.O.Sink.told c.args.out.now) (g.O.Sink.faults c.args.out.now)
     (g.O.Sink.faults c.args.out.now) in
-    ends_unbegun (contents c.args.scenario.now) c.args.actor c.args.name.now c.in-Ok.named reach
+    ends_unbegun (known_by c.args.scenario.now c.args.held) c.args.actor c.args.name.now c.in-Ok.named reach
     (g.K.KeptFile.held c.open_named.new.keep) (g.K.KeptFile.faults c.open_named.new.keep)
     c.in-Err-begin_kept.refusal refl c.in-Ok.ensures.opened c.in-Ok.ensures.cause.1 c.in-Ok.ensures.cause.0
     c.in-Err-begin_kept.ensures.cause
@@ -40,7 +39,7 @@ returns-in-Ok-live g c =
     record {
       from = origin c.in-Ok-begin_kept.station (g.K.KeptFile.held c.begin_kept.new.keep)
           (g.O.Sink.told c.args.out.now);
-      begun = begun_so (contents c.args.scenario.now) c.args.actor c.args.name.now reach c.in-Ok-begin_kept.station
+      begun = begun_so (known_by c.args.scenario.now c.args.held) c.args.actor c.args.name.now reach c.in-Ok-begin_kept.station
           (g.K.KeptFile.held c.open_named.new.keep) (g.K.KeptFile.held c.begin_kept.new.keep)
           c.in-Ok-begin_kept.ensures.same.0 c.in-Ok-begin_kept.ensures.same.1 c.in-Ok.ensures.opened
           c.in-Ok-begin_kept.ensures.read c.in-Ok-begin_kept.ensures.whole;
@@ -55,14 +54,14 @@ returns g c =
     (g.L.Lines.waiting c.args.lines.now) (g.L.Lines.faults c.args.lines.now) (g.L.Lines.faults c.live.new.lines)
     (g.O.Sink.told c.args.out.now) (g.O.Sink.told c.live.new.sink) (g.O.Sink.faults c.args.out.now)
     (g.O.Sink.faults c.live.new.sink) in
-    subst (λ (e : StationRefusal). LifeCause (contents c.args.scenario.now) c.args.actor c.args.name.now reach (Err e))
+    subst (λ (e : StationRefusal). LifeCause (known_by c.args.scenario.now c.args.held) c.args.actor c.args.name.now reach (Err e))
     (sym c.halt_refusal.ensures)
-    (ends_halted (contents c.args.scenario.now) c.args.actor c.args.name.now reach
+    (ends_halted (known_by c.args.scenario.now c.args.held) c.args.actor c.args.name.now reach
     (g.K.KeptFile.faults c.begin_kept.new.keep) c.in-Err-live.halt
     (record {
       from = origin c.in-Ok-begin_kept.station (g.K.KeptFile.held c.begin_kept.new.keep)
           (g.O.Sink.told c.args.out.now);
-      begun = begun_so (contents c.args.scenario.now) c.args.actor c.args.name.now reach c.in-Ok-begin_kept.station
+      begun = begun_so (known_by c.args.scenario.now c.args.held) c.args.actor c.args.name.now reach c.in-Ok-begin_kept.station
           (g.K.KeptFile.held c.open_named.new.keep) (g.K.KeptFile.held c.begin_kept.new.keep)
           c.in-Ok-begin_kept.ensures.same.0 c.in-Ok-begin_kept.ensures.same.1 c.in-Ok.ensures.opened
           c.in-Ok-begin_kept.ensures.read c.in-Ok-begin_kept.ensures.whole;

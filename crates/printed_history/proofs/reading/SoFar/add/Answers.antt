@@ -2,6 +2,7 @@
 -- these tests is the definition's, and then its event decides.
 use Rattle.std.proofs.Common.{sym, ◌∙◌}
 use Rattle.printed_history.specs.Reading.{world_in}
+use Rattle.printed_history.proofs.AtHand.{all_own}
 use Rattle.printed_history.proofs.NextEntry.{no_actor, no_turn, runs_in_turn, adds_in_turn}
 use Rattle.printed_history.proofs.reading.SoFar.add.Goals as goal
 
@@ -12,6 +13,9 @@ pub returns-then-not-is_next : goal.returns-then-not-is_next
 returns-then-not-is_next c =
     no_turn (world_in c.args.self.now) c.args.line c.in-Some.actor c.args.self.now _ c.in-Some.is
     (sym c.is_next.ensures ∙ c.if-not-is_next.true)
+
+pub add_event-requires-clause-own : goal.add_event-requires-clause-own
+add_event-requires-clause-own c = all_own c.in-Some.actor c.args.self.now c.requires.all
 
 pub add_event-requires-clause-running : goal.add_event-requires-clause-running
 add_event-requires-clause-running c =

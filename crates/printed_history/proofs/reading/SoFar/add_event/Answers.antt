@@ -17,8 +17,9 @@ returns-in_default c =
 
 pub index-requires : goal.index-requires
 index-requires c =
-    let there : c.args.actor < length c.args.self.now.benches.items =
-    bench_there c.args.self.now c.args.actor c.requires.at_hand c.requires.running in
+    let there : c.place-place.result < length c.args.self.now.benches.items =
+    bench_there c.args.self.now c.args.actor c.place-place.result c.requires.at_hand c.requires.running
+    c.place-place.ensures in
     omega (arith, c.args.self.now.benches.ok)
 
 pub returns-then-not-fits : goal.returns-then-not-fits
@@ -27,13 +28,17 @@ returns-then-not-fits c =
     (standing_event (world_in c.args.self.now)
     (event_from (world_in c.args.self.now) c.args.self.now.history c.args.line)) c.args.self.now _
     (sym (ap event_found c.in-Some.is) ∙ c.in_ok-found.ensures)
-    (sym (fits_there c.args.self.now c.args.actor (event_of c.in-Some.event) c.index.result.now c.requires.at_hand
-    c.requires.running c.index.ensures) ∙ sym c.fits.ensures ∙ c.if-not-fits.true)
+    (sym (fits_there c.args.self.now c.args.actor c.place-place.result (event_of c.in-Some.event) c.index.result.now
+    c.requires.at_hand c.requires.running
+    (record { own = c.requires.own; here = c.place-place.ensures; found = c.index.ensures })) ∙ sym c.fits.ensures ∙
+    c.if-not-fits.true)
 
 pub act-requires-clause-fits : goal.act-requires-clause-fits
 act-requires-clause-fits c =
-    sym (fits_there c.args.self.now c.args.actor (event_of c.in-Some.event) c.index.result.now c.requires.at_hand
-    c.requires.running c.index.ensures) ∙ sym c.fits.ensures ∙ c.if-not-fits.false
+    sym (fits_there c.args.self.now c.args.actor c.place-place.result (event_of c.in-Some.event) c.index.result.now
+    c.requires.at_hand c.requires.running
+    (record { own = c.requires.own; here = c.place-place.ensures; found = c.index.ensures })) ∙ sym c.fits.ensures ∙
+    c.if-not-fits.false
 
 pub act-requires-clause-taken : goal.act-requires-clause-taken
 act-requires-clause-taken c =

@@ -1,12 +1,17 @@
-use Rattle.std.proofs.Common.{◌≡◌, length, refl, arith}
-use Rattle.scenario_file.specs.Reading.{contents}
-use Rattle.printed_history.proofs.FirstAtHand.{begins}
+-- All actors' benches are at hand, by the seed: nothing is held.
 use Rattle.printed_history.proofs.reading.SoFar.begin.Goals as goal
 
+pub first-requires-clause-scenario : goal.first-requires-clause-scenario
+first-requires-clause-scenario c = c.requires
+
+pub first-requires-clause-held : goal.first-requires-clause-held
+first-requires-clause-held c = c.requires
+
+pub first-requires-clause-ring : goal.first-requires-clause-ring
+first-requires-clause-ring c = c.in_ok-ring.ensures
+
+pub first-requires-clause-benches : goal.first-requires-clause-benches
+first-requires-clause-benches c = c.in_ok-benches.ensures
+
 pub returns : goal.returns
-returns c =
-    let many : c.len.result ≡ length c.in_ok-benches.benches.items =
-    omega (arith, c.len.ensures, c.in_ok-benches.benches.ok) in
-    begins (contents c.args.scenario.now) _ c.len.result c.requires refl c.in_ok-ring.ensures
-    c.in_ok-benches.ensures many
-    (c.in_ok-calls.ensures.items_if_clones_equal (λ y h. h)) c.new-posted.ensures c.new-history.ensures
+returns c = c.first.ensures

@@ -7,17 +7,19 @@ use Rattle.printed_history.proofs.reading.SoFar.enter.Goals as goal
 
 pub index_mut-bench-requires : goal.index_mut-bench-requires
 index_mut-bench-requires c =
-    let there : c.args.actor < length c.args.self.now.benches.items =
-    bench_there c.args.self.now c.args.actor c.requires.at_hand c.requires.running in
+    let there : c.place-place.result < length c.args.self.now.benches.items =
+    bench_there c.args.self.now c.args.actor c.place-place.result c.requires.at_hand c.requires.running
+    c.place-place.ensures in
     omega (arith, c.args.self.now.benches.ok)
 
 can : (c : goal.After-act_at-arg-2-1) → CanAct (2 ^ 32) c.len-stamp.result (contents_in c.args.self.now)
     (event_of c.args.event) c.index_mut-bench.result.now
 can c =
-    can_act c.args.self.now c.args.actor (2 ^ 32) c.len-stamp.result (event_of c.args.event)
+    can_act c.args.self.now c.args.actor c.place-place.result (2 ^ 32) c.len-stamp.result (event_of c.args.event)
     c.index_mut-bench.result.now c.requires.at_hand c.requires.short
     (record { running = c.requires.running; fits = c.requires.fits; taken = c.requires.taken })
-    c.index_mut-bench.ensures.value c.len-stamp.ensures
+    (record { own = c.requires.own; here = c.place-place.ensures; found = c.index_mut-bench.ensures.value })
+    c.len-stamp.ensures
 
 pub act_at-requires-clause-fits : goal.act_at-requires-clause-fits
 act_at-requires-clause-fits c = (can c).fits
@@ -55,15 +57,17 @@ overflow_add-index_mut c =
 
 pub returns : goal.returns
 returns c =
-    has_more c.args.self.now _ c.args.actor (event_of c.args.event) c.index_mut-bench.result.now c.act_at.new.bench
+    has_more c.args.self.now _ c.args.actor c.place-place.result (event_of c.args.event) c.index_mut-bench.result.now
+    c.act_at.new.bench
     (entry_of c.in_ok-entry.entry) c.in_ok-entry.posted
     c.index_mut.result.now c.len-stamp.result c.requires.at_hand
     (record { running = c.requires.running; fits = c.requires.fits; taken = c.requires.taken })
     (record {
       now = c.len-stamp.ensures;
       same = refl;
+      at_hand = refl;
       ring = refl;
-      was = c.index_mut-bench.ensures.value;
+      was = record { own = c.requires.own; here = c.place-place.ensures; found = c.index_mut-bench.ensures.value };
       acted = c.in_ok-entry.ensures.bench;
       made = c.in_ok-entry.ensures.entry;
       benches = refl;

@@ -25,9 +25,9 @@ returns-in_default c =
 
 pub index-requires : goal.index-requires
 index-requires c =
-    let there : c.args.actor < length c.args.self.now.benches.items =
-    bench_there c.args.self.now c.args.actor c.requires.at_hand
-    (sym c.is_running.ensures ∙ c.if-not-is_running.false) in
+    let there : c.place-place.result < length c.args.self.now.benches.items =
+    bench_there c.args.self.now c.args.actor c.place-place.result c.requires.at_hand
+    (sym c.is_running.ensures ∙ c.if-not-is_running.false) c.place-place.ensures in
     omega (arith, c.args.self.now.benches.ok)
 
 pub returns-then-not-fits : goal.returns-then-not-fits
@@ -36,16 +36,20 @@ returns-then-not-fits c =
     (standing_event (world_in c.args.self.now)
     (event_from (world_in c.args.self.now) c.args.self.now.history c.args.line)) c.args.self.now
     (sym (ap event_found c.in-Some.is) ∙ c.in_ok-found.ensures) (sym c.is_running.ensures ∙ c.if-not-is_running.false)
-    (sym (fits_there c.args.self.now c.args.actor (event_of c.in-Some.event) c.index.result.now c.requires.at_hand
-    (sym c.is_running.ensures ∙ c.if-not-is_running.false) c.index.ensures) ∙ sym c.fits.ensures ∙ c.if-not-fits.true)
+    (sym (fits_there c.args.self.now c.args.actor c.place-place.result (event_of c.in-Some.event) c.index.result.now
+    c.requires.at_hand (sym c.is_running.ensures ∙ c.if-not-is_running.false)
+    (record { own = c.requires.own; here = c.place-place.ensures; found = c.index.ensures })) ∙ sym c.fits.ensures ∙
+    c.if-not-fits.true)
 
 pub enter-requires-clause-running : goal.enter-requires-clause-running
 enter-requires-clause-running c = sym c.is_running.ensures ∙ c.if-not-is_running.false
 
 pub enter-requires-clause-fits : goal.enter-requires-clause-fits
 enter-requires-clause-fits c =
-    sym (fits_there c.args.self.now c.args.actor (event_of c.in-Some.event) c.index.result.now c.requires.at_hand
-    (sym c.is_running.ensures ∙ c.if-not-is_running.false) c.index.ensures) ∙ sym c.fits.ensures ∙ c.if-not-fits.false
+    sym (fits_there c.args.self.now c.args.actor c.place-place.result (event_of c.in-Some.event) c.index.result.now
+    c.requires.at_hand (sym c.is_running.ensures ∙ c.if-not-is_running.false)
+    (record { own = c.requires.own; here = c.place-place.ensures; found = c.index.ensures })) ∙ sym c.fits.ensures ∙
+    c.if-not-fits.false
 
 pub enter-requires-clause-taken : goal.enter-requires-clause-taken
 enter-requires-clause-taken c =
@@ -58,6 +62,8 @@ returns c =
     (standing_event (world_in c.args.self.now)
     (event_from (world_in c.args.self.now) c.args.self.now.history c.args.line)) c.args.self.now _
     (sym (ap event_found c.in-Some.is) ∙ c.in_ok-found.ensures) (sym c.is_running.ensures ∙ c.if-not-is_running.false)
-    (sym (fits_there c.args.self.now c.args.actor (event_of c.in-Some.event) c.index.result.now c.requires.at_hand
-    (sym c.is_running.ensures ∙ c.if-not-is_running.false) c.index.ensures) ∙ sym c.fits.ensures ∙ c.if-not-fits.false)
+    (sym (fits_there c.args.self.now c.args.actor c.place-place.result (event_of c.in-Some.event) c.index.result.now
+    c.requires.at_hand (sym c.is_running.ensures ∙ c.if-not-is_running.false)
+    (record { own = c.requires.own; here = c.place-place.ensures; found = c.index.ensures })) ∙ sym c.fits.ensures ∙
+    c.if-not-fits.false)
     c.in_ok-enter.ensures

@@ -1,0 +1,4 @@
+mod Cuts
+pub mod Rings
+mod OwnKeys
+mod Readings

@@ -1,0 +1,3 @@
+pub mod OwnEntries
+pub mod SameSignatures
+pub mod Owners
