@@ -28,8 +28,10 @@ use Rattle.world_history.specs.contracts.seat.Seat as Seat
 use Rattle.world_history.specs.contracts.bench.Bench as Bench
 use Rattle.world_history.specs.contracts.kept_actor.Kept as Kept
 use Rattle.station_turns.specs.declared.naming.Naming as naming
+use Rattle.station_turns.specs.declared.naming.Owner as owner
 use Rattle.station_turns.specs.contracts.live.Live as Live
 use Rattle.station_turns.specs.contracts.station.Station as Station
+use Rattle.station_turns.specs.contracts.own_station.OwnStation as OwnStation
 
 pub scenario_send : IsSend Scenario.the_row
 scenario_send = search (items.the_send, tree.crosses, crosses, sendable) depth 60 fits 20000
@@ -89,15 +91,21 @@ kept_sync = search (bench_sync, keeper.the_sync, crosses, sendable) depth 60 fit
 live_send : IsSend (Live.the_field).row
 live_send = search (kept_send, stamps.the_send, input.the_send, crosses, sendable) depth 60 fits 20000
 
--- A seat can't be shared, so a station can't either: threads share its lock.
+-- A seat can't be shared, so a station can't either: threads share the lock of an actor's own.
 pub station_send : (T : RattleType) (g : naming.Ghosts T.Denot) → IsSend (Station.the_row T g)
 station_send T g = search (phantom.the_field_send, live_send, sendable) depth 60 fits 20000
 
-pub lock_send : (T : RattleType) (g : naming.Ghosts T.Denot) → IsSend (Mutex.the_row (Station.the_row T g))
-lock_send T g = lock.the_send (Station.the_row T g) (station_send T g)
+pub own_send : (T U : RattleType) (g : naming.Ghosts T.Denot) (h : owner.Ghosts U.Denot) →
+    IsSend (OwnStation.the_row T U g h)
+own_send T U g h = search (phantom.the_field_send, station_send, sendable) depth 60 fits 20000
 
-pub lock_sync : (T : RattleType) (g : naming.Ghosts T.Denot) → IsSync (Mutex.the_row (Station.the_row T g))
-lock_sync T g = lock.the_sync (Station.the_row T g) (station_send T g)
+pub lock_send : (T U : RattleType) (g : naming.Ghosts T.Denot) (h : owner.Ghosts U.Denot) →
+    IsSend (Mutex.the_row (OwnStation.the_row T U g h))
+lock_send T U g h = lock.the_send (OwnStation.the_row T U g h) (own_send T U g h)
+
+pub lock_sync : (T U : RattleType) (g : naming.Ghosts T.Denot) (h : owner.Ghosts U.Denot) →
+    IsSync (Mutex.the_row (OwnStation.the_row T U g h))
+lock_sync T U g h = lock.the_sync (OwnStation.the_row T U g h) (own_send T U g h)
 
 parts_sync : (Ts : List RattleType) → AllSync Ts → FieldsHave IsSync (parts Ts)
 parts_sync [] all = tt

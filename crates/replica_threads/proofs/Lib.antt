@@ -10,6 +10,8 @@ mod ActorsCross
 mod Lists
 mod HandPasses
 mod Sending
+mod Quiet
+mod TurnsSent
 mod Frames
 mod TakenByHands
 mod Turning

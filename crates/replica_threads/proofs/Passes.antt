@@ -1,23 +1,26 @@
 -- The inboxes of a run and their passes, as they are made and split off.
-use Rattle.std.proofs.Common.{◌≡◌, ℕ, ◌+◌, ◌<◌, List, [], ◌∷◌, ◌++◌, Some, length, map, replicate, get_or, set, All}
-use Rattle.std.proofs.Common.{refl, sym, ◌∙◌, ap, subst, append-nil, append_assoc, arith}
+use Rattle.std.proofs.Common.{◌≡◌, ℕ, ◌+◌, ◌<◌, List, [], ◌∷◌, ◌++◌, Some, length, map, get_or, set, All}
+use Rattle.std.proofs.Common.{refl, sym, ◌∙◌, ap, subst, append-nil, arith}
 use Rattle.std.specs.Prelude.{slice_get, Result, Ok, Err, IfOk}
-use Rattle.std.specs.List.{flat_map}
-use Rattle.std.proofs.lemmas.List.{length_push, length-set, map_push, replicate_more}
+use Rattle.std.specs.List.{slice_index_or}
+use Rattle.std.specs.declared.vec.Vec.{Vec}
+use Rattle.std.specs.declared.alloc.Global.{Global}
+use Rattle.std.proofs.lemmas.List.{length_push, length-map, length-set, map_push}
 use Rattle.std.proofs.lemmas.Option.{none-some, slice_get_read}
 use Rattle.plain_lists.specs.declared.want.Want.{Want}
-use Rattle.std.proofs.lemmas.List.Concat.{flat_map-append}
 use Rattle.std.proofs.lemmas.List.Elements.{All-push}
-use Rattle.quorum_sets.specs.Masters.{numbers_below}
+use Rattle.world_rules.specs.Scenarios.{actors_in}
+use Rattle.station_turns.specs.Turns.{Stationed}
+use Rattle.station_turns.specs.Naming.{RunName}
 use Rattle.inboxes.specs.declared.inbox.Inbox.{Inbox}
 use Rattle.inboxes.specs.declared.pass.InboxPass.{InboxPass}
 use Rattle.inboxes.specs.Passes.{IsPassOf}
 use Rattle.replica_threads.specs.declared.posted.Posted.{Posted}
-use Rattle.replica_threads.specs.Hands.{ArePassesOf}
+use Rattle.replica_threads.specs.declared.shared.Shared.{Shared}
+use Rattle.replica_threads.specs.Hands.{IsShared, ArePassesOf}
 use Rattle.replica_threads.specs.declared.job.Job.{Job}
-use Rattle.replica_threads.specs.Courses.{IsJob, hands_at, all_hands}
+use Rattle.replica_threads.specs.Courses.{hands_of, AreJobs, IsCrew, CanTurn, AreAllReady}
 use Rattle.replica_threads.proofs.Numbers.{pairs_push, pairs_next, pairs_set}
-use Rattle.quorum_sets.proofs.Numbered.{below_one_more}
 
 abbrev Box : Type 0
 Box = Inbox Posted
@@ -120,56 +123,87 @@ pub all_split : (inboxes : List Box) (count : ℕ) (others : List Pass) → coun
     AreSplit inboxes count others → ArePassesOf inboxes others
 all_split inboxes count others all split = record { count = split.many ∙ all; each = split.each }
 
--- so many hands of an actor were added
-pub record AreAdded (inboxes : List Box) (old : List Job) (actor count : ℕ) (new : List Job) : Type 0 where
-  pub jobs : All (IsJob inboxes) new
-  pub actors : map (λ job. job.actor) new ≡ map (λ job. job.actor) old ++ replicate count actor
+-- the hands of an actor, as they are made
 
-pub none_added : (inboxes : List Box) (old new : List Job) (actor : ℕ) → new ≡ old → All (IsJob inboxes) old →
-    AreAdded inboxes old actor 0 new
-none_added inboxes old new actor same jobs = record {
-  jobs = subst (λ (js : List Job). All (IsJob inboxes) js) (sym same) jobs;
-  actors = ap (map (λ (job : Job). job.actor)) same ∙ sym (append-nil (map (λ (job : Job). job.actor) old));
-}
-
-pub one_added : (inboxes : List Box) (old jobs more : List Job) (actor count : ℕ) (job : Job) →
-    AreAdded inboxes old actor count jobs → IsJob inboxes job → job.actor ≡ actor
-    → more ≡ jobs ++ job ∷ [] → AreAdded inboxes old actor (count + 1) more
-one_added inboxes old jobs more actor count job added is by grown = record {
-  jobs = subst (λ (js : List Job). All (IsJob inboxes) js) (sym grown)
-      (All-push (IsJob inboxes) jobs job added.jobs is);
-  actors =
-      ap (map (λ (j : Job). j.actor)) grown
-      ∙ map_push (λ (j : Job). j.actor) jobs job
-      ∙ (λ i. added.actors i ++ by i ∷ [])
-      ∙ append_assoc (map (λ (j : Job). j.actor) old) (replicate count actor) (actor ∷ [])
-      ∙ ap (λ (ns : List ℕ). map (λ (j : Job). j.actor) old ++ ns) (replicate_more count actor);
-}
-
--- the hands of so many actors are there
-pub record AreHands (inboxes : List Box) (masters hands count : ℕ) (jobs : List Job) : Type 0 where
-  pub jobs_are : All (IsJob inboxes) jobs
-  pub actors : map (λ job. job.actor) jobs ≡ all_hands masters hands count
-
-pub none_handed : (inboxes : List Box) (masters hands : ℕ) (jobs : List Job) → jobs ≡ [] →
-    AreHands inboxes masters hands 0 jobs
-unfolding numbers_below
-none_handed inboxes masters hands jobs none = record {
-  jobs_are = subst (λ (js : List Job). All (IsJob inboxes) js) (sym none)
+pub no_jobs : (inboxes : List Box) (jobs : List Job) → jobs ≡ [] → AreJobs inboxes 0 jobs
+no_jobs inboxes jobs none = record {
+  many = ap length none;
+  passes = subst (λ (js : List Job). All (λ (job : Job). ArePassesOf inboxes job.passes.items) js) (sym none)
       (λ k d inside. absurd (omega (arith, inside)));
-  actors = ap (map (λ (job : Job). job.actor)) none;
 }
 
-pub one_handed : (inboxes : List Box) (masters hands count many : ℕ) (old new : List Job) →
-    AreHands inboxes masters hands count old → replicate many count ≡ hands_at masters hands count
-    → All (IsJob inboxes) new → map (λ job. job.actor) new ≡ map (λ job. job.actor) old ++ replicate many count →
-    AreHands inboxes masters hands (count + 1) new
-one_handed inboxes masters hands count many old new before is jobs actors = record {
-  jobs_are = jobs;
-  actors =
-      actors
-      ∙ (λ i. before.actors i ++ is i)
-      ∙ ap (λ (ns : List ℕ). all_hands masters hands count ++ ns) (sym (append-nil (hands_at masters hands count)))
-      ∙ sym (flat_map-append (hands_at masters hands) (numbers_below count) (count ∷ []))
-      ∙ ap (flat_map (hands_at masters hands)) (sym (below_one_more count));
+pub one_job : (inboxes : List Box) (count : ℕ) (jobs more : List Job) (job : Job) → AreJobs inboxes count jobs →
+    ArePassesOf inboxes job.passes.items → more ≡ jobs ++ job ∷ [] → AreJobs inboxes (count + 1) more
+one_job inboxes count jobs more job before are grown = record {
+  many = ap length grown ∙ length_push jobs job ∙ ap (λ (n : ℕ). n + 1) before.many;
+  passes = subst (λ (js : List Job). All (λ (j : Job). ArePassesOf inboxes j.passes.items) js) (sym grown)
+      (All-push (λ (j : Job). ArePassesOf inboxes j.passes.items) jobs job before.passes are);
 }
+
+pub all_jobs : (inboxes : List Box) (made count : ℕ) (jobs : List Job) → made ≡ count → AreJobs inboxes made jobs →
+    AreJobs inboxes count jobs
+all_jobs inboxes made count jobs all are = subst (λ (n : ℕ). AreJobs inboxes n jobs) all are
+
+-- the stations with their hands
+
+abbrev Crew : Type 0
+Crew = Vec Job Global × Stationed
+
+pub no_crews : (inboxes : List Box) (masters hands : ℕ) (crews : List Crew) → crews ≡ [] →
+    All (IsCrew inboxes masters hands) crews
+no_crews inboxes masters hands crews none = subst (λ (cs : List Crew). All (IsCrew inboxes masters hands) cs) (sym none)
+    (λ k d inside. absurd (omega (arith, inside)))
+
+pub one_crew : (inboxes : List Box) (masters hands count actor : ℕ) (crews more : List Crew) (jobs : Vec Job Global)
+    (s : Stationed) → All (IsCrew inboxes masters hands) crews → AreJobs inboxes count jobs.items
+    → count ≡ hands_of masters hands actor → actor ≡ s.kept.bench.actor → more ≡ crews ++ (jobs, s) ∷ [] →
+    All (IsCrew inboxes masters hands) more
+one_crew inboxes masters hands count actor crews more jobs s before are many whose grown =
+    subst (λ (cs : List Crew). All (IsCrew inboxes masters hands) cs) (sym grown)
+    (All-push (IsCrew inboxes masters hands) crews (jobs, s) before
+    (subst (λ (n : ℕ). AreJobs inboxes n jobs.items) (many ∙ ap (hands_of masters hands) whose) are))
+
+pub crews_same : (crews more : List Crew) (stations : List Stationed) (jobs : Vec Job Global) (s : Stationed) →
+    map (λ crew. crew.1) crews ≡ stations → more ≡ crews ++ (jobs, s) ∷ [] →
+    map (λ crew. crew.1) more ≡ stations ++ s ∷ []
+crews_same crews more stations jobs s same grown =
+    ap (map (λ (crew : Crew). crew.1)) grown
+    ∙ map_push (λ (crew : Crew). crew.1) crews (jobs, s)
+    ∙ ap (λ (ss : List Stationed). ss ++ s ∷ []) same
+
+pub crews_whole : (all done left : List Stationed) (crews : List Crew) → done ++ left ≡ all → length left ≡ 0 →
+    map (λ crew. crew.1) crews ≡ done → map (λ crew. crew.1) crews ≡ all
+crews_whole all done left crews whole none same =
+    same ∙ sym (append-nil done) ∙ ap (λ (ss : List Stationed). done ++ ss) (sym (length_none left none)) ∙ whole
+  where
+    length_none : (xs : List Stationed) → length xs ≡ 0 → xs ≡ []
+    length_none [] is = refl
+    length_none (x ∷ xs) is = absurd (omega (arith, is))
+
+pub crews_many : (stations : List Stationed) (crews : List Crew) → map (λ crew. crew.1) crews ≡ stations →
+    length crews ≡ length stations
+crews_many stations crews same = sym (length-map crews (λ (crew : Crew). crew.1)) ∙ ap length same
+
+-- All hands can make their turns.
+
+pub all_ready : (name : RunName) (shared : Shared) (masters hands : ℕ) (crews : List Crew) → IsShared name shared →
+    All (IsCrew shared.inboxes.now masters hands) crews → AreAllReady name shared crews
+all_ready name shared masters hands crews shares each =
+    λ k d inside. record { shares = shares; passes = (each k d inside).passes }
+
+pub can_hand : (name : RunName) (shared : Shared) (actor whose : ℕ) (jobs : List Job) → CanTurn name shared jobs →
+    actor ≡ whose → actor < actors_in name.scenario
+    → (i : ℕ) (x : Job) → i < length jobs → x ≡ slice_index_or jobs i x →
+    IsShared name shared × (actor ≡ whose) × (actor < actors_in name.scenario)
+    × ArePassesOf shared.inboxes.now x.passes.items
+can_hand name shared actor whose jobs can is there i x inside at = (
+  can.shares,
+  is,
+  there,
+  subst (λ (job : Job). ArePassesOf shared.inboxes.now job.passes.items) (sym at) (can.passes i x inside),
+)
+
+pub can_turn : (name : RunName) (shared : Shared) (crews : List Crew) → AreAllReady name shared crews
+    → (i : ℕ) (x : Crew) → i < length crews → x ≡ slice_index_or crews i x → CanTurn name shared x.0.items
+can_turn name shared crews all i x inside at =
+    subst (λ (crew : Crew). CanTurn name shared crew.0.items) (sym at) (all i x inside)

@@ -1,19 +1,20 @@
 -- The stations of a run, as they are made one after the other.
-use Rattle.std.proofs.Common.{◌≡◌, ℕ, suc, ◌+◌, ◌<◌, true, List, [], ◌∷◌, ◌++◌, length, map, drop, refl, sym, ◌∙◌, ap}
+use Rattle.std.proofs.Common.{◌≡◌, ℕ, suc, ◌+◌, ◌<◌, true, List, [], ◌∷◌, ◌++◌, length, map, drop, All, sym, ◌∙◌, ap}
 use Rattle.std.proofs.Common.{subst, arith}
-use Rattle.std.specs.Prelude.{Result, Ok, Err, OnOk}
 use Rattle.std.specs.List.{slice_index_or}
-use Rattle.plain_lists.specs.declared.want.Want.{Want}
 use Rattle.std.specs.declared.vec.Vec.{Vec}
 use Rattle.std.specs.declared.alloc.Global.{Global}
 use Rattle.std.proofs.lemmas.List.{length-map}
+use Rattle.std.proofs.lemmas.List.Elements.{All-same, All-nil, All-push}
 use Rattle.play_words.specs.declared.input.Input.{Input}
 use Rattle.scenario_file.specs.Reading.{Contents}
 use Rattle.world_rules.specs.Scenarios.{actors_in}
 use Rattle.stamps.specs.Seats.{Source, Drawer, new_seat}
 use Rattle.station_turns.specs.Pace.{fit_inputs}
 use Rattle.station_turns.specs.Naming.{RunName}
-use Rattle.replica_threads.specs.Courses.{AreFit, seats_made}
+use Rattle.replica_threads.specs.declared.course.Course.{Course}
+use Rattle.replica_threads.specs.declared.place.Place.{Place}
+use Rattle.replica_threads.specs.Courses.{AreFit, IsCourse, IsPlace, seats_made}
 use Rattle.replica_threads.proofs.Numbers.{drop_none, drop_next}
 
 abbrev pub lists : List (Vec Input Global) → List (List Input)
@@ -91,6 +92,17 @@ pub first_after : (source : Source) (first new : Drawer) (actor : ℕ) → first
     new ≡ record first { made = first.made + 1 } → new ≡ seats_made source (actor + 1)
 first_after source first new actor is counted = counted ∙ ap (λ (d : Drawer). record d { made = d.made + 1 }) is
 
-pub ok_after : (P : Type 0) {A : Type 0} (result : Result A Want) → P → OnOk result P
-ok_after P (Ok x) holds = holds
-ok_after P (Err want) holds = tt
+-- the places so far
+
+pub no_places : (name : RunName) (places : List Place) → places ≡ [] → All (IsPlace name) places
+no_places name places none = All-same (IsPlace name) places [] none (All-nil (IsPlace name))
+
+pub one_place : (name : RunName) (places more : List Place) (place : Place) → All (IsPlace name) places →
+    IsPlace name place → more ≡ places ++ place ∷ [] → All (IsPlace name) more
+one_place name places more place each is grown = All-same (IsPlace name) more (places ++ place ∷ []) grown
+    (All-push (IsPlace name) places place each is)
+
+pub can_make : (name : RunName) (course : Course) (places : List Place) → IsCourse name course →
+    All (IsPlace name) places
+    → (i : ℕ) (x : Place) → i < length places → x ≡ slice_index_or places i x → IsCourse name course × IsPlace name x
+can_make name course places is each i x inside at = (is, subst (IsPlace name) (sym at) (each i x inside))

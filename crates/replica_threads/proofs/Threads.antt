@@ -1,4 +1,4 @@
--- Threads share what the hands of a run share.
+-- Threads share what the hands of a run share, and how the run goes.
 use denote.Ref.{NamedLft}
 use denote.Param.Send.{IsSend, IsSync, sendable}
 use Rattle.std.proofs.Crossing.{crosses}
@@ -8,6 +8,7 @@ use Rattle.inboxes.proofs.inbox.Inbox.TheSendSync as inbox
 use Rattle.replica_threads.proofs.posted.Posted.TheSendSync as posted
 use Rattle.stamps.proofs.source.Stamps.TheSendSync as stamps
 use Rattle.replica_threads.specs.contracts.shared.Shared as Shared
+use Rattle.replica_threads.specs.contracts.course.Course as Course
 
 pub shared_sync : (a : NamedLft) → IsSync (Shared.the_row a)
 shared_sync a = search (
@@ -20,3 +21,6 @@ shared_sync a = search (
   crosses,
   sendable,
 ) depth 60 fits 20000
+
+pub course_sync : (a : NamedLft) → IsSync (Course.the_row a)
+course_sync a = search (scenario_sync, crosses, sendable) depth 60 fits 20000

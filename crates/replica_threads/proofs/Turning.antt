@@ -13,7 +13,8 @@ use Rattle.script_laws.specs.Accepted.{is_there}
 use Rattle.station_turns.specs.declared.held.Held.{Held}
 use Rattle.station_turns.specs.declared.held.Turned.{Turned}
 use Rattle.station_turns.specs.Turns.{Stationed, Turns, still_held}
-use Rattle.replica_threads.specs.Letters.{IsWellTurned}
+use Rattle.station_turns.specs.Naming.{RunName, IsOwn}
+use Rattle.replica_threads.specs.Letters.{IsWellTurned, IsTurnOf}
 use Rattle.replica_threads.proofs.TakenByHands.{stand_held}
 
 still_stands : (w : Setup) (held : Option Held) (stamp : ℕ) → stand_held w held → stand_held w (still_held held stamp)
@@ -85,3 +86,19 @@ some_well c o t well is = subst (λ (p : Option Turned). IfSome p (λ x. IsWellT
 pub held_of : (c : Contents) (t : Turned) (held : Option Held) → IsWellTurned c t → held ≡ t.held →
     stand_held (setup_of c) held
 held_of c t held well same = subst (stand_held (setup_of c)) (sym same) well.back
+
+-- whose turn it is
+pub turn_of : (name : RunName) (actor whose : ℕ) (old new : Stationed) (held : Option Held) (t : Turned) →
+    actor ≡ whose → Turns old held t new → IsOwn name whose old × IsOwn name whose new → IsTurnOf name actor t
+turn_of name actor whose old new held t is turns both = record {
+  old = old;
+  new = new;
+  held = held;
+  before = subst (λ (a : ℕ). IsOwn name a old) (sym is) both.0;
+  turns = turns;
+  after = subst (λ (a : ℕ). IsOwn name a new) (sym is) both.1;
+}
+
+pub some_of : (name : RunName) (actor : ℕ) (o : Option Turned) (t : Turned) → IfSome o (λ x. IsTurnOf name actor x) →
+    o ≡ Some t → IsTurnOf name actor t
+some_of name actor o t whose is = subst (λ (p : Option Turned). IfSome p (λ x. IsTurnOf name actor x)) is whose

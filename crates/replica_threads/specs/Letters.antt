@@ -1,6 +1,6 @@
 -- What is handed on of a turn, and to whom. (This project's own.)
 use Rattle.std.specs.Prelude.{◌≡◌, ℕ, suc, ◌^◌, ◌<◌, true, false, List, [], ◌∷◌, ◌++◌, length, map, filter, take}
-use Rattle.std.specs.Prelude.{Option, Some, None, slice_get, nat_eq, if◌then◌else◌, IfSome}
+use Rattle.std.specs.Prelude.{Option, Some, None, slice_get, nat_eq, All, if◌then◌else◌, IfSome}
 use Rattle.std.specs.List.{list_all, flat_map}
 use Rattle.message_types.specs.declared.signed.Signed.{Signed}
 use Rattle.message_types.specs.declared.body.Body.{Body}
@@ -10,7 +10,10 @@ use Rattle.history_rules.specs.Setup.{stands}
 use Rattle.world_rules.specs.Scenarios.{setup_of}
 use Rattle.world_rules.specs.Frames.{addressees}
 use Rattle.script_laws.specs.Accepted.{is_there}
+use Rattle.station_turns.specs.declared.held.Held.{Held}
 use Rattle.station_turns.specs.declared.held.Turned.{Turned}
+use Rattle.station_turns.specs.Turns.{Stationed, Turns}
+use Rattle.station_turns.specs.Naming.{RunName, IsOwn}
 use Rattle.inboxes.specs.declared.pass.InboxPass.{InboxPass}
 use Rattle.inboxes.specs.Passes.{known}
 use Rattle.replica_threads.specs.declared.posted.Posted.{Posted}
@@ -71,3 +74,18 @@ pub record IsWellTurned (c : Contents) (t : Turned) : Type 0 where
   pub stand : t.cried ≡ false → list_all (stands (setup_of c)) t.frames.items ≡ true
   pub there : list_all (is_there c) t.to ≡ true
   pub back : IfSome t.held (λ h. stands (setup_of c) h.frame ≡ true)
+
+-- A turn of this actor in the run of this name: of the actor's own station, which stays its own.
+pub record IsTurnOf (name : RunName) (actor : ℕ) (t : Turned) : Type 0 where
+  pub old : Stationed
+  pub new : Stationed
+  pub held : Option Held
+  pub before : IsOwn name actor old
+  pub turns : Turns old held t new
+  pub after : IsOwn name actor new
+
+-- By these passes, one an actor's inbox, went the letters of some turns of this actor, turn by turn, and nothing else.
+pub record HaveSentTurns (name : RunName) (actor : ℕ) (old new : List (InboxPass Posted)) : Type 0 where
+  pub turns : List Turned
+  pub each : All (IsTurnOf name actor) turns
+  pub sent : HaveSent old (flat_map (letters name.scenario actor) turns) new

@@ -2,7 +2,7 @@
 //! type that holds itself, as the tree of a rule does.)
 
 use scenario_file::Scenario;
-use station_turns::{Naming, Station};
+use station_turns::{Naming, OwnStation, Owner, Station};
 use std::sync::Mutex;
 use world_history::{Bench, Kept};
 
@@ -33,14 +33,10 @@ pub fn station_may_move<N: Naming + Send + Sync>(station: &Station<N>) {
     moves(station);
 }
 
-/// Its lock may be given to another thread, and lent to several.
-pub fn lock_may_cross<N: Naming + Send + Sync>(station: &Mutex<Station<N>>) {
+/// So may the station of one actor, and its lock may be lent to several besides.
+pub fn lock_may_cross<N: Naming + Send + Sync, A: Owner + Send + Sync>(
+    station: &Mutex<OwnStation<N, A>>,
+) {
     moves(station);
     lends(station);
-}
-
-/// So may the locks of all actors of a run.
-pub fn locks_may_cross<N: Naming + Send + Sync>(stations: &Vec<Mutex<Station<N>>>) {
-    moves(stations);
-    lends(stations);
 }

@@ -4,6 +4,5 @@ use inboxes::InboxPass;
 /// A hand of an actor, with a pass of each inbox.
 #[derive(Drop)]
 pub struct Job {
-    pub actor: u32,
     pub passes: Vec<InboxPass<Posted>>,
 }

@@ -1,15 +1,16 @@
 //! The inboxes of a run, and the hands with their passes.
-ghost use Rattle.std.specs.Prelude.{◌≡◌, ◌≤◌, ◌<◌, ◌++◌, length, map, replicate, Some, slice_get, All, IfOk, OnOk};
+ghost use Rattle.std.specs.Prelude.{◌≡◌, ◌<◌, length, map, Some, slice_get, All, IfOk};
 ghost use Rattle.inboxes.specs.Passes.{IsPassOf};
 ghost use Rattle.inboxes.specs.declared.inbox.Inbox.{Inbox as Box};
 ghost use Rattle.replica_threads.specs.declared.posted.Posted.{Posted as Frame};
 ghost use Rattle.replica_threads.specs.Hands.{ArePassesOf};
-ghost use Rattle.replica_threads.specs.Courses.{IsJob, hands_at, all_hands};
+ghost use Rattle.replica_threads.specs.Courses.{hands_of, AreJobs, IsCrew};
 
 use crate::Posted;
 use crate::job::Job;
 use inboxes::{Inbox, InboxPass};
 use plain_lists::Want;
+use station_turns::{Naming, Station};
 use std::alloc::Global;
 
 /// An inbox for each of so many actors, with the passes that all others are split off from.
@@ -63,52 +64,50 @@ fn more_passes(
 
 /// How many hands an actor has.
 fn hands_of(actor: u32, masters: u32, hands: u32) -> u32
-    ensures { replicate result actor ≡ hands_at masters hands actor }
+    ensures { result ≡ hands_of masters hands actor }
 {
     if actor < masters { hands } else { 1 }
 }
 
-/// Adds so many hands of an actor.
-fn add_hands(
+/// So many hands of an actor.
+fn jobs(
     alloc: Global,
-    jobs: &mut Vec<Job>,
-    actor: u32,
-    hands: u32,
+    count: u32,
     inboxes: &[Inbox<Posted>],
     passes: &mut Vec<InboxPass<Posted>>,
-) -> Result<(), Want>
+) -> Result<Vec<Job>, Want>
     requires passes { ArePassesOf inboxes.now passes.old.items }
-    requires there { actor < length inboxes.now }
-    requires jobs { All (IsJob inboxes.now) jobs.old.items }
     ensures passes { ArePassesOf inboxes.now passes.new.items }
-    ensures jobs { OnOk result (All (IsJob inboxes.now) jobs.new.items) }
-    ensures actors { OnOk result (map (λ job. job.actor) jobs.new.items ≡ map (λ job. job.actor) jobs.old.items ++ replicate hands actor) }
+    ensures jobs { IfOk result (λ jobs. AreJobs inboxes.now count jobs.items) }
 {
-    for _hand in 0..hands {
+    let mut jobs = Vec::new(alloc);
+    for _hand in 0..count {
         let passes = more_passes(alloc, inboxes, passes)?;
-        jobs.push(Job { actor, passes })?;
+        jobs.push(Job { passes })?;
     }
-    Ok(())
+    Ok(jobs)
 }
 
-/// The hands of all actors: so many of each master, which have the lowest numbers, and one of each other actor.
-pub(crate) fn jobs(
+/// The stations with the hands of their actors: so many of each master, which have the lowest numbers, and one of each other
+/// actor.
+pub(crate) fn crews<N: Naming>(
     alloc: Global,
     masters: u32,
     hands: u32,
     inboxes: &[Inbox<Posted>],
     passes: &mut Vec<InboxPass<Posted>>,
-) -> Result<Vec<Job>, Want>
+    stations: Vec<Station<N>>,
+) -> Result<Vec<(Vec<Job>, Station<N>)>, Want>
     requires passes { ArePassesOf inboxes.now passes.old.items }
-    requires few { length inboxes.now ≤ 26 }
     ensures passes { ArePassesOf inboxes.now passes.new.items }
-    ensures jobs { IfOk result (λ jobs. All (IsJob inboxes.now) jobs.items) }
-    ensures actors { IfOk result (λ jobs. map (λ job. job.actor) jobs.items ≡ all_hands masters hands (length inboxes.now)) }
+    ensures hands { IfOk result (λ crews. All (IsCrew inboxes.now masters hands) crews.items) }
+    ensures stations { IfOk result (λ crews. map (λ crew. crew.1) crews.items ≡ stations.items) }
 {
-    let mut jobs = Vec::new(alloc);
-    for actor in 0..inboxes.len() as u32 {
-        let count = hands_of(actor, masters, hands);
-        add_hands(alloc, &mut jobs, actor, count, inboxes, passes)?;
+    let mut crews = Vec::with_capacity(alloc, stations.len())?;
+    for station in stations {
+        let count = hands_of(station.actor(), masters, hands);
+        let jobs = jobs(alloc, count, inboxes, passes)?;
+        crews.push((jobs, station))?;
     }
-    Ok(jobs)
+    Ok(crews)
 }

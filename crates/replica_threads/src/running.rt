@@ -9,7 +9,7 @@ ghost use Rattle.replica_threads.specs.Courses.{AreFit, IsCourse, seats_made};
 use crate::course::Course;
 use crate::finishing::all_finished;
 use crate::handing::make_all_turns;
-use crate::mailing::{empty_inboxes, jobs};
+use crate::mailing::{crews, empty_inboxes};
 use crate::seating::stations;
 use crate::{Gate, Shared, ended};
 use plain_lists::Want;
@@ -19,7 +19,7 @@ use stamps::{StampSeat, Stamps};
 use station_turns::{Naming, Station};
 use std::alloc::Global;
 use std::marker::Brand;
-use std::sync::{Mutex, Wait};
+use std::sync::Wait;
 use std::thread::Threads;
 use world_history::{Kept, ring_of};
 
@@ -29,7 +29,7 @@ fn all_turned<N: Naming + Send + Sync, R: Threads + Wait + Sync, G: Gate + Sync>
     course: &Course<'_>,
     stamps: &Stamps,
     gate: &G,
-    stations: Vec<Mutex<Station<N>>>,
+    stations: Vec<Station<N>>,
 ) -> Result<Vec<Station<N>>, Want>
     requires course { IsCourse N.name course.now }
     requires source { stamps.now ≡ N.name.source }
@@ -50,15 +50,16 @@ fn all_turned<N: Naming + Send + Sync, R: Threads + Wait + Sync, G: Gate + Sync>
         inboxes: boxes,
         turns: course.turns,
     };
-    let jobs = jobs(
+    let crews = crews(
         alloc,
         course.scenario.cast().masters,
         course.hands,
         boxes,
         &mut passes,
+        stations,
     )?;
-    make_all_turns(rt, &shared, stations.as_slice(), gate, jobs)?;
-    all_finished(rt, &shared, actors, stations, passes)
+    let turned = make_all_turns(rt, &shared, gate, crews)?;
+    all_finished(rt, &shared, turned, passes)
 }
 
 /// The run of this name, with these stamps and the seat that they came with.
@@ -79,7 +80,7 @@ fn run_named<N: Naming + Send + Sync, R: Threads + Wait + Sync, G: Gate + Sync>(
     ensures run { IfOk result (λ kept. IsRun N.name.scenario N.name.inputs N.name.turns (map (λ k. k.bench) kept.items)) }
     ensures works { IfOk result (λ kept. All (λ k. k.is_spent ≡ false) kept.items) }
 {
-    let stations = stations::<N>(course, &stamps, &mut first, inputs)?;
+    let stations = stations::<N, R>(rt, course, &stamps, &mut first, inputs)?;
     let turned = all_turned::<N, R, G>(rt, course, &stamps, gate, stations)?;
     ended(course.alloc, stamps, first, turned)
 }

@@ -19,7 +19,7 @@ use Rattle.station_turns.specs.declared.held.Turned.{Turned}
 use Rattle.station_turns.specs.Pace.{fit_inputs, turns_made, inputs_used, begins}
 use Rattle.station_turns.specs.Turns.{Stationed, IsAlive, HasSkipped, Enters, Turns}
 use Rattle.station_turns.proofs.SkipsOfTurn.{skips_world}
-use Rattle.station_turns.specs.Naming.{RunName, IsOf}
+use Rattle.station_turns.specs.Naming.{RunName, IsOf, IsOwn}
 use Rattle.station_turns.proofs.CountsGrow.{no_turns, no_inputs, no_words}
 
 -- a station with what it says of its memory
@@ -174,6 +174,40 @@ of_turned name old new held t (inr adds) one =
     of_entered name adds.mid new adds.stamp _ t adds.enters
     (of_skipped name old adds.mid held adds.draws.skips (adds.stamp ∷ []) adds.draws.skipped one)
 
+-- A turn leaves a station its actor's.
+
+actor_skipped : (old new : Stationed) (held : Option Held) (skips more : List ℕ) → HasSkipped old held skips more new →
+    new.kept.bench.actor ≡ old.kept.bench.actor
+actor_skipped old new held skips more has = ap (λ (b : BenchState). b.actor) has.bench
+    ∙ (skips_world old.kept.bench skips).1
+
+pub actor_turned : (old new : Stationed) (held : Option Held) (t : Turned) → Turns old held t new →
+    new.kept.bench.actor ≡ old.kept.bench.actor
+actor_turned old new held t (inl cut) = actor_skipped old new held (cut.draws.skips ++ t.stamp ∷ []) [] cut.draws.skipped
+actor_turned old new held t (inr adds) =
+    ap (λ (b : BenchState). b.actor) adds.enters.bench
+    ∙ actor_skipped old adds.mid held adds.draws.skips (adds.stamp ∷ []) adds.draws.skipped
+
+-- whose it is
+pub whose_seen : (s now : Stationed) (given_up : Bool) → seen_as s given_up ≡ now →
+    s.kept.bench.actor ≡ now.kept.bench.actor
+whose_seen s now given_up is = ap (λ (x : Stationed). x.kept.bench.actor) is
+
+pub own_before : (s now : Stationed) (given_up : Bool) (used count : ℕ) (name : RunName) → seen_as s given_up ≡ now →
+    IsAlive s used count → IsOf name s → IsOwn name now.kept.bench.actor now
+own_before s now given_up used count name is alive one = record {
+  of = of_seen s now given_up name is one;
+  whose = refl;
+  seat = sym (ap (λ (x : Stationed). x.seat.number) is) ∙ alive.steady.number
+      ∙ ap (λ (a : ℕ). a + 1) (whose_seen s now given_up is);
+}
+
+pub own_after : (name : RunName) (old new : Stationed) (held : Option Held) (t : Turned) (used count : ℕ) →
+    Turns old held t new → IsAlive new used count → IsOf name new → IsOwn name old.kept.bench.actor new
+own_after name old new held t used count turns alive one =
+    let same = actor_turned old new held t turns in
+    record { of = one; whose = same; seat = alive.steady.number ∙ ap (λ (a : ℕ). a + 1) same }
+
 -- what a station tells while it isn't given up
 
 works_inside : (s now : Stationed) (given_up : Bool) → seen_as s given_up ≡ now →
@@ -202,6 +236,14 @@ pub halt_seen : (s now : Stationed) (given_up : Bool) (used count : ℕ) (name :
 halt_seen s now given_up used count name halted is lives tells working =
     tells (lives (works_inside s now given_up is working)).0.steady.works
     ∙ ap (λ (x : Stationed). halted_in x.kept.bench) is
+
+pub there_seen : (s now : Stationed) (given_up : Bool) (used count : ℕ) (name : RunName) → seen_as s given_up ≡ now →
+    (given_up ≡ false → IsAlive s used count × IsOf name s) → now.given_up ≡ false
+    → now.kept.bench.actor < actors_in name.scenario
+there_seen s now given_up used count name is lives working =
+    let live = lives (works_inside s now given_up is working) in
+    subst (λ (a : ℕ). a < actors_in name.scenario) (whose_seen s now given_up is)
+    (subst (λ (w : Contents). s.kept.bench.actor < actors_in w) live.1.world live.0.steady.there)
 
 pub lives_seen : (s now : Stationed) (given_up : Bool) (used count : ℕ) (name : RunName) → seen_as s given_up ≡ now →
     (given_up ≡ false → IsAlive s used count × IsOf name s) → now.given_up ≡ false

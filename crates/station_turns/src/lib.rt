@@ -8,11 +8,13 @@ mod held;
 pub mod laws;
 pub mod live;
 mod naming;
+mod own_station;
 mod skipping;
 mod station;
 mod turning;
 
 pub use checking::held_if_standing;
 pub use held::{Held, Turned};
-pub use naming::Naming;
+pub use naming::{Naming, Owner};
+pub use own_station::OwnStation;
 pub use station::Station;

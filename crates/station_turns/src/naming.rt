@@ -14,3 +14,14 @@ impl Naming for Brand {
 
     ghost name = { record { scenario = smallest; inputs = []; turns = 1; source = no_source } };
 }
+
+/// Whose station it is. Whoever puts a station behind a lock picks it, so that all who take the lock agree on it.
+pub trait Owner {
+    ghost use Rattle.std.specs.Prelude.{ℕ};
+
+    ghost actor: { ℕ };
+}
+
+impl Owner for Brand {
+    ghost actor = { 0 };
+}

@@ -10,7 +10,7 @@ ghost use Rattle.script_laws.specs.Accepted.{is_there};
 ghost use Rattle.world_history.specs.KeptState.{halted_in, first_state};
 ghost use Rattle.station_turns.specs.Pace.{fit_inputs, turns_made, inputs_used};
 ghost use Rattle.station_turns.specs.Turns.{Stationed, IsAlive, Turns};
-ghost use Rattle.station_turns.specs.Naming.{IsOf};
+ghost use Rattle.station_turns.specs.Naming.{IsOf, IsOwn};
 
 use crate::held::{Held, Turned};
 use crate::live::Live;
@@ -102,6 +102,14 @@ impl<N: Naming> Station<N> {
         })
     }
 
+    /// Whose station it is. It takes no memory.
+    pub fn actor(&self) -> u32
+        ensures whose { result ≡ self.now.kept.bench.actor }
+        ensures there { self.now.given_up ≡ false → result < actors_in N.name.scenario }
+    {
+        self.live.kept.bench().actor()
+    }
+
     /// How many turns it has made. It takes no memory.
     pub fn count(&self) -> u64
         ensures made { self.now.given_up ≡ false → result ≡ turns_made self.now.kept.bench.list }
@@ -141,6 +149,7 @@ impl<N: Naming> Station<N> {
         ensures spelled { IfOk result (λ t. list_all has_spelling t.frames.items ≡ true) }
         ensures stand { IfOk result (λ t. t.cried ≡ false → list_all (stands (setup_of N.name.scenario)) t.frames.items ≡ true) }
         ensures there { IfOk result (λ t. list_all (is_there N.name.scenario) t.to ≡ true) }
+        ensures whose { OnOk result (IsOwn N.name self.old.kept.bench.actor self.old × IsOwn N.name self.old.kept.bench.actor self.new) }
         ensures made { OnOk result ((halted_in self.new.kept.bench ≡ true) ⊎ (turns_made self.new.kept.bench.list ≡ turns_made self.old.kept.bench.list + 1)) }
         ensures works { OnOk result (self.new.given_up ≡ false) }
         ensures refused { OnErr result (self.new.given_up ≡ true) }

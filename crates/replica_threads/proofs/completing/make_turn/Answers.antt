@@ -2,7 +2,8 @@
 -- the turn is well made, so each frame of it can be posted.
 use Rattle.std.proofs.Common.{length, arith}
 use Rattle.scenario_file.specs.Reading.{contents}
-use Rattle.replica_threads.proofs.Turning.{well_turned, valid_here, all_here, well_here, held_of}
+use Rattle.replica_threads.proofs.Turning.{well_turned, valid_here, all_here, well_here, held_of, turn_of}
+use Rattle.replica_threads.proofs.TurnsSent.{turn_sent}
 use Rattle.replica_threads.proofs.completing.make_turn.Goals as goal
 
 pub next_held-requires-clause-there : goal.next_held-requires-clause-there
@@ -33,6 +34,12 @@ post_all-requires-clause-well g c =
 pub returns : goal.returns
 returns g c = record {
   passes = c.in_ok-post_all.ensures.passes;
+  sent = turn_sent g.N.Naming.name c.args.actor (contents c.args.shared.now.scenario.now) c.in_ok-turned.turned
+      c.args.passes.now.items c.next_held.new.passes.items c.post_all.new.passes.items
+      c.requires.shared.scenario c.next_held.ensures.quiet
+      (turn_of g.N.Naming.name c.args.actor g.A.Owner.actor c.args.station.now c.turn.new.self c.in_ok-taken.taken
+      c.in_ok-turned.turned c.requires.whose c.in_ok-turned.ensures.turns c.in_ok-turned.ensures.whose)
+      c.in_ok-post_all.ensures.sent;
   stands = held_of g.N.Naming.name.scenario c.in_ok-turned.turned c.take.result
       (well_turned g.N.Naming.name.scenario c.args.station.now c.turn.new.self c.in_ok-taken.taken
       c.in_ok-turned.turned c.in_ok-turned.ensures.turns

@@ -1,9 +1,13 @@
-use Rattle.std.specs.Vec.Iter.{into_iter_len}
+use Rattle.std.proofs.Common.{◌≡◌, ◌++◌, length, All}
 use Rattle.replica_threads.specs.Hands.{ArePassesOf}
-use Rattle.replica_threads.proofs.Ends.{AreEnded}
+use Rattle.replica_threads.specs.Ended.{HasEnded}
 use Rattle.replica_threads.proofs.finishing.all_finished.Given as goal
 
 -- the stations so far have ended
-abbrev pub invariant-loop-actor : goal.invariant-loop-actor
-invariant-loop-actor g l = ArePassesOf l.shared.inboxes.now l.passes.items
-    × AreEnded g.N.Naming.name.turns l.actors l.actor l.all.items (into_iter_len l.left)
+abbrev pub invariant-loop-station : goal.invariant-loop-station
+invariant-loop-station g l = record {
+  whole : l.yielded ++ l.station-iterator.rest.items ≡ l.fn.stations.items;
+  passes : ArePassesOf l.shared.inboxes.now l.passes.items;
+  each : All (HasEnded g.N.Naming.name.turns) l.all.items;
+  many : length l.all.items ≡ length l.yielded;
+}

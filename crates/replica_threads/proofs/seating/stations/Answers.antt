@@ -1,76 +1,19 @@
--- Seats and lists of inputs are handed out in the actors' order, so each actor has the next one of both. There
--- are as many lists as actors, so none runs out.
-use Rattle.std.proofs.Common.{◌≡◌, ◌+◌, ap, ◌∙◌, length, sym, refl, arith, true≢false}
-use Rattle.std.specs.Vec.Iter.{into_iter_items}
-use Rattle.std.proofs.lemmas.List.{length_push}
-use Rattle.world_rules.specs.Scenarios.{actors_in}
-use Rattle.replica_threads.proofs.Seats.{none_seated, next_there, next_inputs, next_fit, one_seated, all_seated}
+-- Threads share the course, which is read alone, and a station may move from the thread that makes it. Each place's
+-- station can be made, as it is one of the run's.
+use denote.Param.Send.{sendable}
+use Rattle.std.proofs.Crossing.{crosses}
+use Rattle.replica_threads.proofs.ActorsCross.{station_send}
+use Rattle.replica_threads.proofs.Threads.{course_sync}
+use Rattle.replica_threads.proofs.Seats.{can_make}
 use Rattle.replica_threads.proofs.seating.stations.Goals as goal
 
-pub loop-actor-init : goal.loop-actor-init
-loop-actor-init g c = (
-  none_seated g.N.Naming.name c.args.stamps.now c.args.first.now 0 c.args.inputs.items
-      (into_iter_items c.into_iter-lists.result) refl c.into_iter-lists.ensures.rest c.requires.first c.requires.inputs
-      c.requires.fit,
-  ap length c.in_ok-stations.ensures.items,
-  omega (arith, c.into_iter-lists.ensures.len, ap length c.into_iter-lists.ensures.rest, c.args.inputs.ok),
-)
+pub map_vec-requires-sync-F : goal.map_vec-requires-sync-F
+map_vec-requires-sync-F g c κs within = search (course_sync, sendable) depth 60 fits 20000
 
-pub unreachable-requires : goal.unreachable-requires
-unreachable-requires g c =
-    let many : c.actors-actor-end.result ≡ actors_in g.N.Naming.name.scenario = c.actors-actor-end.ensures.actors
-    ∙ ap actors_in c.requires.course.scenario in
-    true≢false (sym (c.in_default.ensures.variant.1
-    (omega (arith, many, c.loop-actor.invariant.0.all, c.loop-actor.invariant.2, c.loop-actor-test.true))))
+pub map_vec-requires-send-X : goal.map_vec-requires-send-X
+map_vec-requires-send-X g c κs within = search (station_send, crosses, sendable) depth 60 fits 20000
 
-pub seated-requires-clause-first : goal.seated-requires-clause-first
-seated-requires-clause-first g c = c.loop-actor.invariant.0.first_is
-
-pub seated-requires-clause-there : goal.seated-requires-clause-there
-seated-requires-clause-there g c =
-    next_there g.N.Naming.name c.args.stamps.now c.loop-actor.first c.loop-actor.actor c.in-Some.list
-    (into_iter_items c.loop-actor.lists) (into_iter_items c.next.new.self) c.in-Some.ensures.items
-    c.loop-actor.invariant.0
-
-pub seated-requires-clause-inputs : goal.seated-requires-clause-inputs
-seated-requires-clause-inputs g c =
-    next_inputs g.N.Naming.name c.args.stamps.now c.loop-actor.first c.loop-actor.actor c.in-Some.list
-    (into_iter_items c.loop-actor.lists) (into_iter_items c.next.new.self) c.in-Some.ensures.items
-    c.loop-actor.invariant.0
-
-pub seated-requires-clause-fit : goal.seated-requires-clause-fit
-seated-requires-clause-fit g c =
-    next_fit g.N.Naming.name c.args.stamps.now c.loop-actor.first c.loop-actor.actor c.in-Some.list
-    (into_iter_items c.loop-actor.lists) (into_iter_items c.next.new.self) c.in-Some.ensures.items
-    c.loop-actor.invariant.0 c.requires.fit
-
-pub loop-actor-preserved : goal.loop-actor-preserved
-loop-actor-preserved g c = (
-  one_seated g.N.Naming.name c.args.stamps.now c.loop-actor.first c.loop-actor.actor c.in-Some.list
-      (into_iter_items c.loop-actor.lists) (into_iter_items c.next.new.self) c.in-Some.ensures.items
-      c.loop-actor.invariant.0 c.seated.new.first (c.loop-actor.actor + 1) c.in_ok-station.ensures.first refl,
-  omega (
-    arith,
-    ap length c.in_ok-push.ensures.items,
-    length_push c.loop-actor.stations.items c.new.result,
-    c.loop-actor.invariant.1,
-  ),
-  omega (arith, c.loop-actor.invariant.2, c.in-Some.ensures.len, ap length c.in-Some.ensures.items),
-)
-
-pub returns-clause-first : goal.returns-clause-first
-returns-clause-first g c =
-    let many : c.actors-actor-end.result ≡ actors_in g.N.Naming.name.scenario = c.actors-actor-end.ensures.actors
-    ∙ ap actors_in c.requires.course.scenario in
-    (all_seated g.N.Naming.name c.args.stamps.now c.loop-actor.first c.loop-actor.actor
-    (into_iter_items c.loop-actor.lists)
-    (omega (arith, many, c.loop-actor.invariant.0.all, c.loop-actor-test.false)) c.loop-actor.invariant.0).1
-
-pub returns-clause-all : goal.returns-clause-all
-returns-clause-all g c =
-    let many : c.actors-actor-end.result ≡ actors_in g.N.Naming.name.scenario = c.actors-actor-end.ensures.actors
-    ∙ ap actors_in c.requires.course.scenario in
-    c.loop-actor.invariant.1
-    ∙ (all_seated g.N.Naming.name c.args.stamps.now c.loop-actor.first c.loop-actor.actor
-    (into_iter_items c.loop-actor.lists)
-    (omega (arith, many, c.loop-actor.invariant.0.all, c.loop-actor-test.false)) c.loop-actor.invariant.0).0
+pub map_vec-requires-after_bounds : goal.map_vec-requires-after_bounds
+map_vec-requires-after_bounds g c κs within =
+    can_make g.N.Naming.name c.args.course.now c.in_ok-places.places.items c.requires.course
+    c.in_ok-places.ensures.places

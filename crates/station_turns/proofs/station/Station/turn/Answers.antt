@@ -4,6 +4,7 @@ use Rattle.std.proofs.Common.{sym, ◌∙◌, ap}
 use Rattle.std.proofs.lemmas.Bool.{true≢false}
 use Rattle.station_turns.specs.Turns.{Stationed, stationed}
 use Rattle.station_turns.proofs.StationSeen.{asked_running, asked_left, asked_stands, turned_seen, of_turned, stand_seen}
+use Rattle.station_turns.proofs.StationSeen.{own_before, own_after}
 use Rattle.station_turns.proofs.WordTold.{there_told, made_told}
 use Rattle.station_turns.proofs.station.Station.turn.Goals as goal
 
@@ -44,6 +45,20 @@ pub returns-clause-there : goal.returns-clause-there
 returns-clause-there g c =
     there_told g.N.Naming.name (stationed c.self.inside.live) (stationed c.turn.new.live)
     c.args.held c.in_ok-turned.turned c.in_ok-turned.ensures.turns (c.self.invariant c.if-self.false).1
+
+pub returns-clause-whose : goal.returns-clause-whose
+returns-clause-whose g c = (
+  own_before (stationed c.self.inside.live) c.args.self.now c.self.inside.given_up c.self.inside.live.used
+      c.self.inside.live.count g.N.Naming.name c.self.view_is (c.self.invariant c.if-self.false).0
+      (c.self.invariant c.if-self.false).1,
+  own_after g.N.Naming.name c.args.self.now (stationed c.turn.new.live) c.args.held c.in_ok-turned.turned
+      c.turn.new.live.used c.turn.new.live.count
+      (turned_seen (stationed c.self.inside.live) c.args.self.now (stationed c.turn.new.live) c.self.inside.given_up
+      c.args.held c.in_ok-turned.turned c.self.view_is c.if-self.false c.in_ok-turned.ensures.turns)
+      c.in_ok-turned.ensures.alive
+      (of_turned g.N.Naming.name (stationed c.self.inside.live) (stationed c.turn.new.live)
+      c.args.held c.in_ok-turned.turned c.in_ok-turned.ensures.turns (c.self.invariant c.if-self.false).1),
+)
 
 pub returns-clause-made : goal.returns-clause-made
 returns-clause-made g c =
