@@ -15,8 +15,8 @@ use point_table::Area;
 use std::alloc::Global;
 use world_entries::Event;
 
-/// What a proxy says at an event, `room` words at most, and the proxy goes on. After want of memory it stays as it was, or has
-/// polled with words that nobody got.
+/// What a proxy says at an event, `room` words at most, and the proxy goes on. After want of memory it stays as it was but for
+/// `Proxy::broken_off`, or has polled with words that nobody got.
 pub fn answer_at_proxy(
     alloc: Global,
     proxy: &mut Proxy,

@@ -1,10 +1,10 @@
 -- A vote and the state after it.
-use Rattle.std.proofs.Common.{◌≡◌, ◌<◌, ◌≤◌, ◌+◌, ℕ, suc, zero, Bool, true, false, List, [], ◌∷◌, ◌++◌, length, take}
-use Rattle.std.proofs.Common.{drop, refl, sym, ap, ◌∙◌, subst, arith, add-zero, append_assoc}
-use Rattle.std.specs.Prelude.{Option, Some, None, ◌&&◌, map, filter, if◌then◌else◌, ℤ, slice_get, replicate, IsSomeAnd}
+use Rattle.std.proofs.Common.{◌≡◌, ◌+◌, ℕ, Bool, true, false, List, [], ◌∷◌, ◌++◌, length, take}
+use Rattle.std.proofs.Common.{drop, refl, sym, ap, ◌∙◌, subst}
+use Rattle.std.specs.Prelude.{Option, Some, None, ◌&&◌, map, if◌then◌else◌, ℤ, slice_get, replicate, IsSomeAnd}
 use Rattle.std.specs.Prelude.{Result, Ok, Err, OnOk}
 use Rattle.std.specs.List.{list_all}
-use Rattle.std.proofs.lemmas.List.{append-nil, map-append, length-map, drop_at, take_at}
+use Rattle.std.proofs.lemmas.List.{append-nil, map-append, length-map, drop_at}
 use Rattle.std.proofs.lemmas.List.Folds.{list_all-append}
 use Rattle.std.proofs.lemmas.Bool.{and_parts}
 use Rattle.message_types.specs.declared.vouchers.Order.{Order}
@@ -14,15 +14,18 @@ use Rattle.vouched_orders.specs.Vouching.{counts, counted, done}
 use Rattle.point_table.specs.declared.point.DeviceSizes.{DeviceSizes}
 use Rattle.point_table.specs.declared.point.Area.{Area}
 use Rattle.field_device.specs.Places.{Places, zeros, changed}
+use Rattle.plain_lists.specs.Lists.{Begins}
+use Rattle.field_proxy.specs.declared.line.Exchange.{Exchange}
 use Rattle.field_proxy.specs.declared.line.Line.{Line}
 use Rattle.field_proxy.specs.declared.writes.Write.{Write}
-use Rattle.field_proxy.specs.Exchanges.{asked}
+use Rattle.field_proxy.specs.Exchanges.{line_after, asked}
 use Rattle.field_proxy.specs.Writes.{can_write, order_of, order_requests, after_orders, kept_orders}
 use Rattle.field_proxy.specs.Readings.{poll_requests, readings, last_in, told}
 use Rattle.vouched_orders.specs.Tally.{Tally, IsTallyOf, MakesDone, TakesVote, TalliesAlike}
 use Rattle.vouched_orders.proofs.VouchingLaws.{done-none}
 use Rattle.field_proxy.specs.Front.{Front, ProxyState, IsFrontOf, front_with_votes, votes_with, after_change}
-use Rattle.field_proxy.specs.Front.{after_orders_done, after_vote, polled, after_poll, fresh}
+use Rattle.field_proxy.specs.Front.{after_orders_done, after_vote, orders_with, poll_passes, vote_passes, polled, after_poll}
+use Rattle.field_proxy.specs.Front.{fresh}
 use Rattle.message_types.specs.declared.updates.Op.{Op}
 use Rattle.field_proxy.proofs.OrderLaws.{after_orders-none, kept_orders-none, orders_kept}
 use Rattle.field_proxy.proofs.VoteLaws.{done_passes}
@@ -65,6 +68,18 @@ vote_ignored s vote are no_count =
     ∙ ap (after_orders_done s s.votes) (nothing_new s.writes (done s.n s.f s.votes) are)
     ∙ no_orders s
 
+-- the orders that a vote makes done
+orders_are : (s : Front) (vote : Vote) (orders : List Order) → map order_of s.writes ≡ done s.n s.f s.votes
+    → counts (can_write s.points s.client) s.client vote ≡ true →
+    done s.n s.f (s.votes ++ vote ∷ []) ≡ done s.n s.f s.votes ++ orders → orders_with s vote ≡ orders
+orders_are s vote orders are it_counts more =
+    let same : votes_with s vote ≡ s.votes ++ vote ∷ [] =
+    ap (λ more. s.votes ++ more) (one_counted (can_write s.points s.client) s.client vote it_counts) in
+    let size : length (done s.n s.f s.votes) ≡ length s.writes = ap length (sym are) ∙ length-map s.writes order_of in
+    ap (λ votes. drop (length s.writes) (done s.n s.f votes)) same
+    ∙ ap (drop (length s.writes)) more
+    ∙ drop_at (done s.n s.f s.votes) orders (length s.writes) size
+
 pub vote_counted : (s : Front) (vote : Vote) (orders : List Order) → map order_of s.writes ≡ done s.n s.f s.votes
     → counts (can_write s.points s.client) s.client vote ≡ true →
     done s.n s.f (s.votes ++ vote ∷ []) ≡ done s.n s.f s.votes ++ orders
@@ -72,10 +87,8 @@ pub vote_counted : (s : Front) (vote : Vote) (orders : List Order) → map order
 vote_counted s vote orders are it_counts more =
     let same : votes_with s vote ≡ s.votes ++ vote ∷ [] =
     ap (λ more. s.votes ++ more) (one_counted (can_write s.points s.client) s.client vote it_counts) in
-    let size : length (done s.n s.f s.votes) ≡ length s.writes = ap length (sym are) ∙ length-map s.writes order_of in
-    ap (λ votes. after_orders_done s votes (drop (length s.writes) (done s.n s.f votes))) same
-    ∙ ap (λ all. after_orders_done s (s.votes ++ vote ∷ []) (drop (length s.writes) all)) more
-    ∙ ap (after_orders_done s (s.votes ++ vote ∷ [])) (drop_at (done s.n s.f s.votes) orders (length s.writes) size)
+    ap (λ votes. after_orders_done s votes (orders_with s vote)) same
+    ∙ ap (after_orders_done s (s.votes ++ vote ∷ [])) (orders_are s vote orders are it_counts more)
 
 -- what the state keeps to: the votes are for orders that can be carried out, and the writes are the orders done
 
@@ -141,7 +154,7 @@ poll_after s room places line lasts count ops is stays passed said size =
 -- a proxy made, from its parts
 pub front_made : (devices : List DeviceSizes) (client n f : ℕ) (points made : List Point) (device : DeviceSizes)
     (places : Places) (line : Line)
-    (lasts : List (Option ℤ)) (count : ℕ) (tally : Tally) (writes : List Write)
+    (lasts : List (Option ℤ)) (count : ℕ) (tally : Tally) (writes : List Write) (broken : List Exchange)
     → slice_get devices client ≡ Some device → made ≡ points → places ≡ zeros device →
     line ≡ record { last = 0; passed = [] } → lasts ≡ replicate count None
     → count ≡ length made → IsTallyOf n f [] tally → writes ≡ []
@@ -156,8 +169,9 @@ pub front_made : (devices : List DeviceSizes) (client n f : ℕ) (points made : 
       updates = 0;
       tally = tally;
       writes = writes;
+      broken_off = broken;
     }) (fresh client n f points device))
-front_made devices client n f points made device places line lasts count tally writes there points_are places_are
+front_made devices client n f points made device places line lasts count tally writes broken there points_are places_are
     line_is lasts_are count_is nothing no_writes =
     rw there record {
       same = sym (
@@ -220,6 +234,61 @@ front_is p q s same is = ap (λ (x : ProxyState). front_with_votes x s.votes) sa
 pub front_written : (p : ProxyState) (s : Front) → IsFrontOf p s → map order_of p.writes ≡ done s.n s.f s.votes
 front_written p s is = is.written ∙ ap (λ (t : Front). done t.n t.f s.votes) (sym is.same)
 
+-- what passed for a poll or a voucher that was broken off is no part of the front
+pub front_kept : (p : ProxyState) (s : Front) (broken : List Exchange) → IsFrontOf p s →
+    IsFrontOf (record p { broken_off = broken }) s
+front_kept p s broken is = record {
+  same = is.same;
+  tally = is.tally;
+  possible = is.possible;
+  written = is.written;
+}
+
+pub front_stays : (p q : ProxyState) (s : Front) → q ≡ record p { broken_off = q.broken_off } → IsFrontOf p s →
+    IsFrontOf q s
+front_stays p q s same is = subst (λ (x : ProxyState). IsFrontOf x s) (sym same) (front_kept p s q.broken_off is)
+
+pub poll_broken_off : (p q : ProxyState) (places : Places) (broken : List Exchange) → p ≡ q → places ≡ p.places
+    → record p { places = places; broken_off = broken } ≡ record q { broken_off = broken }
+poll_broken_off p q places broken same stays =
+    ap (λ (d : Places). record p { places = d; broken_off = broken }) stays
+    ∙ ap (λ (x : ProxyState). record x { broken_off = broken }) same
+
+-- it begins what passes for the whole of it
+pub front_polls : (p : ProxyState) (s : Front) (start later : Line) (points : List Point) (broken : List Exchange)
+    → IsFrontOf p s → start ≡ record { last = p.line.last; passed = [] } → points ≡ p.points → broken ≡ later.passed
+    → Begins later.passed (line_after start p.places (poll_requests p.client points)).passed
+    → Begins broken (poll_passes s)
+front_polls p s start later points broken is fresh here same begins =
+    let first : Line = record { last = p.line.last; passed = [] } in
+    let Asked : Line → List Point → List Exchange → Type 0 =
+    λ l ps xs. Begins xs (line_after l p.places (poll_requests p.client ps)).passed in
+    let asked : Asked first p.points broken =
+    subst (λ (xs : List Exchange). Asked first p.points xs) (sym same)
+    (subst (λ (ps : List Point). Asked first ps later.passed) here
+    (subst (λ (l : Line). Asked l points later.passed) fresh begins)) in
+    subst (λ (x : Front). Begins broken (poll_passes x)) (sym is.same) asked
+
+pub front_asks : (p : ProxyState) (s : Front) (vote : Vote) (orders : List Order) (start later : Line)
+    (points : List Point) (broken : List Exchange)
+    → IsFrontOf p s → counts (can_write p.points p.client) p.client vote ≡ true → MakesDone p.tally vote orders
+    → start ≡ record { last = p.line.last; passed = [] } → points ≡ p.points → broken ≡ later.passed
+    → Begins later.passed (line_after start p.places (order_requests points orders)).passed
+    → Begins broken (vote_passes s vote)
+front_asks p s vote orders start later points broken is it_counts makes fresh here same begins =
+    let first : Line = record { last = p.line.last; passed = [] } in
+    let new : List Order = orders_with (front_with_votes p s.votes) vote in
+    let new_are : new ≡ orders =
+    orders_are (front_with_votes p s.votes) vote orders is.written it_counts (makes p.n p.f s.votes is.tally) in
+    let Asked : Line → List Point → List Order → List Exchange → Type 0 =
+    λ l ps os xs. Begins xs (line_after l p.places (order_requests ps os)).passed in
+    let asked : Asked first p.points new broken =
+    subst (λ (xs : List Exchange). Asked first p.points new xs) (sym same)
+    (subst (λ (os : List Order). Asked first p.points os later.passed) (sym new_are)
+    (subst (λ (ps : List Point). Asked first ps orders later.passed) here
+    (subst (λ (l : Line). Asked l points orders later.passed) fresh begins))) in
+    subst (λ (x : Front). Begins broken (vote_passes x vote)) (sym is.same) asked
+
 -- a vote that doesn't count
 pub front_ignored : (p : ProxyState) (s : Front) (vote : Vote) → IsFrontOf p s →
     counts (can_write p.points p.client) p.client vote ≡ false → IsFrontOf p (after_vote s vote)
@@ -231,20 +300,21 @@ front_ignored p s vote is no_count =
 
 -- a vote that counts: the state once its orders are written
 pub front_voted : (p q : ProxyState) (s : Front) (vote : Vote) (orders : List Order) (places : Places)
-    (line : Line) (writes : List Write)
+    (line : Line) (writes : List Write) (broken : List Exchange)
     → IsFrontOf p s → counts (can_write p.points p.client) p.client vote ≡ true → MakesDone p.tally vote orders →
     TakesVote p.tally vote q.tally
-    → q ≡ record p { tally = q.tally; places = places; line = line; writes = writes }
+    → q ≡ record p { tally = q.tally; places = places; line = line; writes = writes; broken_off = broken }
     → places ≡ after_orders p.points p.places orders → line ≡ asked p.line p.places (order_requests p.points orders)
     → writes ≡ p.writes ++ kept_orders p.points p.places (length p.writes + 1) orders
     → IsFrontOf q (after_vote s vote)
-front_voted p q s vote orders places line writes is it_counts makes takes now places_are line_is writes_are =
+front_voted p q s vote orders places line writes broken is it_counts makes takes now places_are line_is writes_are =
     let t = front_with_votes p s.votes in
     let more : done p.n p.f (s.votes ++ vote ∷ []) ≡ done p.n p.f s.votes ++ orders = makes p.n p.f s.votes is.tally in
     let can = (and_parts _ _ it_counts).1 in
     let after : after_vote s vote ≡ after_orders_done t (s.votes ++ vote ∷ []) orders =
     ap (λ (x : Front). after_vote x vote) is.same ∙ vote_counted t vote orders is.written it_counts more in
-    let state : ProxyState = record p { tally = q.tally; places = places; line = line; writes = writes } in
+    let state : ProxyState =
+    record p { tally = q.tally; places = places; line = line; writes = writes; broken_off = broken } in
     let front : IsFrontOf state (after_orders_done t (s.votes ++ vote ∷ []) orders) = record {
       same = sym (taken_is t places line (s.votes ++ vote ∷ []) (s.votes ++ vote ∷ [])
           writes orders refl places_are line_is writes_are);
@@ -256,12 +326,12 @@ front_voted p q s vote orders places line writes is it_counts makes takes now pl
     subst (λ (x : ProxyState). IsFrontOf x (after_vote s vote)) (sym now) (subst (IsFrontOf state) (sym after) front)
 
 -- a vote for which memory was wanting
-pub front_refused : (p q : ProxyState) (s : Front) (places : Places) (writes : List Write) → IsFrontOf p s →
-    TalliesAlike p.tally q.tally
-    → q ≡ record p { tally = q.tally; places = places; writes = writes } → places ≡ p.places →
+pub front_refused : (p q : ProxyState) (s : Front) (places : Places) (writes : List Write) (broken : List Exchange) →
+    IsFrontOf p s → TalliesAlike p.tally q.tally
+    → q ≡ record p { tally = q.tally; places = places; writes = writes; broken_off = broken } → places ≡ p.places →
     writes ≡ p.writes → IsFrontOf q s
-front_refused p q s places writes is alike now places_stay writes_stay =
-    let state : ProxyState = record p { tally = q.tally } in
+front_refused p q s places writes broken is alike now places_stay writes_stay =
+    let state : ProxyState = record p { tally = q.tally; broken_off = broken } in
     let front : IsFrontOf state s = record {
       same = is.same;
       tally = alike p.n p.f s.votes is.tally;
@@ -270,8 +340,8 @@ front_refused p q s places writes is alike now places_stay writes_stay =
     } in
     subst (λ (x : ProxyState). IsFrontOf x s)
     (sym (now
-    ∙ ap (λ (d : Places). record p { tally = q.tally; places = d; writes = writes }) places_stay
-    ∙ ap (λ (w : List Write). record p { tally = q.tally; writes = w }) writes_stay))
+    ∙ ap (λ (d : Places). record p { tally = q.tally; places = d; writes = writes; broken_off = broken }) places_stay
+    ∙ ap (λ (w : List Write). record p { tally = q.tally; writes = w; broken_off = broken }) writes_stay))
     front
 
 -- a change in the field

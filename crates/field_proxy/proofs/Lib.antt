@@ -3,6 +3,7 @@ pub mod ExchangeLaws
 pub mod LineLaws
 pub mod ReadingLaws
 pub mod OrderLaws
+pub mod BeginningLaws
 pub mod VoteLaws
 pub mod FrontLaws
 pub mod HistoryLaws

@@ -1,5 +1,5 @@
 -- The line to the device, request by request.
-use Rattle.std.proofs.Common.{◌≡◌, ◌≢◌, ◌<◌, ◌≤◌, ◌+◌, ℕ, suc, zero, Bool, true, false, List, [], ◌∷◌, ◌++◌, length}
+use Rattle.std.proofs.Common.{◌≡◌, ◌≢◌, ◌<◌, ◌+◌, ℕ, Bool, true, false, List, [], ◌∷◌, ◌++◌, length}
 use Rattle.std.proofs.Common.{take, get_or, refl, sym, ap, ◌∙◌, arith, length-append}
 use Rattle.std.specs.Prelude.{Option, Some, None, map, filter, nat_eq, slice_get, if◌then◌else◌}
 use Rattle.std.proofs.lemmas.List.{append-nil, take_more}
@@ -17,7 +17,7 @@ use Rattle.field_proxy.specs.Exchanges.{read_pdu, request_with, exchange_of, nex
 use Rattle.field_proxy.specs.Exchanges.{asked}
 use Rattle.field_proxy.specs.Readings.{poll_requests}
 use Rattle.field_proxy.specs.Writes.{write_request, after_write, requests_to, requests_of, order_requests}
-use Rattle.field_proxy.specs.Writes.{after_order, after_orders}
+use Rattle.field_proxy.specs.Writes.{after_orders}
 use Rattle.field_proxy.proofs.ExchangeLaws.{after_read}
 
 -- a poll reads one point more. Reads leave the device as it is

@@ -66,6 +66,10 @@ abbrev pub line_after : Line → Places → List RequestPdu → Line
 line_after line d [] = line
 line_after line d (pdu ∷ rest) = line_after (line_with line d pdu) (after d pdu) rest
 
+-- what passes for requests that are asked next on a line
+abbrev pub passed_for : Line → Places → List RequestPdu → List Exchange
+passed_for line d requests = (line_after (record { last = line.last; passed = [] }) d requests).passed
+
 -- the line once a proxy has asked all of these: what passed for them is kept in place of what passed before. Where it
 -- asks nothing, the line stays
 abbrev pub asked : Line → Places → List RequestPdu → Line

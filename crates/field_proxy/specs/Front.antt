@@ -12,9 +12,10 @@ use Rattle.field_device.specs.Places.{Places, zeros, changed}
 use Rattle.vouched_orders.specs.declared.vote.Vote.{Vote}
 use Rattle.vouched_orders.specs.Vouching.{counted, done}
 use Rattle.vouched_orders.specs.Tally.{Tally, IsTallyOf}
+use Rattle.field_proxy.specs.declared.line.Exchange.{Exchange}
 use Rattle.field_proxy.specs.declared.line.Line.{Line}
 use Rattle.field_proxy.specs.declared.writes.Write.{Write}
-use Rattle.field_proxy.specs.Exchanges.{asked}
+use Rattle.field_proxy.specs.Exchanges.{asked, passed_for}
 use Rattle.field_proxy.specs.Readings.{poll_requests, readings, last_in, told, numbered}
 use Rattle.field_proxy.specs.Writes.{can_write, order_of, order_requests, after_orders, kept_orders}
 
@@ -80,10 +81,22 @@ after_orders_done s votes orders = record s {
   writes = s.writes ++ kept_orders s.points s.places (length s.writes + 1) orders;
 }
 
-abbrev pub after_vote : Front → Vote → Front
-after_vote s vote = after_orders_done s (votes_with s vote) (drop (length s.writes) (done s.n s.f (votes_with s vote)))
+-- the orders that a vote makes done
+abbrev pub orders_with : Front → Vote → List Order
+orders_with s vote = drop (length s.writes) (done s.n s.f (votes_with s vote))
 
--- what a proxy holds: as its front, but with a tally in place of the votes
+abbrev pub after_vote : Front → Vote → Front
+after_vote s vote = after_orders_done s (votes_with s vote) (orders_with s vote)
+
+-- what passes on the line for a poll, and for a voucher
+abbrev pub poll_passes : Front → List Exchange
+poll_passes s = passed_for s.line s.places (poll_requests s.client s.points)
+
+abbrev pub vote_passes : Front → Vote → List Exchange
+vote_passes s vote = passed_for s.line s.places (order_requests s.points (orders_with s vote))
+
+-- what a proxy holds: as its front, but with a tally in place of the votes; and what passed for the last poll or voucher,
+-- where memory was wanted before its end
 pub record ProxyState : Type 0 where
   pub client : ℕ
   pub n : ℕ
@@ -95,6 +108,7 @@ pub record ProxyState : Type 0 where
   pub updates : ℕ
   pub tally : Tally
   pub writes : List Write
+  pub broken_off : List Exchange
 
 -- the front of a proxy that took these votes
 abbrev pub front_with_votes : ProxyState → List Vote → Front

@@ -169,7 +169,8 @@ fn in_64_bits(value: i128) -> Option<i64>
     Some(value as i64)
 }
 
-/// Asks the device on the line for a reply to a request, under the next transaction.
+/// Asks the device on the line for a reply to a request, under the next transaction. After want of memory the line has nothing
+/// more.
 #[tactic(auto, unfolding(crate::specs::Exchanges::line_with))]
 fn ask(
     alloc: Global,
@@ -183,6 +184,7 @@ fn ask(
     ensures after { OnOk result (device.new ≡ after device.old pdu) }
     ensures line { OnOk result (line.new ≡ line_with line.old device.old pdu) }
     ensures err { OnErr result ((device.new ≡ device.old) ⊎ (device.new ≡ after device.old pdu)) }
+    ensures lost { OnErr result (line.new.passed ≡ line.old.passed) }
 {
     let transaction = line.next();
     let request = Request {
@@ -204,6 +206,7 @@ fn read_raw(
 ) -> Result<Option<u16>, Want>
     ensures raw { IfOk result (λ raw. raw ≡ raw_in (reply_pdu device.old (read_pdu point.now.area point.now.place))) }
     ensures line { OnOk result (line.new ≡ line_with line.old device.old (read_pdu point.now.area point.now.place)) }
+    ensures lost { OnErr result (line.new.passed ≡ line.old.passed) }
     ensures same { device.new ≡ device.old }
 {
     let pdu = read_pdu(point.area, point.place);
@@ -220,6 +223,7 @@ pub fn read_point(
 ) -> Result<Option<i64>, Want>
     ensures value { IfOk result (λ value. value ≡ given device.old point.now) }
     ensures line { OnOk result (line.new ≡ line_with line.old device.old (read_pdu point.now.area point.now.place)) }
+    ensures lost { OnErr result (line.new.passed ≡ line.old.passed) }
     ensures same { device.new ≡ device.old }
 {
     let raw = read_raw(alloc, device, line, point)?;
@@ -242,6 +246,7 @@ pub fn write_point(
     ensures after { OnOk result (device.new ≡ after device.old (write_request point.now raw)) }
     ensures line { OnOk result (line.new ≡ line_with line.old device.old (write_request point.now raw)) }
     ensures err { OnErr result ((device.new ≡ device.old) ⊎ (device.new ≡ after device.old (write_request point.now raw))) }
+    ensures lost { OnErr result (line.new.passed ≡ line.old.passed) }
 {
     let pdu = write_pdu(point.area, point.place, raw);
     let reply = ask(alloc, device, line, pdu)?;

@@ -41,6 +41,14 @@ impl Line {
         self.last
     }
 
+    /// What passed.
+    pub fn into_passed(self) -> Items<Exchange>
+        ensures { result ≡ self.passed }
+    {
+        let Line { last: _, passed } = self;
+        passed
+    }
+
     /// Goes on from a later line, where anything passed on it.
     pub fn keep(&mut self, later: Line)
         ensures some { later.passed ≢ [] → self.new ≡ later }

@@ -1,5 +1,6 @@
 //! Orders carried out in turn, all or none.
-ghost use Rattle.std.specs.Prelude.{◌≡◌, ◌++◌, ◌∷◌, [], ◌+◌, ◌<◌, ◌^◌, take, length, OnOk, OnErr, option_copied, slice_get};
+ghost use Rattle.std.specs.Prelude.{◌≡◌, ◌++◌, ◌∷◌, [], ◌+◌, ◌<◌, ◌^◌, take, length, OnOk, OnErr, ◌⊎◌, option_copied, slice_get};
+ghost use Rattle.plain_lists.specs.Lists.{Begins};
 ghost use Rattle.vouched_orders.specs.Tally.{TakesVote, TalliesAlike};
 ghost use Rattle.field_proxy.specs.Undoing.{undone};
 ghost use Rattle.field_proxy.specs.Exchanges.{line_after};
@@ -46,6 +47,8 @@ fn carry_one(
     ensures device { OnOk result (device.new ≡ after_order points.now device.old order.now) }
     ensures writes { OnOk result (writes.new.items ≡ writes.old.items ++ kept_of points.now device.old number order.now) }
     ensures line { OnOk result (line.new ≡ line_after line.old device.old (requests_of points.now order.now)) }
+    ensures begun { OnErr result ((line.new.passed ≡ line.old.passed)
+        ⊎ (line.new ≡ line_after line.old device.old (requests_of points.now order.now))) }
     ensures front { OnErr result (writes.new.items ≡ writes.old.items) }
     ensures undone { undone log.new.items device.new ≡ undone log.old.items device.old }
 {
@@ -85,6 +88,7 @@ fn carry_out(
     ensures device { OnOk result (device.new ≡ after_orders points.now device.old orders.now) }
     ensures writes { OnOk result (writes.new.items ≡ writes.old.items ++ kept_orders points.now device.old (length writes.old.items + 1) orders.now) }
     ensures line { OnOk result (line.new ≡ line_after line.old device.old (order_requests points.now orders.now)) }
+    ensures begun { OnErr result (Begins line.new.passed (line_after line.old device.old (order_requests points.now orders.now)).passed) }
     ensures front { take (length writes.old.items) writes.new.items ≡ writes.old.items }
     ensures undone { undone log.new.items device.new ≡ undone log.old.items device.old }
 {
@@ -96,7 +100,8 @@ fn carry_out(
     Ok(())
 }
 
-/// Carries out the orders that a vote makes done, and takes the vote. After want of memory nothing has changed.
+/// Carries out the orders that a vote makes done, and takes the vote. After want of memory nothing has changed but the line: on it
+/// passed what passes for a beginning of the orders.
 pub fn carry_out_vote(
     alloc: Global,
     device: &mut Device,
@@ -110,6 +115,7 @@ pub fn carry_out_vote(
     ensures device { OnOk result (device.new ≡ after_orders points.now device.old orders.now) }
     ensures writes { OnOk result (writes.new.items ≡ writes.old.items ++ kept_orders points.now device.old (length writes.old.items + 1) orders.now) }
     ensures line { OnOk result (line.new ≡ line_after line.old device.old (order_requests points.now orders.now)) }
+    ensures begun { OnErr result (Begins line.new.passed (line_after line.old device.old (order_requests points.now orders.now)).passed) }
     ensures vouched { OnOk result (TakesVote vouched.old vote vouched.new) }
     ensures device_stays { OnErr result (device.new ≡ device.old) }
     ensures writes_stay { OnErr result (writes.new.items ≡ writes.old.items) }

@@ -1,7 +1,8 @@
 ghost use Rattle.std.specs.Prelude.{◌≡◌, ◌↔◌, ◌+◌, ◌++◌, ◌∷◌, ◌<◌, ◌≤◌, ◌^◌, [], length, map, OnOk, OnErr, IfOk, IsErr, IsSomeAnd, slice_get, replicate, Some, None, nat_eq, ◌&&◌};
 ghost use Rattle.field_device.specs.Places.{size_of};
 ghost use Rattle.field_proxy.specs.Writes.{can_write, order_of};
-ghost use Rattle.field_proxy.specs.Front.{Front, IsFrontOf, fresh, after_change, poll_says, after_poll, after_vote};
+ghost use Rattle.field_proxy.specs.Front.{Front, IsFrontOf, fresh, after_change, poll_says, poll_passes, after_poll, vote_passes, after_vote};
+ghost use Rattle.plain_lists.specs.Lists.{Begins};
 
 use crate::line::{Exchange, Line};
 use crate::orders::carry_out_vote;
@@ -29,6 +30,7 @@ pub struct Proxy {
     updates: u64,
     vouched: Vouched,
     writes: Vec<Write, Global>,
+    broken_off: Items<Exchange>,
 }
 
 // Taken apart here once, so that no crate above proves it again.
@@ -45,6 +47,7 @@ impl Drop for Proxy {
             updates: _,
             vouched: _,
             writes: _,
+            broken_off: _,
         } = self;
     }
 }
@@ -66,6 +69,7 @@ impl Model for Proxy {
       updates = proxy.updates;
       tally = proxy.vouched;
       writes = proxy.writes.items;
+      broken_off = proxy.broken_off;
     } };
 
     ghost invariant = { λ proxy. (length proxy.points ≤ 1024) × (length proxy.lasts.items ≡ length proxy.points) };
@@ -82,6 +86,7 @@ impl Proxy {
         ensures n { IfOk result (λ proxy. proxy.n ≡ sizes.n) }
         ensures made { IfOk result (λ proxy. IsSomeAnd (slice_get plant.now.devices client) (λ device.
             IsFrontOf proxy (fresh client sizes.n sizes.f plant.now.points device))) }
+        ensures none { IfOk result (λ proxy. proxy.broken_off ≡ []) }
     {
         let sizes_of_device = device_of(plant, client);
         let points = plant.points.copy()?;
@@ -97,6 +102,7 @@ impl Proxy {
             updates: 0,
             vouched: Vouched::new(alloc, &sizes),
             writes: Vec::new(alloc),
+            broken_off: Items::new(alloc),
         })
     }
 
@@ -105,31 +111,48 @@ impl Proxy {
         ensures ok { OnOk result ((s : Front) → IsFrontOf self.old s → IsFrontOf self.new (after_change s area place value)) }
         ensures err { OnErr result (self.new ≡ self.old) }
         ensures no_place { IsErr result ↔ (size_of self.old.places area ≤ place) }
+        ensures broken_off { self.new.broken_off ≡ self.old.broken_off }
     {
         self.device.change(area, place, value)
     }
 
     /// Reads the proxy's points from the device, and gives what is to be said of them as the client's next updates. Of these
-    /// it gives the first `room`, and counts no other as said.
+    /// it gives the first `room`, and counts no other as said. After want of memory nothing has changed, and `broken_off` has what
+    /// passed.
     pub fn poll(&mut self, room: u64) -> Result<Vec<Update, Global>, Want>
         requires { self.old.updates < 2 ^ 62 }
         ensures says { IfOk result (λ updates. (s : Front) → IsFrontOf self.old s → updates.items ≡ poll_says s room) }
         ensures after { OnOk result ((s : Front) → IsFrontOf self.old s → IsFrontOf self.new (after_poll s room)) }
         ensures room { IfOk result (λ updates. length updates.items ≤ room) }
         ensures counted { IfOk result (λ updates. self.new.updates ≡ self.old.updates + length updates.items) }
-        ensures err { OnErr result (self.new ≡ self.old) }
+        ensures err { OnErr result (self.new ≡ record self.old { broken_off = self.new.broken_off }) }
+        ensures begun { OnErr result ((s : Front) → IsFrontOf self.old s → Begins self.new.broken_off (poll_passes s)) }
+        ensures whole { OnOk result (self.new.broken_off ≡ []) }
     {
         let mut line = Line::new(self.alloc, self.line.last);
-        let mut ops = due_readings(
+        let mut ops = match due_readings(
             self.alloc,
             &mut self.device,
             &mut line,
             self.client,
             self.points.as_slice(),
             &self.lasts,
-        )?;
+        ) {
+            Ok(ops) => ops,
+            Err(want) => {
+                self.broken_off = line.into_passed();
+                return Err(want);
+            }
+        };
         ops.truncate(room as usize);
-        let updates = as_updates(self.alloc, self.client, self.updates + 1, &ops)?;
+        let updates = match as_updates(self.alloc, self.client, self.updates + 1, &ops) {
+            Ok(updates) => updates,
+            Err(want) => {
+                self.broken_off = line.into_passed();
+                return Err(want);
+            }
+        };
+        self.broken_off = Items::new(self.alloc);
         tell(&mut self.lasts, &ops);
         self.updates += ops.len() as u64;
         self.line.keep(line);
@@ -144,13 +167,18 @@ impl Proxy {
     }
 
     /// Takes a voucher. Where it makes orders done, the device is written. One for another client, or with an order that the
-    /// proxy can't carry out, changes nothing; nor does one after which memory is wanted. One that no master signed supports
-    /// no order.
+    /// proxy can't carry out, changes nothing. One that no master signed supports no order. After want of memory nothing has
+    /// changed, since the device is put back to what it held, and `broken_off` has what passed.
     pub fn take_voucher(&mut self, signer: u32, voucher: &Voucher) -> Result<(), Want>
         ensures ok { OnOk result ((s : Front) → IsFrontOf self.old s → IsFrontOf self.new (after_vote s (record { signer = signer; voucher = voucher.now }))) }
         ensures err { OnErr result ((s : Front) → IsFrontOf self.old s → IsFrontOf self.new s) }
+        ensures begun { OnErr result ((s : Front) → IsFrontOf self.old s
+            → Begins self.new.broken_off (vote_passes s (record { signer = signer; voucher = voucher.now }))) }
+        ensures whole { OnOk result (self.new.broken_off ≡ []) }
     {
-        if !self.counts(voucher) {
+        let is_counted = self.counts(voucher);
+        self.broken_off = Items::new(self.alloc);
+        if !is_counted {
             return Ok(());
         }
         let vote = Vote {
@@ -159,7 +187,7 @@ impl Proxy {
         };
         let orders = self.vouched.ready(&vote)?;
         let mut line = Line::new(self.alloc, self.line.last);
-        carry_out_vote(
+        match carry_out_vote(
             self.alloc,
             &mut self.device,
             &mut line,
@@ -168,9 +196,16 @@ impl Proxy {
             &mut self.writes,
             &mut self.vouched,
             vote,
-        )?;
-        self.line.keep(line);
-        Ok(())
+        ) {
+            Ok(()) => {
+                self.line.keep(line);
+                Ok(())
+            }
+            Err(want) => {
+                self.broken_off = line.into_passed();
+                Err(want)
+            }
+        }
     }
 
     /// The writes made, in the order of their numbers, from 1. They are the orders done.
@@ -182,11 +217,19 @@ impl Proxy {
     }
 
     /// The bytes that passed on the line to the device, request by request, at the last poll or voucher for which the proxy
-    /// asked anything of it.
+    /// asked anything of it and which was seen through.
     pub fn exchanges(&self) -> &[Exchange]
         ensures { result.now ≡ self.now.line.passed }
     {
         self.line.passed.as_slice()
+    }
+
+    /// The same of the last poll or voucher, where memory was wanted before its end: a beginning of what passes for all of it,
+    /// without the exchange for which there was no memory. Empty where the last one was seen through.
+    pub fn broken_off(&self) -> &[Exchange]
+        ensures { result.now ≡ self.now.broken_off }
+    {
+        self.broken_off.as_slice()
     }
 
     /// Whether a voucher is for this proxy, and with an order that it can carry out.

@@ -1,5 +1,6 @@
 //! The readings that a poll has to say.
-ghost use Rattle.std.specs.Prelude.{◌≡◌, ◌++◌, ◌<◌, ◌≤◌, ◌^◌, ◌+◌, ◌∷◌, [], length, IfOk, OnOk};
+ghost use Rattle.std.specs.Prelude.{◌≡◌, ◌++◌, ◌<◌, ◌≤◌, ◌^◌, ◌+◌, ◌∷◌, [], length, IfOk, OnOk, OnErr, ◌⊎◌};
+ghost use Rattle.plain_lists.specs.Lists.{Begins};
 ghost use Rattle.field_proxy.specs.Exchanges.{line_after};
 ghost use Rattle.field_proxy.specs.Readings.{poll_requests, given, reading_of, readings, last_in, was_said, told_one, told, numbered};
 
@@ -24,6 +25,8 @@ fn add_reading(
 ) -> Result<(), Want>
     ensures ops { OnOk result (ops.new.items ≡ ops.old.items ++ reading_of client number point.now (given device.old point.now) last) }
     ensures line { OnOk result (line.new ≡ line_after line.old device.old (poll_requests client (point.now ∷ []))) }
+    ensures begun { OnErr result ((line.new.passed ≡ line.old.passed)
+        ⊎ (line.new ≡ line_after line.old device.old (poll_requests client (point.now ∷ [])))) }
     ensures same { device.new ≡ device.old }
 {
     if point.proxy != client {
@@ -64,6 +67,7 @@ pub fn due_readings(
     requires lasts { length lasts.now ≡ length points.now }
     ensures ops { IfOk result (λ ops. ops.items ≡ readings device.old client points.now (last_in lasts.now)) }
     ensures line { OnOk result (line.new ≡ line_after line.old device.old (poll_requests client points.now)) }
+    ensures begun { OnErr result (Begins line.new.passed (line_after line.old device.old (poll_requests client points.now)).passed) }
     ensures same { device.new ≡ device.old }
 {
     let mut ops = Vec::new(alloc);

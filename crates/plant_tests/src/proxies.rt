@@ -163,3 +163,18 @@ fn a_poll_says_what_is_new(rt: HostRuntime) -> Result<(), Fail> {
     assert!(rt; polled(&rt, &mut proxy, 8)?.is_empty());
     Ok(())
 }
+
+/// How many exchanges a poll tells that was broken off. The device counts no requests, so no contract says that none that passed is
+/// missing: `rt try --test --fail-alloc N` refuses one allocation, and the numbers printed have to go from 0 to 2 as N grows.
+#[test]
+fn what_passed_before_a_want_is_told(rt: HostRuntime) -> Result<(), Fail> {
+    let mut proxy = proxy(rt.alloc(), 0)?;
+    assert!(rt; proxy.broken_off().is_empty());
+    if polled(&rt, &mut proxy, 8).is_err() {
+        println!(rt; "a poll told {}", proxy.broken_off().len())?;
+        assert_eq!(rt; polled(&rt, &mut proxy, 8)?.len(), 2);
+    }
+    assert_eq!(rt; proxy.exchanges().len(), 2);
+    assert!(rt; proxy.broken_off().is_empty());
+    Ok(())
+}

@@ -1,15 +1,15 @@
 -- By the kind of event: at a poll the proxy says and keeps what its poll gives, a frame or a change of the
 -- field only moves it on, and at any other event it says nothing and stays.
-use Rattle.std.proofs.Common.{◌∙◌, sym, subst, inl, inr}
+use Rattle.std.proofs.Common.{◌∙◌, inl, inr}
 use Rattle.vouched_orders.proofs.TallyLaws.{on_err}
-use Rattle.field_proxy.specs.Front.{ProxyState, IsFrontOf}
+use Rattle.field_proxy.proofs.FrontLaws.{front_stays}
 use Rattle.client_roles.proofs.Polling.{changed, changed_unsaid, poll_after, poll_said, silent, took, took_unsaid}
 use Rattle.client_roles.proofs.Polling.{unmoved}
 use Rattle.client_roles.proofs.proxy_role.answer_at_proxy.Goals as goal
 
 pub returns-in_err-updates-in-Poll-clause-err : goal.returns-in_err-updates-in-Poll-clause-err
 returns-in_err-updates-in-Poll-clause-err c = on_err c.from_residual.result
-    (λ s has. inl (subst (λ (p : ProxyState). IsFrontOf p s) (sym c.in_err-updates-in-Poll.ensures.err) has))
+    (λ s has. inl (front_stays c.args.proxy.now c.poll.new.self s c.in_err-updates-in-Poll.ensures.err has))
 
 pub returns-in_ok-updates-in-Poll-clause-err : goal.returns-in_ok-updates-in-Poll-clause-err
 returns-in_ok-updates-in-Poll-clause-err c =

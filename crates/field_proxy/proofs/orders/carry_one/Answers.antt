@@ -1,6 +1,7 @@
 -- What the place held goes into the log before anything is written there: so, whether the write was made or
 -- memory ran out, undoing the log gives back the device as it was.
-use Rattle.std.proofs.Common.{ap, sym, ◌∙◌, inl, inr, ◌++◌, ◌∷◌, []}
+use Rattle.std.proofs.Common.{ap, sym, ◌∙◌, inr, ◌++◌, ◌∷◌, []}
+use Rattle.vouched_orders.proofs.TallyLaws.{on_err}
 use Rattle.field_proxy.proofs.PlaceLaws.{undone_write}
 use Rattle.field_proxy.proofs.OrderLaws.{after_order_is, kept_is, kept_nothing}
 use Rattle.field_proxy.proofs.LineLaws.{one_asked, none_asked}
@@ -16,6 +17,12 @@ pub returns-in_err-exception-clause-undone : goal.returns-in_err-exception-claus
 returns-in_err-exception-clause-undone c =
     undone_write _ _ _ _ _ _ _ c.in-Write.raw _ c.in_ok-push.ensures.items c.written_area-area.ensures c.value.ensures
     c.in_err-exception.ensures.err
+
+pub returns-in_err-push-2-clause-begun : goal.returns-in_err-push-2-clause-begun
+returns-in_err-push-2-clause-begun c = on_err c.from_residual-in_err-push-2.result (inr
+    (c.in_ok-exception.ensures.line
+    ∙ sym (one_asked c.args.points.now c.args.line.now c.args.device.now c.args.order.now c.in-Write.point
+    c.in-Write.raw c.in-Some.target.now c.in-Write.is (sym c.in-Some.ensures))))
 
 pub returns-in_err-push-2-clause-undone : goal.returns-in_err-push-2-clause-undone
 returns-in_err-push-2-clause-undone c =

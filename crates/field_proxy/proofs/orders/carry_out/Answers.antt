@@ -3,6 +3,8 @@
 use Rattle.std.proofs.Common.{arith, ap, sym, refl, ◌∙◌, ◌++◌, ◌+◌, length}
 use Rattle.std.proofs.lemmas.List.{append-nil}
 use Rattle.field_proxy.proofs.OrderLaws.{after_orders-none, kept_orders-none, after_orders_more, kept_orders_more}
+use Rattle.vouched_orders.proofs.TallyLaws.{on_err}
+use Rattle.field_proxy.proofs.BeginningLaws.{orders_begun}
 use Rattle.field_proxy.proofs.LineLaws.{line_orders_more}
 use Rattle.field_proxy.proofs.orders.carry_out.Goals as goal
 
@@ -32,3 +34,9 @@ loop-place-preserved c = record {
       c.loop-place.invariant.device_is c.loop-place.invariant.line_is c.in_ok-carry_one.ensures.line;
   undoes = c.carry_one.ensures.undone ∙ c.loop-place.invariant.undoes;
 }
+
+pub returns-in_err-carry_one-clause-begun : goal.returns-in_err-carry_one-clause-begun
+returns-in_err-carry_one-clause-begun c = on_err c.from_residual.result
+    (orders_begun c.args.line.now c.loop-place.line _ c.args.device.now c.loop-place.device c.args.points.now
+    c.args.orders.now c.loop-place.place _ c.loop-place-test.true c.loop-place.invariant.device_is
+    c.loop-place.invariant.line_is c.in_err-carry_one.ensures.begun)
