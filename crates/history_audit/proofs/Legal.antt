@@ -21,7 +21,8 @@ use Rattle.history_laws.specs.BenchLists.{IsBenchList}
 use Rattle.history_laws.proofs.BenchLists.{own_history_is_bench_list, intruded_say_nothing}
 use Rattle.bench_rules.proofs.FramesStand.{master_words_fit}
 use Rattle.history_audit.specs.Legal.{LegalAreSpelled}
-use Rattle.history_rules.proofs.Entries.{all_from, own_fewer}
+use Rattle.history_audit.specs.Counting.{AreFewEach}
+use Rattle.history_rules.proofs.Entries.{all_from}
 use Rattle.world_rules.proofs.Clients.{proxy_fits, screen_fits}
 
 either_fits : (b : Bool) (xs ys : List Body) → list_all body_fits xs ≡ true → list_all body_fits ys ≡ true →
@@ -67,9 +68,9 @@ beginning w history before e legal s =
     }
 
 entry_fits : (c : Contents) (history before : List Entry) (e : Entry) → IsScenario c → c.held ≡ None →
-    IsLegal (setup_of c) history → length history < 2 ^ 32
+    IsLegal (setup_of c) history → AreFewEach history
     → Stands history before e → list_all body_fits e.said ≡ true
-entry_fits c history before e is seed legal short s =
+entry_fits c history before e is seed legal each s =
     by (nat_lt e.actor (setup_of c).group.n) ((setup_of c).intruded e.actor) refl refl
   where
     rule : e.said ≡ says_in (setup_of c) e.actor (own before e.actor) e.event
@@ -77,9 +78,10 @@ entry_fits c history before e is seed legal short s =
 
     few : length (own before e.actor) < 2 ^ 32
     few =
-        let whole : length history ≡ length before + length (e ∷ s.after) =
-        ap length s.whole ∙ length-append before (e ∷ s.after) in
-        let most : length (own before e.actor) ≤ length before = own_fewer before e.actor in
+        let its = own_stands s in
+        let whole : length (own history e.actor) ≡ length (own before e.actor) + length (e ∷ its.after) =
+        ap length its.whole ∙ length-append (own before e.actor) (e ∷ its.after) in
+        let most : length (own history e.actor) ≤ 2 ^ 32 = each e.actor in
         omega arith
 
     by : (master intruded : Bool) → nat_lt e.actor (setup_of c).group.n ≡ master →
@@ -99,6 +101,6 @@ entry_fits c history before e is seed legal short s =
         ∙ client_says_fit c e.actor (own before e.actor) e.event outside
 
 pub legal_are_spelled : LegalAreSpelled
-legal_are_spelled c history is seed legal short = all_from (λ e. list_all body_fits e.said) history (λ e h.
+legal_are_spelled c history is seed legal each = all_from (λ e. list_all body_fits e.said) history (λ e h.
     let place = stands_in history h in
-    entry_fits c history place.0 e is seed legal short place.1)
+    entry_fits c history place.0 e is seed legal each place.1)

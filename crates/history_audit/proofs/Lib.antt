@@ -3,6 +3,7 @@ pub mod Words
 pub mod Different
 pub mod Spelled
 pub mod Legal
+pub mod FewEach
 pub mod Steps
 pub mod Longest
 pub mod Whole

@@ -35,10 +35,11 @@ pub struct Counts {
     pub intruded: u32,
 }
 
-/// The counts of a history. That all its words have spellings is so of every legal one (`laws::legal_are_spelled`).
+/// The counts of a history. A legal one of at most 2^32 entries of each actor has fewer than 2^52 (`laws::few_each`), so few
+/// that each count fits 64 bits, and all its words have spellings (`laws::legal_are_spelled`).
 pub fn audit(alloc: Global, scenario: &Scenario, history: &History) -> Result<Counts, Want>
     requires scenario { IsScenario (contents scenario.now) }
-    requires short { length history.now < 2 ^ 32 }
+    requires short { length history.now < 2 ^ 52 }
     requires spelled { IsTrue (are_spelled history.now) }
     ensures forged { IfOk result (λ counts. counts.forged ≡ forged (setup_of (contents scenario.now)) history.now) }
     ensures alike { IfOk result (λ counts. counts.alike ≡ alike (group_in (contents scenario.now)) history.now) }
@@ -51,7 +52,7 @@ pub fn audit(alloc: Global, scenario: &Scenario, history: &History) -> Result<Co
 /// that came before is looked through.
 pub fn audit_entries(alloc: Global, scenario: &Scenario, entries: &[Entry]) -> Result<Counts, Want>
     requires scenario { IsScenario (contents scenario.now) }
-    requires short { length entries.now < 2 ^ 32 }
+    requires short { length entries.now < 2 ^ 52 }
     requires spelled { IsTrue (are_spelled (map entry_of entries.now)) }
     ensures forged { IfOk result (λ counts. counts.forged ≡ forged (setup_of (contents scenario.now)) (map entry_of entries.now)) }
     ensures alike { IfOk result (λ counts. counts.alike ≡ alike (group_in (contents scenario.now)) (map entry_of entries.now)) }

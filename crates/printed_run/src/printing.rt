@@ -1,11 +1,12 @@
 //! The text of a whole run.
-ghost use Rattle.std.specs.Prelude.{◌≡◌, ◌++◌, ◌^◌, ◌<◌, length, map, IfOk, OnOk, string_bytes};
+ghost use Rattle.std.specs.Prelude.{◌≡◌, ◌++◌, map, IfOk, OnOk, string_bytes};
 ghost use Rattle.std.specs.List.{flat_map};
 ghost use Rattle.scenario_file.specs.Reading.{Contents, contents};
 ghost use Rattle.scenario_file.specs.Valid.{IsScenario};
 ghost use Rattle.history_rules.specs.Legal.{IsLegal};
 ghost use Rattle.world_entries.specs.Entries.{entry_of};
 ghost use Rattle.world_rules.specs.Scenarios.{setup_of};
+ghost use Rattle.history_audit.specs.Counting.{AreFewEach};
 ghost use Rattle.printed_run.specs.Places.{IsAtHand};
 ghost use Rattle.world_history.specs.Benches.{AreBenches};
 ghost use Rattle.printed_run.specs.Printed.{entry_line, totals_text, text_of};
@@ -16,7 +17,7 @@ use crate::places::own_places;
 use crate::said::AtHand;
 use crate::states::put_states;
 use history_audit::audit;
-use history_audit::laws::legal_are_spelled;
+use history_audit::laws::{few_each, legal_are_spelled};
 use plain_lists::Want;
 use run_lines::{put_agree, put_audit, put_count, put_entry};
 use scenario_file::Scenario;
@@ -28,7 +29,7 @@ use world_history::{Bench, agree_benches, replayed};
 pub fn write_run(alloc: Global, scenario: &Scenario, history: &History) -> Result<Vec<u8>, Want>
     requires valid { IsScenario (contents scenario.now) }
     requires legal { IsLegal (setup_of (contents scenario.now)) history.now }
-    requires short { length history.now < 2 ^ 32 }
+    requires few { AreFewEach history.now }
     ensures { IfOk result (λ text. text.items ≡ text_of (contents scenario.now) history.now) }
 {
     let benches = replayed(alloc, scenario, history)?;
@@ -46,7 +47,7 @@ pub fn write_run_of(
 ) -> Result<Vec<u8>, Want>
     requires valid { IsScenario (contents scenario.now) }
     requires legal { IsLegal (setup_of (contents scenario.now)) history.now }
-    requires short { length history.now < 2 ^ 32 }
+    requires few { AreFewEach history.now }
     requires benches { AreBenches (contents scenario.now) history.now benches.now }
     ensures text { IfOk result (λ text. text.items ≡ text_of (contents scenario.now) history.now) }
     // So the text is read again as the history (`printed_laws`).
@@ -70,10 +71,11 @@ fn put_totals(
 ) -> Result<(), Want>
     requires valid { IsScenario (contents scenario.now) }
     requires legal { IsLegal (setup_of (contents scenario.now)) history.now }
-    requires short { length history.now < 2 ^ 32 }
+    requires few { AreFewEach history.now }
     requires benches { AreBenches (contents scenario.now) history.now benches.now }
     ensures { OnOk result (string_bytes text.new ≡ string_bytes text.old ++ totals_text (setup_of (contents scenario.now)) history.now) }
 {
+    few_each();
     legal_are_spelled();
     let counts = audit(alloc, scenario, history)?;
     put_audit(

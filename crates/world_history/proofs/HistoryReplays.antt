@@ -1,7 +1,7 @@
 -- A history replayed entry by entry: each actor's bench is ready for the actor's next entry, and makes just that entry.
 use Rattle.std.proofs.Common.{◌≡◌, ℕ, ◌+◌, ◌<◌, ◌≤◌, true, false, List, [], ◌∷◌, ◌++◌, length, map, take, drop}
-use Rattle.std.proofs.Common.{get_or, set, min, nat_lt, refl, sym, ◌∙◌, ap, subst, arith}
-use Rattle.std.proofs.lemmas.List.{append-nil, length-map, length-take, take-append-drop, take_all}
+use Rattle.std.proofs.Common.{get_or, set, nat_lt, refl, sym, ◌∙◌, ap, subst, arith}
+use Rattle.std.proofs.lemmas.List.{append-nil, length-append, length-map, take-append-drop, take_all}
 use Rattle.std.specs.List.{list_all}
 use Rattle.message_types.specs.declared.body.Body.{Body}
 use Rattle.quorum_sets.specs.Masters.{numbers_below}
@@ -127,23 +127,33 @@ pub record IsReady (limit : ℕ) (b : BenchState) (stamp : ℕ) (event : Event) 
   pub taken : TakesWell (setup_in b) stamp event
   pub short : length b.list < limit
 
--- The bench of an entry's actor is ready for it.
-pub bench_ready : (c : Contents) (history : List Entry) (i limit : ℕ) (e : Entry) (event : Event)
+-- The bench of an entry's actor is ready for it, where the actor has no more entries than the limit.
+pub bench_ready_of_few : (c : Contents) (history : List Entry) (i limit : ℕ) (e : Entry) (event : Event)
     (benches : List BenchState) (b : BenchState)
-    → Comes c history i e → length history < limit → event ≡ e.event → benches ≡ benches_of c (take i history) →
-    b ≡ get_or benches e.actor b
+    → Comes c history i e → length (own history e.actor) ≤ limit → event ≡ e.event →
+    benches ≡ benches_of c (take i history) → b ≡ get_or benches e.actor b
     → IsReady limit b e.stamp event
-bench_ready c history i limit e event benches b comes few copied are at =
+bench_ready_of_few c history i limit e event benches b comes few copied are at =
     let there : e.actor < actors_in c = actor_there c history i e comes in
     let may : IsOwnEntry (setup_of c) e.actor (own (take i history) e.actor) e = own_comes c history i e comes in
-    let own_few : length (own (take i history) e.actor) ≤ length (take i history) =
-    own_fewer (take i history) e.actor in
-    let front : length (take i history) ≡ min i (length history) = length-take i history in
+    let its = own_stands (stands_there c history i e comes) in
+    let whole : length (own history e.actor) ≡ length (own (take i history) e.actor) + length (e ∷ its.after) =
+    ap length its.whole ∙ length-append (own (take i history) e.actor) (e ∷ its.after) in
     let ready : IsReady limit (bench_in c (take i history) e.actor) e.stamp e.event =
     record { fits = may.role; later = may.later; taken = may.taken; short = omega arith } in
     subst (λ (x : Event). IsReady limit b e.stamp x) (sym copied)
     (subst (λ (x : BenchState). IsReady limit x e.stamp e.event)
     (sym (bench_at c (take i history) e.actor benches b there are at)) ready)
+
+-- So it is where the whole history has fewer.
+pub bench_ready : (c : Contents) (history : List Entry) (i limit : ℕ) (e : Entry) (event : Event)
+    (benches : List BenchState) (b : BenchState)
+    → Comes c history i e → length history < limit → event ≡ e.event → benches ≡ benches_of c (take i history) →
+    b ≡ get_or benches e.actor b
+    → IsReady limit b e.stamp event
+bench_ready c history i limit e event benches b comes short copied are at =
+    let fewer : length (own history e.actor) ≤ length history = own_fewer history e.actor in
+    bench_ready_of_few c history i limit e event benches b comes (omega arith) copied are at
 
 -- the actor's bench makes the entry
 bench_grows : (c : Contents) (before : List Entry) (e : Entry) →

@@ -1,11 +1,12 @@
 //! Whether the correct masters of a history agree.
-ghost use Rattle.std.specs.Prelude.{◌≡◌, ◌<◌, ◌^◌, true, length, IfOk, List};
+ghost use Rattle.std.specs.Prelude.{◌≡◌, true, IfOk, List};
 ghost use Rattle.scenario_file.specs.Reading.{Contents, contents};
 ghost use Rattle.scenario_file.specs.Valid.{IsScenario};
 ghost use Rattle.history_rules.specs.Events.{Entry};
 ghost use Rattle.history_rules.specs.Legal.{IsLegal};
 ghost use Rattle.world_rules.specs.Headline.{agrees, Premises};
 ghost use Rattle.world_rules.specs.Scenarios.{setup_of};
+ghost use Rattle.history_audit.specs.Counting.{AreFewEach};
 ghost use Rattle.world_history.specs.Benches.{AreBenches};
 
 use crate::Bench;
@@ -21,7 +22,7 @@ use world_entries::History;
 pub fn agree(alloc: Global, scenario: &Scenario, history: &History) -> Result<bool, Want>
     requires valid { IsScenario (contents scenario.now) }
     requires legal { IsLegal (setup_of (contents scenario.now)) history.now }
-    requires short { length history.now < 2 ^ 32 }
+    requires few { AreFewEach history.now }
     ensures relation { IfOk result (λ yes. yes ≡ agrees (setup_of (contents scenario.now)) history.now) }
     ensures allowed { IfOk result (λ yes. Premises (setup_of (contents scenario.now)) history.now → yes ≡ true) }
 {

@@ -1,9 +1,10 @@
 //! A history replayed on new benches.
-ghost use Rattle.std.specs.Prelude.{◌≡◌, ◌<◌, ◌^◌, [], length, IfOk};
+ghost use Rattle.std.specs.Prelude.{◌≡◌, [], IfOk};
 ghost use Rattle.scenario_file.specs.Reading.{contents};
 ghost use Rattle.scenario_file.specs.Valid.{IsScenario};
 ghost use Rattle.history_rules.specs.Legal.{IsLegal};
 ghost use Rattle.world_rules.specs.Scenarios.{setup_of};
+ghost use Rattle.history_audit.specs.Counting.{AreFewEach};
 ghost use Rattle.world_history.specs.Benches.{benches_of};
 
 use crate::Bench;
@@ -29,7 +30,7 @@ pub fn all_benches(alloc: Global, scenario: &Scenario) -> Result<Vec<Bench>, Wan
 pub fn replayed(alloc: Global, scenario: &Scenario, history: &History) -> Result<Vec<Bench>, Want>
     requires valid { IsScenario (contents scenario.now) }
     requires legal { IsLegal (setup_of (contents scenario.now)) history.now }
-    requires short { length history.now < 2 ^ 32 }
+    requires few { AreFewEach history.now }
     ensures { IfOk result (λ benches. benches.items ≡ benches_of (contents scenario.now) history.now) }
 {
     let mut benches = all_benches(alloc, scenario)?;

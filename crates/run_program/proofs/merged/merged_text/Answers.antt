@@ -2,6 +2,7 @@
 -- fault of the files is told.
 use Rattle.std.proofs.Common.{◌∙◌, map}
 use Rattle.scenario_file.specs.Reading.{contents}
+use Rattle.history_audit.proofs.FewEach.{few_each_below}
 use Rattle.world_history.proofs.AuditAsks.{all_unsigned}
 use Rattle.run_program.proofs.Merging.{all_short, each_short, gives_merge, gives_fault}
 use Rattle.run_program.proofs.Telling.{is_told}
@@ -15,6 +16,9 @@ join-requires-clause-together c = all_short c.args.kept.now c.requires.few c.req
 
 pub write_run_of-requires-clause-legal : goal.write_run_of-requires-clause-legal
 write_run_of-requires-clause-legal c = c.in-Ok.ensures.joins.joint.legal
+
+pub write_run_of-requires-clause-few : goal.write_run_of-requires-clause-few
+write_run_of-requires-clause-few c = few_each_below c.in-Ok.replay.history c.in-Ok.ensures.short
 
 pub write_run_of-requires-clause-benches : goal.write_run_of-requires-clause-benches
 write_run_of-requires-clause-benches c =

@@ -1,6 +1,7 @@
 -- The benches have each entry of their history once, so they merge to that history. It is legal and they are its
 -- benches, so its text is written with nothing replayed, and tells it.
 use Rattle.scenario_file.specs.Reading.{contents}
+use Rattle.history_audit.proofs.FewEach.{few_each_below}
 use Rattle.run_program.proofs.Benches.{printed_once, printed_after, merged_text}
 use Rattle.run_program.proofs.Telling.{told_text}
 use Rattle.run_program.proofs.played.text_of_benches.Goals as goal
@@ -14,10 +15,10 @@ write_run_of-requires-clause-legal c =
     c.in_ok-history.ensures.merged (c.in_ok-history.ensures.legal (contents c.args.scenario.now))
     c.requires.benches).legal
 
-pub write_run_of-requires-clause-short : goal.write_run_of-requires-clause-short
-write_run_of-requires-clause-short c =
-    (printed_after (contents c.args.scenario.now) c.in_ok-history.history c.args.benches.now
-    c.in_ok-history.ensures.merged (c.in_ok-history.ensures.legal (contents c.args.scenario.now))
+pub write_run_of-requires-clause-few : goal.write_run_of-requires-clause-few
+write_run_of-requires-clause-few c =
+    few_each_below c.in_ok-history.history (printed_after (contents c.args.scenario.now) c.in_ok-history.history
+    c.args.benches.now c.in_ok-history.ensures.merged (c.in_ok-history.ensures.legal (contents c.args.scenario.now))
     c.requires.benches).short
 
 pub write_run_of-requires-clause-benches : goal.write_run_of-requires-clause-benches

@@ -3,9 +3,13 @@
 use Rattle.std.proofs.Common.{◌∙◌}
 use Rattle.scenario_file.specs.Reading.{contents}
 use Rattle.run_program.proofs.Giving.{gives_replay, gives_no_history}
+use Rattle.history_audit.proofs.FewEach.{few_each_below}
 use Rattle.world_history.proofs.AuditAsks.{all_unsigned}
 use Rattle.run_program.proofs.Telling.{is_told}
 use Rattle.run_program.proofs.replayed.replayed_text.Goals as goal
+
+pub write_run_of-requires-clause-few : goal.write_run_of-requires-clause-few
+write_run_of-requires-clause-few c = few_each_below c.in-Ok.replay.history c.in-Ok.ensures.short
 
 pub write_run_of-requires-clause-benches : goal.write_run_of-requires-clause-benches
 write_run_of-requires-clause-benches c =

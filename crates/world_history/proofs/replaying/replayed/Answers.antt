@@ -3,8 +3,8 @@
 use Rattle.std.proofs.Common.{◌<◌, ◌^◌, length, refl, ap, arith}
 use Rattle.scenario_file.specs.Reading.{contents}
 use Rattle.world_entries.specs.Entries.{entry_of, event_of}
-use Rattle.world_history.proofs.HistoryReplays.{Comes, IsReady, next_comes, all_replayed, bench_there, bench_ready}
-use Rattle.world_history.proofs.HistoryReplays.{benches_grow}
+use Rattle.world_history.proofs.HistoryReplays.{Comes, IsReady, next_comes, all_replayed, bench_there}
+use Rattle.world_history.proofs.HistoryReplays.{bench_ready_of_few, benches_grow}
 use Rattle.world_history.proofs.replaying.replayed.Goals.{After-index_mut, In_ok-event}
 use Rattle.world_history.proofs.replaying.replayed.Goals as goal
 
@@ -26,9 +26,10 @@ index_mut-requires c =
 ready : (c : After-index_mut) → Comes (contents c.args.scenario.now) c.args.history.now c.loop-entry.entry-index
     (entry_of c.entry-item.result) → IsReady (2 ^ 32) c.index_mut.result.now c.entry-item.result.stamp
     (event_of c.in_ok-event.event)
-ready c next = bench_ready (contents c.args.scenario.now) c.args.history.now c.loop-entry.entry-index (2 ^ 32)
+ready c next = bench_ready_of_few (contents c.args.scenario.now) c.args.history.now c.loop-entry.entry-index (2 ^ 32)
     (entry_of c.entry-item.result) (event_of c.in_ok-event.event)
-    c.loop-entry.benches.items c.index_mut.result.now next c.requires.short (ap event_of c.in_ok-event.ensures)
+    c.loop-entry.benches.items c.index_mut.result.now next (c.requires.few c.entry-item.result.actor)
+    (ap event_of c.in_ok-event.ensures)
     c.loop-entry.invariant c.index_mut.ensures.value
 
 pub act-requires-clause-fits : goal.act-requires-clause-fits
