@@ -1,6 +1,8 @@
 """What the scripts of this folder share: a fleet's folder, and what its fleet.toml says.
 
-    DIR/scenario.toml     the scenario
+    DIR/scenario.toml     the scenario; without its seed where a ring is there
+    DIR/ring              the public keys of all actors, as `spire keys` prints them: then each station has its own key alone
+    DIR/keys/ACTOR.key    that key, as `spire key` prints it (`fleet/deal`); nobody else's
     DIR/fleet.toml        may be left out, and so may each of its keys (DEFAULTS)
     DIR/keep/ACTOR.keep   what a station keeps; never copied back, never shared
     DIR/log/ACTOR.notes   its notes, each with the time at which it was put; ACTOR.log, what went wrong around it; broker.log
@@ -24,7 +26,7 @@ DEFAULTS = {
     'tick_ms': 100,          # between two ticks of a master
     'poll_ms': 1000,         # between two polls of a proxy; 0: a bridge polls
     'noted_by': 'station',   # who tells of writes and notices: 'merge' has each unit look them up in its station's file
-    'options': [],           # more words for mosquitto_sub and mosquitto_pub; {actor} is the station's name
+    'options': [],           # more words for mosquitto_sub and mosquitto_pub; {actor} is the station's name, {dir} this folder's
     'programs': {},          # a station's program, where it isn't SPIRE
 }
 
@@ -33,7 +35,7 @@ class Fleet:
     """A fleet's folder on this machine."""
 
     def __init__(self, folder):
-        self.folder = os.path.abspath(folder)
+        self.folder = os.path.realpath(folder)
         self.scenario = self.path('scenario.toml')
         said = {}
         if os.path.exists(self.path('fleet.toml')):
@@ -47,6 +49,18 @@ class Fleet:
 
     def path(self, *parts):
         return os.path.join(self.folder, *parts)
+
+    @property
+    def ring(self):
+        return self.path('ring')
+
+    def key(self, actor):
+        return self.path('keys', f'{actor}.key')
+
+    def station(self, actor):
+        """The words of a call of a station: by its own key, where there is a ring, else by the scenario's seed."""
+        own = [self.ring, self.key(actor)] if os.path.exists(self.ring) else []
+        return [*self.program(actor), 'station', self.scenario, actor, self.keep(actor), *own]
 
     def keep(self, actor):
         return self.path('keep', f'{actor}.keep')
@@ -76,7 +90,9 @@ class Fleet:
         return shlex.split(said)
 
     def all_actors(self):
-        """Every actor of the scenario, by name."""
+        """Every actor of the scenario, by name; where there is a ring, those whose keys are here."""
+        if os.path.exists(self.ring):
+            return sorted(name[:-4] for name in os.listdir(self.path('keys')) if name.endswith('.key'))
         keys = subprocess.run([*self.program(), 'keys', self.scenario], stdout=subprocess.PIPE)
         if keys.returncode != 0:
             sys.exit(keys.returncode)
@@ -89,7 +105,7 @@ class Fleet:
     def client(self, name, actor):
         """The words of a call of mosquitto_sub or mosquitto_pub."""
         return [name, '-h', self.host, '-p', str(self.port), '-q', '1', '-k', '10',
-                *(word.replace('{actor}', actor) for word in self.options)]
+                *(word.replace('{actor}', actor).replace('{dir}', self.folder) for word in self.options)]
 
     def give(self, actor, line):
         """Gives a station on this machine a line. One that is at most PIPE_BUF long lands whole."""
@@ -103,13 +119,16 @@ class Fleet:
 
 
 def is_running(pid_file):
-    """The pid in a file, if that process is there and is one of a fleet's."""
+    """The pid in a file, if that process is there and is the unit or the broker whose file it is: after a boot any other may have
+    that number."""
+    run, name = os.path.split(pid_file.removesuffix('.pid'))
+    last = [os.path.join(run, 'broker.conf')] if name == 'broker' else [os.path.dirname(run), name]
     try:
         with open(pid_file) as it:
             pid = int(it.read())
         with open(f'/proc/{pid}/cmdline', 'rb') as it:
-            words = it.read()
-        return pid if b'mosquitto' in words or b'unit' in words or b'bridge' in words else None
+            words = os.fsdecode(it.read()).split('\0')[:-1]
+        return pid if words[-len(last):] == last else None
     except (OSError, ValueError):
         return None
 

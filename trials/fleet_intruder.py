@@ -4,8 +4,8 @@ some of those that they are for, or to nobody; beside others it says a contradic
 key; and it says words in other masters' names and altered ones, which don't. To each client it vouches for an order that nobody gave,
 before the others vouch for one of that number. All else it says is about RATE words a second, and beyond that it is silent.
 
-    trials/fleet_intruder.py station SCENARIO ACTOR KEEP
-    CORRECT: the program whose station it runs (trials/reference/stations.py)"""
+    trials/fleet_intruder.py station SCENARIO ACTOR KEEP [RING KEY]
+    DEALER: the scenario with its seed, where SCENARIO has none (of it this uses its own key alone). CORRECT: the program whose station it runs (trials/reference/stations.py)"""
 
 import os
 import random
@@ -87,7 +87,7 @@ def main():
     second.set_stage(20)
     correct = shlex.split(os.environ.get('CORRECT') or f'{sys.executable} {TOP}/trials/reference/stations.py')
     _, scenario, actor, _ = sys.argv[1:5]
-    with open(scenario, 'rb') as it:
+    with open(os.environ.get('DEALER') or scenario, 'rb') as it:
         scenario = second.Scenario.read(it.read())
     intruder = Intruder(scenario, scenario.actor_of(*second.parse_actor(actor.encode())))
     station = subprocess.Popen([*correct, *sys.argv[1:]], stdout=subprocess.PIPE)

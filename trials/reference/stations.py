@@ -1,10 +1,11 @@
 #!/usr/bin/env python3
-"""The second program's `station` and `merge`: a stand-in for the proved ones, written from the definitions of
-crates/station_rules/specs, crates/station_lives/specs, crates/kept_lines/specs, crates/joint_lists/specs and
-crates/station_files/specs. Every other command is reference.py's.
+"""The second program's `station`, `merge` and `key`: a stand-in for the proved ones, written from the definitions of
+crates/station_rules/specs, crates/station_lives/specs, crates/kept_lines/specs, crates/joint_lists/specs,
+crates/station_files/specs and crates/command_files/specs. Every other command is reference.py's.
 
-    trials/reference/stations.py station SCENARIO ACTOR KEEP
+    trials/reference/stations.py station SCENARIO ACTOR KEEP [RING KEY]
     trials/reference/stations.py merge SCENARIO KEEP ..
+    trials/reference/stations.py key SCENARIO ACTOR
 
 WRONG makes a station, or a merge, that the trials have to find out:
     says_first       words are put out before they are kept
@@ -15,6 +16,7 @@ import errno
 import fcntl
 import functools
 import os
+import re
 import sys
 import time
 
@@ -333,14 +335,81 @@ def answer(station, batch, come, line):
         batch.note(b'note refused\n')
 
 
-def station_command(scenario_name, actor, keep):
-    scenario = second.load_scenario(second.RealFiles(), scenario_name)
-    name = second.parse_actor(actor.encode('utf-8', 'surrogateescape'))
+# Keys that only their owner has --------------------------------------------------------------------
+
+def load_seedless(name):
+    """A scenario without a seed, as it is behind a line of zeros."""
+    data = second.RealFiles().load(name)
+    try:
+        second.Scenario.read(data)
+    except second.ScenarioRefusal as fault:
+        if str(fault) != 'MissingKey seed':
+            raise second.End(4, f'spire: scenario {fault}') from fault
+    else:
+        raise second.End(4, 'spire: scenario UnknownKey seed')
+    try:
+        return second.Scenario.read(b'seed = "' + b'0' * 64 + b'"\n' + data)
+    except second.ScenarioRefusal as fault:
+        raise second.End(4, f'spire: scenario {fault}') from fault
+
+
+def read_ring(scenario, data):
+    """The public keys of all actors; BadLine at the first line that isn't its actor's."""
+    *lines, rest = data.split(b'\n')
+    publics = []
+    for actor in range(scenario.actors):
+        line = lines[actor] if actor < len(lines) else b''
+        found = re.fullmatch(scenario.name(actor).encode() + b' ([0-9a-f]{120})', line)
+        if not found:
+            raise second.End(5, f'spire: ring BadLine {actor + 1}')
+        publics.append(bytes.fromhex(found[1].decode()))
+    if lines[scenario.actors:] or rest:
+        raise second.End(5, f'spire: ring BadLine {scenario.actors + 1}')
+    return publics
+
+
+def read_own_key(actor, data):
+    """The seed and the identifier of this actor's line."""
+    found = re.fullmatch(actor.encode() + b' ([0-9a-f]{64}) ([0-9a-f]{32})\n', data)
+    if not found:
+        raise second.End(5, 'spire: key BadLine 1')
+    return tuple(bytes.fromhex(digits.decode()) for digits in found.groups())
+
+
+def hold(scenario, publics, seed, identifier):
+    """The scenario as one knows it who has this ring and this key alone."""
+    scenario._ring = second.Ring(scenario.sizes, scenario.clients, publics)
+    scenario.key = lambda actor: second.KeyState(seed, identifier, scenario.heights, second.W4)
+
+
+def actor_named(scenario, word):
+    name = second.parse_actor(word.encode('utf-8', 'surrogateescape'))
     number = scenario.actor_of(*name) if name else None
-    if number is None or not scenario.correct(number):
+    if number is None:
+        raise second.usage()
+    return number
+
+
+def key_command(scenario_name, actor):
+    if any(word.startswith('-') for word in (scenario_name, actor)):
+        raise second.usage()
+    scenario = second.load_scenario(second.RealFiles(), scenario_name)
+    key = scenario.key(actor_named(scenario, actor))
+    return f'{actor} {key.seed.hex()} {key.ident.hex()}\n'
+
+
+def station_command(scenario_name, actor, keep, *keys):
+    scenario = load_seedless(scenario_name) if keys else second.load_scenario(second.RealFiles(), scenario_name)
+    number = actor_named(scenario, actor)
+    if not scenario.correct(number):
         # a station is a correct actor
         raise second.usage()
+    if keys:
+        publics = read_ring(scenario, second.RealFiles().load(keys[0]))
+        hold(scenario, publics, *read_own_key(actor, second.RealFiles().load(keys[1])))
     file = open_kept(keep)
+    if keys and scenario.key(number).public() != publics[number]:
+        raise second.End(5, 'spire: key OtherKey')
     station = Station(scenario, number)
     fault = station.reopen(recover(file, keep))
     if fault is not None:
@@ -457,13 +526,13 @@ def merge_command(scenario_name, *keeps):
 
 
 def main(argv):
-    calls = {'station': (station_command, 3, 3), 'merge': (merge_command, 2, 27)}
+    calls = {'station': (station_command, (3, 5)), 'merge': (merge_command, range(2, 28)), 'key': (key_command, (2,))}
     if argv[:1] == [] or argv[0] not in calls:
         return second.main(argv)
     second.set_stage(20)
     try:
-        call, least, most = calls[argv[0]]
-        if not least <= len(argv) - 1 <= most:
+        call, counts = calls[argv[0]]
+        if len(argv) - 1 not in counts:
             raise second.usage()
         sys.stdout.write(call(*argv[1:]))
         sys.stdout.flush()
