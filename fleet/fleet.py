@@ -107,6 +107,10 @@ class Fleet:
         return [name, '-h', self.host, '-p', str(self.port), '-q', '1', '-k', '10',
                 *(word.replace('{actor}', actor).replace('{dir}', self.folder) for word in self.options)]
 
+    def hear(self, actor, *words):
+        """The words of a call of mosquitto_sub whose output `messages` reads."""
+        return [*self.client('mosquitto_sub', actor), '-F', '%l %t\\n%p', *words]
+
     def give(self, actor, line):
         """Gives a station on this machine a line. One that is at most PIPE_BUF long lands whole."""
         data = line.encode() + b'\n'
@@ -131,6 +135,18 @@ def is_running(pid_file):
         return pid if words[-len(last):] == last else None
     except (OSError, ValueError):
         return None
+
+
+def messages(stream):
+    """Topic and payload of each whole message that mosquitto_sub puts: a line with the payload's length and the topic, then as many
+    bytes and a line feed. So nothing in a payload can end it or begin another. (Nor in a topic: the broker takes none with a control
+    character.)"""
+    for line in stream:
+        length, _, topic = line.decode(errors='replace').rstrip('\n').partition(' ')
+        payload = stream.read(int(length)) if length.isdecimal() else b''
+        if not stream.read(1):
+            return
+        yield topic, payload
 
 
 def fleet_of(argv, least, most, usage):
