@@ -118,4 +118,9 @@ impl KeyCheck for KnownKeys {
         self.keep(below as usize, key, next, signed);
         true
     }
+
+    // Mostly all but the last level is known.
+    fn at_once(&self) -> bool {
+        false
+    }
 }

@@ -10,3 +10,4 @@ mod BytesAsWords
 mod LanesOfChains
 mod ChainsInAnyOrder
 mod PairsOfValues
+mod ThreeKeys

@@ -4,3 +4,4 @@ pub mod Marks
 pub mod Lanes
 pub mod Steps
 pub mod Made
+pub mod Three

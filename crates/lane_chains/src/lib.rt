@@ -12,8 +12,10 @@ mod made;
 mod rounds;
 mod runs;
 mod steps;
+mod three;
 mod words;
 
-pub use crate::chains::{MOST_CHAINS, VALUES_LEN, run_chains, write_value};
+pub use crate::chains::{MOST_CHAINS, VALUES_LEN, read_value, run_chains, write_value};
 pub use crate::hash::{hash_parts, hasher_under};
 pub use crate::made::made_keys;
+pub use crate::three::{KeyAt, three_keys};

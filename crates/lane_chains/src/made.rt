@@ -110,8 +110,8 @@ fn pair_words(p: [Words; 8], a: [Words; 8], b: [Words; 8]) -> [Words; 16]
     ]
 }
 
-// The hash values after one block more: the last 22 bytes of `p`, `a`, and the first 10 bytes of `b`.
-fn take_pair(
+/// The hash values after one block more: the last 22 bytes of `p`, `a`, and the first 10 bytes of `b`.
+pub(crate) fn take_pair(
     h: [Words; 8],
     p: [Words; 8],
     a: [Words; 8],
@@ -124,9 +124,9 @@ fn take_pair(
     compressed_after(h, pair_words(p, a, b), room)
 }
 
-// What a key's hash begins with.
+/// What a key's hash begins with.
 #[tactic(auto, unfolding(wire_parts::specs::Fields::u16_bytes, wire_parts::specs::Fields::u32_bytes))]
-fn head(id: &[u8; 16], q: u32, tag: u16) -> [u8; 32]
+pub(crate) fn head(id: &[u8; 16], q: u32, tag: u16) -> [u8; 32]
     ensures { result ≡ head id.now q tag }
 {
     let mut bytes = [0; 32];
@@ -152,8 +152,8 @@ fn heads(id: &[u8; 16], q: u32, tag: u16) -> [Words; 8]
     gathered_values(&values, &[0, 1, 2, 3, 4, 5, 6, 7])
 }
 
-// The padding of a message of `len` bytes.
-fn ending(len: u64) -> [u8; 32]
+/// The padding of a message of `len` bytes.
+pub(crate) fn ending(len: u64) -> [u8; 32]
     requires { len < 2 ^ 32 }
     ensures { result ≡ ending len }
 {
@@ -166,8 +166,8 @@ fn ending(len: u64) -> [u8; 32]
     bytes
 }
 
-// A value in each lane.
-fn same_value(value: &[u8; 32]) -> [Words; 8]
+/// A value in each lane.
+pub(crate) fn same_value(value: &[u8; 32]) -> [Words; 8]
     ensures { (j : ℕ) → j < 8 → digest_bytes (lane j result) 8 ≡ value.now }
 {
     gathered_values(value, &[0; 8])

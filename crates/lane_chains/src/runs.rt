@@ -2,17 +2,18 @@
 
 ghost use Rattle.std.specs.Prelude.{◌≡◌, ℕ, ◌<◌, ◌≤◌, ◌+◌, ◌-◌, ◌*◌, ◌%◌, ◌^◌, length, slice_index, cond, ltb};
 ghost use Rattle.sha2.specs.Sha256.{digest_bytes};
-ghost use Rattle.lane_chains.specs.Lanes.{lane};
+ghost use Rattle.lane_chains.specs.Lanes.{lane, id_lane};
 ghost use Rattle.lane_chains.specs.Chains.{chain, end_of, AreSteps};
 
+use crate::lanes::splat;
 use crate::rounds::Room;
-use crate::steps::{begun, chain_step};
+use crate::steps::{begun_keys, same_id, step_keys};
 use crate::words::{gathered, gathered_values, spread};
 use std::simd::u32x8 as Words;
 
 // `a` in the lanes whose step is below the last, and `b` in the others.
 #[inline(always)]
-fn chosen(steps: Words, to: Words, a: Words, b: Words) -> Words
+pub(crate) fn chosen(steps: Words, to: Words, a: Words, b: Words) -> Words
     ensures { (j : ℕ) → j < 8 → slice_index result j
         ≡ cond (ltb (slice_index steps j) (slice_index to j)) (slice_index a j) (slice_index b j) }
 {
@@ -43,10 +44,11 @@ fn plus_one(a: Words) -> Words
     a + Words::splat(1)
 }
 
-// Steps `from` to `to - 1` of eight chains, of which none has more than `turns`.
-fn run_lanes(
-    id: &[u32; 4],
-    q: u32,
+/// Steps `from` to `to - 1` of eight chains, of which none has more than `turns`. Each lane has an identifier and a leaf
+/// of its own.
+pub(crate) fn run_lanes(
+    ids: [Words; 4],
+    q: Words,
     chains: Words,
     from: Words,
     to: Words,
@@ -59,16 +61,16 @@ fn run_lanes(
     requires top { (j : ℕ) → j < 8 → slice_index to j ≤ 2 ^ 8 }
     requires turns { (j : ℕ) → j < 8 → slice_index to j ≤ slice_index from j + turns }
     ensures { (j : ℕ) → j < 8 → digest_bytes (lane j result) 8
-        ≡ chain (digest_bytes id.now 4) q (slice_index chains j) (slice_index from j)
+        ≡ chain (digest_bytes (id_lane j ids) 4) (slice_index q j) (slice_index chains j) (slice_index from j)
         (slice_index to j - slice_index from j) (digest_bytes (lane j start) 8) }
 {
-    let begun = begun(id, q);
+    let begun = begun_keys(ids, q);
     let mut v = start;
     let mut steps = from;
     'turns: for turn in 0..turns {
         // A lane that is done has no step of its own: its block is that of step 0, and counts for nothing.
         let now = chosen(steps, to, steps, Words::splat(0));
-        let next = chain_step(begun, id, q, chains, now, v, room);
+        let next = step_keys(begun, ids, q, chains, now, v, room);
         let kept = chosen_values(steps, to, next, v);
         let later = chosen(steps, to, plus_one(steps), steps);
         v = kept;
@@ -77,8 +79,8 @@ fn run_lanes(
     v
 }
 
-// The most steps that one of eight chains has.
-fn most_steps(from: &[u16], to: &[u16], group: &[u16; 8]) -> u32
+/// The most steps that one of eight chains has.
+pub(crate) fn most_steps(from: &[u16], to: &[u16], group: &[u16; 8]) -> u32
     requires from { (j : ℕ) → j < 8 → slice_index group.now j < length from.now }
     requires to { (j : ℕ) → j < 8 → slice_index group.now j < length to.now }
     ensures { (j : ℕ) → j < 8 → slice_index to.now (slice_index group.now j)
@@ -111,8 +113,8 @@ pub(crate) fn group_ends(
     let turns = most_steps(from, to, group);
     let start = gathered_values(starts, group);
     run_lanes(
-        id,
-        q,
+        same_id(id),
+        splat(q),
         spread(group),
         gathered(from, group),
         gathered(to, group),

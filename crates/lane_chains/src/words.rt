@@ -7,7 +7,8 @@ ghost use Rattle.lane_chains.specs.Chains.{value_at};
 
 use std::simd::u32x8 as Words;
 
-fn load_be(bytes: &[u8], i: usize) -> u32
+/// The word at byte `i`.
+pub(crate) fn load_be(bytes: &[u8], i: usize) -> u32
     requires { i + 4 ≤ length bytes.now }
     ensures { result ≡ word_at bytes.now i }
 {

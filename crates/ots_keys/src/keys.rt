@@ -13,9 +13,9 @@ use sha2::Digest;
 use std::alloc::Global;
 use wire_parts::{Want, put_bytes, put_u32};
 
-const D_PBLC: u16 = 0x8080;
+pub(crate) const D_PBLC: u16 = 0x8080;
 
-const D_MESG: u16 = 0x8181;
+pub(crate) const D_MESG: u16 = 0x8181;
 
 const RANDOMIZER: u16 = 0xFFFD;
 
@@ -156,6 +156,16 @@ fn has_code(bytes: &[u8], code: u32) -> bool
     &bytes[..4] == code.to_be_bytes().as_slice()
 }
 
+/// Whether the bytes have the form of a signature of this type.
+pub fn ots_form(ots: Ots, sig: &[u8]) -> bool
+    ensures { IsTrue result ↔ IsSignatureForm ots sig.now }
+{
+    if sig.len() != ots.signature_len() {
+        return false;
+    }
+    has_code(sig, ots.type_code())
+}
+
 /// The public key that signed the message, if the signature is right: the one that the chains of the
 /// signature end in. `None` exactly where the bytes don't have the form of a signature of this type.
 /// It takes no memory.
@@ -168,18 +178,15 @@ pub fn ots_candidate(
 ) -> Option<[u8; 32]>
     ensures { SomeIff result (IsSignatureForm ots sig.now) (candidate ots id.now q message.now sig.now) }
 {
-    if sig.len() != ots.signature_len() {
-        return None;
-    }
-    if !has_code(sig, ots.type_code()) {
+    if !ots_form(ots, sig) {
         return None;
     }
     let hash = hash_parts(id, q, D_MESG, &sig[4..36], message);
     Some(finished_key(ots, id, q, &hash, sig))
 }
 
-// The key that the chains of a signature end in, where the message has this hash.
-fn finished_key(ots: Ots, id: &[u8; 16], q: u32, hash: &[u8; 32], sig: &[u8]) -> [u8; 32]
+/// The key that the chains of a signature end in, where the message has this hash.
+pub(crate) fn finished_key(ots: Ots, id: &[u8; 16], q: u32, hash: &[u8; 32], sig: &[u8]) -> [u8; 32]
     requires { length sig.now ≡ signature_len ots }
     ensures { result ≡ key_of_ends ots id.now q (finished_element ots id.now q hash.now sig.now) }
 {

@@ -7,7 +7,9 @@
 mod digits;
 mod keys;
 mod parameters;
+mod together;
 
-pub use crate::keys::{ots_candidate, ots_public, ots_publics, ots_sign};
+pub use crate::keys::{ots_candidate, ots_form, ots_public, ots_publics, ots_sign};
 pub use crate::parameters::Ots;
-pub use lane_chains::{hash_parts, hasher_under};
+pub use crate::together::{OtsSigned, ots_candidates};
+pub use lane_chains::{KeyAt, hash_parts, hasher_under};

@@ -1,5 +1,6 @@
 pub mod Heights
 pub mod Parts
 pub mod KeyLaws
+mod CandidatesLead
 pub mod NodeLaws
 pub mod Laws

@@ -1,5 +1,5 @@
 -- LMS public keys and what they verify (RFC 8554, section 5.4).
-use Rattle.std.specs.Prelude.{◌≡◌, ◌<◌, ℕ, ◌+◌, ◌*◌, ◌/◌, ◌^◌, List, [], ◌∷◌, ◌++◌, length, Contains}
+use Rattle.std.specs.Prelude.{◌≡◌, ◌↔◌, ◌<◌, ℕ, ◌+◌, ◌*◌, ◌/◌, ◌^◌, List, [], ◌∷◌, ◌++◌, length, Contains}
 use Rattle.wire_parts.specs.Fields.{u32_bytes}
 use Rattle.ots_keys.specs.declared.parameters.Ots.{Ots}
 use Rattle.ots_keys.specs.Parameters.{type_code, signature_len}
@@ -34,11 +34,15 @@ tree_signature_len height ots = 8 + signature_len ots + 32 * height
 abbrev pub signature_bytes : ℕ → ℕ → List ℕ → List ℕ → List ℕ
 signature_bytes height q ots_sig path = u32_bytes q ++ ots_sig ++ u32_bytes (tree_code height) ++ path
 
+-- the path leads from the one-time key of leaf q to the root of the key (section 5.4.2, algorithm 6a, steps 3 and 4)
+abbrev pub ClimbsToRoot : PublicKey → ℕ → List ℕ → List ℕ → Type 0
+ClimbsToRoot key q ots_key path =
+    let r = 2 ^ key.height + q in climbed key.id path r (leaf_hash key.id r ots_key) key.height ≡ key.root
+
 -- the one-time signature and the path lead from the message to the root of the key
 pub record LeadsToRoot (key : PublicKey) (q : ℕ) (message ots_sig path : List ℕ) : Type 0 where
   pub form : IsSignatureForm key.ots ots_sig
-  pub root : (let r = 2 ^ key.height + q in
-      climbed key.id path r (leaf_hash key.id r (candidate key.ots key.id q message ots_sig)) key.height) ≡ key.root
+  pub root : ClimbsToRoot key q (candidate key.ots key.id q message ots_sig) path
 
 -- the signature leads from the message to the root of the key (section 5.4.2, algorithm 6a). That
 -- the two type codes are the key's is this project's own rule for what algorithm 6a calls invalid.
@@ -50,6 +54,12 @@ pub record IsSignedUnder (key : PublicKey) (message sig : List ℕ) : Type 0 whe
   pub leaf : q < 2 ^ key.height
   pub levels : length path ≡ 32 * key.height
   pub leads : LeadsToRoot key q message ots_sig path
+
+-- these are the signature's parts: it is right for a message exactly where they lead from it to the root
+pub record HasParts (key : PublicKey) (sig : List ℕ) (q : ℕ) (ots_sig path : List ℕ) : Type 0 where
+  pub leaf : q < 2 ^ key.height
+  pub levels : length path ≡ 32 * key.height
+  pub leads : (message : List ℕ) → IsSignedUnder key message sig ↔ LeadsToRoot key q message ots_sig path
 
 -- the bytes of a public key verify the signature of the message
 abbrev pub TreeVerifies : List ℕ → List ℕ → List ℕ → Type 0

@@ -6,7 +6,9 @@
 
 mod nodes;
 mod public_key;
+mod together;
 mod tree;
 
 pub use crate::public_key::{PublicKey, number_of, tree_verify};
+pub use crate::together::{TreeSigned, verify_three};
 pub use crate::tree::{Tree, TreeAnswer};

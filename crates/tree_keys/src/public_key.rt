@@ -1,6 +1,6 @@
-ghost use Rattle.std.specs.Prelude.{◌≡◌, ◌↔◌, ◌+◌, ◌*◌, ◌^◌, ◌<◌, ◌≤◌, ℕ, length, IsTrue, MatchOption};
+ghost use Rattle.std.specs.Prelude.{◌≡◌, ◌↔◌, ◌+◌, ◌*◌, ◌^◌, ◌<◌, ◌≤◌, ℕ, List, length, IsTrue, MatchOption};
 ghost use Rattle.wire_parts.specs.Fields.{u32_bytes};
-ghost use Rattle.tree_keys.specs.PublicKeys.{IsTreeHeight, tree_code, key_bytes, IsKey, tree_signature_len, signature_bytes, LeadsToRoot, IsSignedUnder, TreeVerifies};
+ghost use Rattle.tree_keys.specs.PublicKeys.{IsTreeHeight, tree_code, key_bytes, IsKey, tree_signature_len, signature_bytes, ClimbsToRoot, LeadsToRoot, HasParts, IsSignedUnder, TreeVerifies};
 
 use crate::nodes::{climbed, leaf_count, leaf_hash};
 use byteorder::{BigEndian, ByteOrder};
@@ -53,6 +53,14 @@ fn height_of_code(code: u32) -> Option<u32>
         9 => Some(25),
         _ => None,
     }
+}
+
+// What a signature says of its leaf: the leaf's number, its one-time signature, and the path to the root.
+#[derive(Drop)]
+pub(crate) struct Parts<'a> {
+    pub q: u32,
+    pub ots_sig: &'a [u8],
+    pub path: &'a [u8],
 }
 
 impl PublicKey {
@@ -111,20 +119,32 @@ impl PublicKey {
         requires { IsTreeHeight self.now.height }
         ensures { IsTrue result ↔ IsSignedUnder self.now message.now sig.now }
     {
+        match self.parts(sig) {
+            None => false,
+            Some(parts) => self.leads_to_root(&parts, message),
+        }
+    }
+
+    // The parts of a signature under this key, unless its length, its type code or its leaf is wrong.
+    pub(crate) fn parts<'a>(&self, sig: &'a [u8]) -> Option<Parts<'a>>
+        requires { IsTreeHeight self.now.height }
+        ensures { MatchOption result ((message : List ℕ) → IsSignedUnder self.now message sig.now → ⊥)
+            (λ parts. HasParts self.now sig.now parts.q parts.ots_sig.now parts.path.now) }
+    {
         if sig.len() != self.signature_len() {
-            return false;
+            return None;
         }
         let (q_bytes, rest) = sig.split_at(4);
         let (ots_sig, rest) = rest.split_at(self.ots.signature_len());
         let (code, path) = rest.split_at(4);
         let q = number_of(q_bytes);
         if number_of(code) != code_of_height(self.height) {
-            return false;
+            return None;
         }
         if !self.has_leaf(q) {
-            return false;
+            return None;
         }
-        self.leads_to_root(q, message, ots_sig, path)
+        Some(Parts { q, ots_sig, path })
     }
 
     // Whether the tree has a leaf of this number.
@@ -136,20 +156,28 @@ impl PublicKey {
     }
 
     // Whether the one-time signature and the path lead from the message to the root.
-    fn leads_to_root(&self, q: u32, message: &[u8], ots_sig: &[u8], path: &[u8]) -> bool
+    fn leads_to_root(&self, parts: &Parts<'_>, message: &[u8]) -> bool
         requires height { IsTreeHeight self.now.height }
-        requires leaf { q < 2 ^ self.now.height }
-        requires levels { length path.now ≡ 32 * self.now.height }
-        ensures { IsTrue result ↔ LeadsToRoot self.now q message.now ots_sig.now path.now }
+        requires leaf { parts.now.q < 2 ^ self.now.height }
+        requires levels { length parts.now.path.now ≡ 32 * self.now.height }
+        ensures { IsTrue result ↔ LeadsToRoot self.now parts.now.q message.now parts.now.ots_sig.now parts.now.path.now }
     {
-        match ots_candidate(self.ots, &self.id, q, message, ots_sig) {
+        match ots_candidate(self.ots, &self.id, parts.q, message, parts.ots_sig) {
             None => false,
-            Some(key) => {
-                let r = leaf_count(self.height) + q;
-                let leaf = leaf_hash(&self.id, r, &key);
-                climbed(&self.id, path, r, &leaf, self.height) == self.root
-            }
+            Some(key) => self.climbs(parts, &key),
         }
+    }
+
+    // Whether the path leads from a one-time key to the root.
+    pub(crate) fn climbs(&self, parts: &Parts<'_>, key: &[u8; 32]) -> bool
+        requires height { IsTreeHeight self.now.height }
+        requires leaf { parts.now.q < 2 ^ self.now.height }
+        requires levels { length parts.now.path.now ≡ 32 * self.now.height }
+        ensures { IsTrue result ↔ ClimbsToRoot self.now parts.now.q key.now parts.now.path.now }
+    {
+        let r = leaf_count(self.height) + parts.q;
+        let leaf = leaf_hash(&self.id, r, key);
+        climbed(&self.id, parts.path, r, &leaf, self.height) == self.root
     }
 }
 

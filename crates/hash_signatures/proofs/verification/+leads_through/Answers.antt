@@ -1,20 +1,14 @@
--- The code cuts the signature where the definition does: a rest too short, or a next key that the first doesn't
--- sign, rules out that the key leads through; else it does just where the next key does.
+-- Without a signed key before it nothing leads through; else the key does just where it signs the next one, and that one
+-- leads through the rest.
 use Rattle.std.proofs.Common.{◌≤◌, ◌-◌, arith, refl}
-use Rattle.hash_signatures.proofs.LeadLaws.{lead_cuts, lead_of_cuts, leads_before, leads_after, parts_of_lead}
-use Rattle.hash_signatures.proofs.LeadLaws.{lead_of_parts}
+use Rattle.hash_signatures.proofs.LeadLaws.{leads_before, leads_after}
 use Rattle.hash_signatures.proofs.verification.+leads_through.Goals as goal
 
-pub returns-then-sig-len : goal.returns-then-sig-len
-returns-then-sig-len g t c =
+pub returns-in_default : goal.returns-in_default
+returns-in_default g t c =
     let low : 1 ≤ c.args.n = omega arith in (
       (λ no. cc),
-      (λ leads.
-          let cuts = lead_cuts (c.args.n - 1) c.in-Some.key c.args.public.now c.args.message.now
-          c.args.sig.now c.in-Some.ensures
-          (leads_before c.args.n _ _ _ low leads) in
-          let room = cuts.room in
-          absurd (omega arith)),
+      (λ leads. absurd (c.in_default.ensures.level (c.args.n - 1) c.args.message.now (leads_before c.args.n _ _ _ low leads))),
     )
 
 pub returns-then-not-signs : goal.returns-then-not-signs
@@ -22,33 +16,14 @@ returns-then-not-signs g t c =
     let low : 1 ≤ c.args.n = omega arith in (
       (λ no. cc),
       (λ leads.
-          let cuts = lead_cuts (c.args.n - 1) c.in-Some.key c.args.public.now c.args.message.now
-          c.args.sig.now c.in-Some.ensures
-          (leads_before c.args.n _ _ _ low leads) in
-          let parts = parts_of_lead (c.args.n - 1) c.in-Some.key c.args.message.now c.args.sig.now _ _
-          _ _ c.signature_len-len.result
-          c.signature_len-len.ensures c.split_at.ensures.front c.split_at.ensures.back c.split_at-2.ensures.front
-          c.split_at-2.ensures.back cuts in
-          c.if-not-signs.ensures.1 parts.0),
+          let both = (c.in-Some.ensures.level (c.args.n - 1) c.args.message.now).0 (leads_before c.args.n _ _ _ low leads) in
+          let yes = c.if-not-signs.ensures.1 both.0 in cc),
     )
 
 pub returns : goal.returns
 returns g t c =
-    let low : 1 ≤ c.args.n = omega arith in (
-      (λ yes.
-          let cuts = lead_of_parts (c.args.n - 1) c.in-Some.key c.args.message.now c.args.sig.now _ _
-          _ _ c.signature_len-len.result
-          c.signature_len-len.ensures c.split_at.ensures.front c.split_at.ensures.back c.split_at-2.ensures.front
-          c.split_at-2.ensures.back
-          c.if-sig-len.false (c.if-not-signs.ensures.0 refl) (c.leads_through.ensures.0 yes) in
-          leads_after c.args.n _ _ _ low (lead_of_cuts (c.args.n - 1) c.in-Some.key _ _ _ c.in-Some.ensures cuts)),
-      (λ leads.
-          let cuts = lead_cuts (c.args.n - 1) c.in-Some.key c.args.public.now c.args.message.now
-          c.args.sig.now c.in-Some.ensures
-          (leads_before c.args.n _ _ _ low leads) in
-          let parts = parts_of_lead (c.args.n - 1) c.in-Some.key c.args.message.now c.args.sig.now _ _
-          _ _ c.signature_len-len.result
-          c.signature_len-len.ensures c.split_at.ensures.front c.split_at.ensures.back c.split_at-2.ensures.front
-          c.split_at-2.ensures.back cuts in
-          c.leads_through.ensures.1 parts.1),
+    let low : 1 ≤ c.args.n = omega arith in
+    let level = c.in-Some.ensures.level (c.args.n - 1) c.args.message.now in (
+      (λ yes. leads_after c.args.n _ _ _ low (level.1 (c.if-not-signs.ensures.0 refl, c.leads_through.ensures.0 yes))),
+      (λ leads. c.leads_through.ensures.1 (level.0 (leads_before c.args.n _ _ _ low leads)).1),
     )

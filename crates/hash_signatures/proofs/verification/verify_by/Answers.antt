@@ -47,7 +47,7 @@ returns g c =
     let e_levels = c.number_of-levels.ensures ∙ c.split_at.ensures.front in
     let e_count = c.number_of-count.ensures ∙ c.split_at-2.ensures.front in (
       (λ yes.
-          let leads = c.leads_through.ensures.0 yes in
+          let leads = c.leads_by.ensures.0 yes in
           let at_key : LeadsThrough count (drop 4 public) message c.split_at-2.result.1.now =
           subst (λ x. LeadsThrough count x message c.split_at-2.result.1.now) c.split_at.ensures.back leads in
           let at_rest : LeadsThrough count (drop 4 public) message (drop 4 sig) =
@@ -58,6 +58,6 @@ returns g c =
           let leads = verifies_leads public message sig count fits e_count v in
           let at_key : LeadsThrough count c.split_at.result.1.now message (drop 4 sig) =
           subst (λ x. LeadsThrough count x message (drop 4 sig)) (sym c.split_at.ensures.back) leads in
-          c.leads_through.ensures.1 (subst (λ x. LeadsThrough count c.split_at.result.1.now message x)
+          c.leads_by.ensures.1 (subst (λ x. LeadsThrough count c.split_at.result.1.now message x)
           (sym c.split_at-2.ensures.back) at_key)),
     )

@@ -1,24 +1,19 @@
--- The text of a step with its padding is one block. Its first five words are the key's, so the rounds begun for
--- these are its own, and in each lane the compression is its digest.
-use Rattle.std.proofs.Common.{◌++◌, ◌∙◌, ap, slice_index}
-use Rattle.sha2.specs.Sha256.{initial_hash_256, schedule}
+-- A step of lanes that all have one identifier.
+use Rattle.std.proofs.Common.{◌∙◌, List, ℕ, ap, slice_index, sym}
+use Rattle.sha2.specs.Sha256.{digest_bytes, initial_hash_256, rounds, sha256}
 use Rattle.lane_chains.specs.Lanes.{lane}
 use Rattle.lane_chains.specs.Steps.{key_words, step_text}
-use Rattle.lane_chains.proofs.StepsInOneBlock.{block_is, key_word_is, step_is, tail}
-use Rattle.lane_chains.proofs.RoundsOneByOne.{rounds-cong}
 use Rattle.lane_chains.proofs.steps.step_each.Goals as goal
 
+pub step_keys-requires-clause-begun : goal.step_keys-requires-clause-begun
+step_keys-requires-clause-begun c = λ j lt.
+    c.requires.begun j lt
+    ∙ ap (λ (x : List ℕ). rounds initial_hash_256 (key_words x (slice_index c.args.q j)) 5)
+    (sym (c.same_id.ensures.words j lt))
+
 pub returns : goal.returns
+unfolding digest_bytes
 returns c j lt =
-    let id = c.args.id.now in
-    let q = slice_index c.args.q j in
-    let chain = slice_index c.args.chains j in
-    let step = slice_index c.args.steps j in
-    let h = lane j c.args.v in
-    let block = step_text id q chain step h ++ tail in
-    let same = rounds-cong initial_hash_256 (key_words id q) (schedule block 48) 5
-    (λ k below. key_word_is id q chain step h k below) in
-    step_is id q chain step h (lane j c.compressed.result)
-    (c.compressed.ensures j lt block (λ k below. ap (λ x. slice_index x k) (c.block_words.ensures j lt)
-    ∙ block_is id q chain step h k below)
-    (c.requires.begun j lt ∙ same))
+    c.step_keys.ensures j lt
+    ∙ ap (λ (x : List ℕ). sha256 (step_text x (slice_index c.args.q j) (slice_index c.args.chains j)
+    (slice_index c.args.steps j) (lane j c.args.v))) (c.same_id.ensures.words j lt)

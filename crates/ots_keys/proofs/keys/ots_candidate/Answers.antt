@@ -1,7 +1,6 @@
 -- Where length and type code are right the bytes have the form of a signature, and the key is that of the
 -- finished chains. Each refusal shows that they don't have that form.
 use Rattle.std.proofs.Common.{◌∙◌, ap, refl}
-use Rattle.wire_parts.specs.Fields.{u32_bytes}
 use Rattle.ots_keys.specs.Keys.{candidate, key_of_ends, finished_element}
 use Rattle.ots_keys.proofs.keys.ots_candidate.Goals as goal
 
@@ -10,10 +9,7 @@ unfolding candidate
 returns c =
     let ots = c.args.ots in
     let ends = finished_element ots c.args.id.now c.args.q in (
-      record {
-        code = c.if-not-has_code.ensures.0 refl ∙ ap u32_bytes c.type_code.ensures;
-        len = c.if-sig-signature_len.false ∙ c.signature_len.ensures;
-      },
+      c.if-not-ots_form.ensures.0 refl,
       c.finished_key.ensures
           ∙ ap (λ hash. key_of_ends ots c.args.id.now c.args.q (ends hash c.args.sig.now)) c.hash_parts-hash.ensures,
     )
