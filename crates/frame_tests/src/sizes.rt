@@ -1,4 +1,3 @@
-use plain_lists::Copied;
 use quorum_sets::laws::meet;
 use quorum_sets::{BadSizes, Sizes, VoterSet};
 use std::test::Fail;
@@ -24,7 +23,7 @@ fn two_quorums_meet(rt: HostRuntime) -> Result<(), Fail> {
     assert!(rt; !a.add(3));
     assert!(rt; !a.is_quorum(&sizes));
     assert!(rt; a.add(2));
-    let mut b = a.copy()?;
+    let mut b = a.copied();
     assert_eq!(rt; b.len(), 3);
     assert!(rt; b.add(1));
     assert_eq!(rt; a.len(), 3);

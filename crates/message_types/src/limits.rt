@@ -1,7 +1,6 @@
-use quorum_sets::MOST_MASTERS;
-
-/// No list of frames, of rows or of a row's numbers has more items: one for each master that there can be.
-pub const MOST_LISTED: u16 = MOST_MASTERS as u16;
+/// No list of frames, of rows or of a row's numbers has more items: one for each master that there can be. (As many as
+/// `MOST_MASTERS` of `quorum_sets`, by a law of each.)
+pub const MOST_LISTED: u16 = 14;
 
 /// A report has no more certificates: one for each number above the stable one that may be offered.
 pub const MOST_CERTIFICATES: u16 = 16;

@@ -1,4 +1,4 @@
-ghost use Rattle.std.specs.Prelude.{◌≡◌, ◌<◌, ◌++◌, ◌∷◌, [], List, OnOk, OnErr, IfOk, ℕ};
+ghost use Rattle.std.specs.Prelude.{◌≡◌, ◌<◌, ◌++◌, ◌∷◌, [], List, OnOk, OnErr, ℕ};
 ghost use Rattle.std.specs.List.{list_any, find};
 ghost use Rattle.indexmap.specs.IndexMap.{IsUnchanged};
 ghost use Rattle.message_types.specs.declared.signed.Signed.{Signed as SignedWord};
@@ -13,7 +13,7 @@ ghost use Rattle.preorder.specs.Index.{HasBallots, has_digest, at_ballot, ballot
 
 use indexmap::IndexMap;
 use message_types::{PoAck, PoRequest, Signed, Update};
-use plain_lists::{Copied, Want};
+use plain_lists::Want;
 use quorum_sets::{MOST_MASTERS, Sizes, VoterSet};
 
 /// The requests and the acknowledgements of one number with one digest.
@@ -40,7 +40,7 @@ pub fn note_requested(
     ensures refused { OnErr result (IsUnchanged ballots.old ballots.new) }
 {
     let key = (frame.signer, frame.body.k, digest);
-    let mut ballot = ballot_at(ballots, frame.signer, frame.body.k, digest)?;
+    let mut ballot = ballot_at(ballots, frame.signer, frame.body.k, digest);
     if ballot.update.is_some() {
         return Ok(());
     }
@@ -58,7 +58,7 @@ pub fn note_vote(ballots: &mut Ballots, frame: &Signed<PoAck>) -> Result<(), Wan
 {
     let ack = frame.body;
     let digest = ack.digest;
-    let mut ballot = ballot_at(ballots, ack.j, ack.k, digest)?;
+    let mut ballot = ballot_at(ballots, ack.j, ack.k, digest);
     ballot.voters.add(frame.signer);
     ballots.insert((ack.j, ack.k, digest), ballot)?;
     Ok(())
@@ -87,18 +87,18 @@ pub fn requested(ballots: &Ballots, j: u32, k: u64, digest: [u8; 32]) -> Option<
 }
 
 // A copy of the ballot, an empty one where none is there.
-fn ballot_at(ballots: &Ballots, j: u32, k: u64, digest: [u8; 32]) -> Result<Ballot, Want>
-    ensures update { IfOk result (λ ballot. ballot.update ≡ ballot_update (at_ballot ballots.now.entries (j, k, digest))) }
-    ensures voters { IfOk result (λ ballot. (m : ℕ) → m < MOST_MASTERS → has_master ballot.voters m ≡ ballot_has (at_ballot ballots.now.entries (j, k, digest)) m) }
+fn ballot_at(ballots: &Ballots, j: u32, k: u64, digest: [u8; 32]) -> Ballot
+    ensures update { result.update ≡ ballot_update (at_ballot ballots.now.entries (j, k, digest)) }
+    ensures voters { (m : ℕ) → m < MOST_MASTERS → has_master result.voters m ≡ ballot_has (at_ballot ballots.now.entries (j, k, digest)) m }
 {
     match ballots.get(&(j, k, digest)) {
-        Some(ballot) => Ok(Ballot {
+        Some(ballot) => Ballot {
             update: ballot.update,
-            voters: ballot.voters.copy()?,
-        }),
-        None => Ok(Ballot {
+            voters: ballot.voters.copied(),
+        },
+        None => Ballot {
             update: None,
             voters: VoterSet::empty(),
-        }),
+        },
     }
 }

@@ -6,7 +6,6 @@ ghost use Rattle.quorum_sets.specs.declared.limits.TheConstants.{MOST_MASTERS};
 
 use crate::limits::{MASTER_PLACES, MOST_MASTERS};
 use crate::sizes::Sizes;
-use plain_lists::{Copied, Want};
 use std::marker::Model;
 
 /// A set of masters, seen as the rising list of their numbers. Two votes of one master count once.
@@ -27,6 +26,15 @@ impl VoterSet {
     {
         VoterSet {
             marked: [false; MASTER_PLACES],
+        }
+    }
+
+    /// An equal set, which takes no memory.
+    pub fn copied(&self) -> VoterSet
+        ensures { result ≡ self.now }
+    {
+        VoterSet {
+            marked: self.marked,
         }
     }
 
@@ -77,13 +85,5 @@ impl VoterSet {
             count += u32::from(self.marked[master as usize]);
         }
         count
-    }
-}
-
-impl Copied for VoterSet {
-    fn copy(&self) -> Result<Self, Want> {
-        Ok(VoterSet {
-            marked: self.marked,
-        })
     }
 }

@@ -185,7 +185,7 @@ impl Copied for Scenario {
             sizes: self.sizes,
             seed: self.seed,
             heights: self.heights.copy()?,
-            intruded: self.intruded.copy()?,
+            intruded: self.intruded.copied(),
             screens: self.screens,
             plant: self.plant.copy()?,
             failing: self.failing.copy()?,

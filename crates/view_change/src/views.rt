@@ -104,7 +104,7 @@ impl Views {
         if signer >= self.sizes.n || v >= MOST_VIEW {
             return Ok(());
         }
-        let mut masters = voters_at(&self.suspects, v)?;
+        let mut masters = voters_at(&self.suspects, v);
         masters.add(signer);
         let is_suspected = masters.is_quorum(&self.sizes);
         self.suspects.insert(v, masters)?;
@@ -298,12 +298,12 @@ fn push_below(
 }
 
 /// The masters that suspect the leader of a view.
-fn voters_at(suspects: &BTreeMap<u64, VoterSet, Global>, v: u64) -> Result<VoterSet, Want>
-    ensures { IfOk result (λ masters. masters ≡ unwrap_or (at_view suspects.now.entries v) []) }
+fn voters_at(suspects: &BTreeMap<u64, VoterSet, Global>, v: u64) -> VoterSet
+    ensures { result ≡ unwrap_or (at_view suspects.now.entries v) [] }
 {
     match suspects.get(&v) {
-        Some(masters) => masters.copy(),
-        None => Ok(VoterSet::empty()),
+        Some(masters) => masters.copied(),
+        None => VoterSet::empty(),
     }
 }
 

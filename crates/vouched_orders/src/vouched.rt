@@ -9,7 +9,7 @@ ghost use Rattle.vouched_orders.specs.Tally.{ballot, masters_at, order_with, wit
 use crate::ballots::ballot_of;
 use crate::vote::Vote;
 use message_types::{Order, Voucher};
-use plain_lists::{Copied, Want};
+use plain_lists::Want;
 use quorum_sets::{Sizes, VoterSet};
 use std::alloc::Global;
 use std::collections::BTreeMap;
@@ -63,7 +63,7 @@ impl Vouched {
     pub fn ready(&self, vote: &Vote) -> Result<Vec<Order, Global>, Want>
         ensures { IfOk result (λ orders. MakesDone self.now vote.now orders.items) }
     {
-        let masters = masters_with(&self.masters, &self.sizes, vote)?;
+        let masters = masters_with(&self.masters, &self.sizes, vote);
         let settles = masters.len() > self.sizes.f;
         let is_done = follows(self.count, vote.voucher.number) & settles;
         if !is_done {
@@ -78,7 +78,7 @@ impl Vouched {
         ensures ok { OnOk result (TakesVote self.old vote self.new) }
         ensures err { OnErr result (TalliesAlike self.old self.new) }
     {
-        let masters = masters_with(&self.masters, &self.sizes, &vote)?;
+        let masters = masters_with(&self.masters, &self.sizes, &vote);
         let settles = masters.len() > self.sizes.f;
         note(
             &mut self.masters,
@@ -104,15 +104,15 @@ fn masters_with(
     tally: &BTreeMap<[u64; 5], VoterSet, Global>,
     sizes: &Sizes,
     vote: &Vote,
-) -> Result<VoterSet, Want>
-    ensures { IfOk result (λ masters. masters ≡ with_signer sizes.now.n (masters_at tally.now (ballot vote.now.voucher.number vote.now.voucher.order)) vote.now.signer) }
+) -> VoterSet
+    ensures { result ≡ with_signer sizes.now.n (masters_at tally.now (ballot vote.now.voucher.number vote.now.voucher.order)) vote.now.signer }
 {
     let mut masters = match tally.get(&ballot_of(&vote.voucher)) {
-        Some(masters) => masters.copy()?,
+        Some(masters) => masters.copied(),
         None => VoterSet::empty(),
     };
     add_signer(&mut masters, sizes, vote.signer);
-    Ok(masters)
+    masters
 }
 
 fn add_signer(masters: &mut VoterSet, sizes: &Sizes, signer: u32)

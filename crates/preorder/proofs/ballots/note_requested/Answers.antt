@@ -9,16 +9,16 @@ use Rattle.preorder.proofs.ballots.note_requested.Goals as goal
 pub returns-then-is_some-clause-noted : goal.returns-then-is_some-clause-noted
 returns-then-is_some-clause-noted c = λ known has.
     has_ballots-known known c.args.frame.now c.args.digest c.args.ballots.now.entries c.requires
-    (c.if-is_some.ensures ∙ ap is_some c.in_ok-ballot.ensures.update) has
+    (c.if-is_some.ensures ∙ ap is_some c.ballot_at-ballot.ensures.update) has
 
 pub returns-clause-noted : goal.returns-clause-noted
 returns-clause-noted c = λ known has.
     let ballot : Ballot = record {
       update = Some c.args.frame.now.body.update.body;
       voters =
-          c.in_ok-ballot.ballot.voters;
+          c.ballot_at-ballot.result.voters;
     } in
     has_ballots-requested known c.args.frame.now c.args.digest ballot c.args.ballots.now.entries
     c.insert.new.self.entries c.requires refl
-    c.in_ok-ballot.ensures.voters (none_there _ (c.if-is_some.ensures ∙ ap is_some c.in_ok-ballot.ensures.update))
+    c.ballot_at-ballot.ensures.voters (none_there _ (c.if-is_some.ensures ∙ ap is_some c.ballot_at-ballot.ensures.update))
     c.in_ok-insert.ensures.updates.0 has

@@ -8,11 +8,11 @@ use Rattle.preorder.proofs.ballots.note_vote.Goals as goal
 
 pub returns-clause-noted : goal.returns-clause-noted
 returns-clause-noted c = λ known has.
-    let ballot : Ballot = record { update = c.in_ok-ballot.ballot.update; voters = c.add.new.self } in
+    let ballot : Ballot = record { update = c.ballot_at-ballot.result.update; voters = c.add.new.self } in
     let signer = c.args.frame.now.signer in
     has_ballots-voted known c.args.frame.now ballot c.args.ballots.now.entries c.insert.new.self.entries
-    c.in_ok-ballot.ensures.update
+    c.ballot_at-ballot.ensures.update
     (λ m below. ap (λ set. has_master set m) c.add.ensures.added
-    ∙ has_master-voters_below (λ x. nat_eq x signer || has_master c.in_ok-ballot.ballot.voters x) 14 m below
-    ∙ ap (λ b. nat_eq m signer || b) (c.in_ok-ballot.ensures.voters m below))
+    ∙ has_master-voters_below (λ x. nat_eq x signer || has_master c.ballot_at-ballot.result.voters x) 14 m below
+    ∙ ap (λ b. nat_eq m signer || b) (c.ballot_at-ballot.ensures.voters m below))
     c.in_ok-insert.ensures.updates.0 has

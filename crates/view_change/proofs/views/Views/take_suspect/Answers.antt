@@ -43,7 +43,7 @@ returns-clause-ok c = λ within sig g me known said is.
     suspect-taken g me c.args.self.now _ known said c.args.signer c.args.v sig c.add.new.self
     c.is_quorum-is_suspected.result (omega arith) (omega arith)
     (c.add.ensures.added ∙ ap (λ ms. with_master ms c.args.signer)
-    (c.in_ok-masters.ensures ∙ ap (λ (v : ViewState). suspects_of v c.args.v) c.self.view_is))
+    (c.voters_at-masters.ensures ∙ ap (λ (v : ViewState). suspects_of v c.args.v) c.self.view_is))
     (quorum-is c.self.inside.sizes.n c.self.inside.sizes.q c.add.new.self c.is_quorum-is_suspected.result
     c.is_quorum-is_suspected.ensures
     ∙ ap (λ n. has_quorum n c.self.inside.sizes.q (has_master c.add.new.self)) masters

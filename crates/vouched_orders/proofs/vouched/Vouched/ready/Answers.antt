@@ -21,8 +21,8 @@ returns-then-not-is_done c = λ n f votes is.
     let same : done c.self.inside.sizes.n c.self.inside.sizes.f (votes ++ c.args.vote.now ∷ []) ≡ done
     c.self.inside.sizes.n c.self.inside.sizes.f votes =
     ready-none c.self.inside.sizes.n c.self.inside.sizes.f few votes c.args.vote.now c.self.inside.masters
-    c.self.inside.settled c.self.inside.count c.in_ok-masters.masters (nat_lt c.self.inside.sizes.f c.len.result)
-    t.tally c.in_ok-masters.ensures (ap (nat_lt c.self.inside.sizes.f) c.len.ensures) nothing in
+    c.self.inside.settled c.self.inside.count c.masters_with-masters.result (nat_lt c.self.inside.sizes.f c.len.result)
+    t.tally c.masters_with-masters.ensures (ap (nat_lt c.self.inside.sizes.f) c.len.ensures) nothing in
     done-sized n f c.self.inside.sizes.n c.self.inside.sizes.f (votes ++ c.args.vote.now ∷ [])
     votes c.new.result.items t.masters t.intruded
     (same ∙ sym (append-[] (done c.self.inside.sizes.n c.self.inside.sizes.f votes))
@@ -40,6 +40,6 @@ returns c = λ n f votes is.
     done-sized n f c.self.inside.sizes.n c.self.inside.sizes.f (votes ++ c.args.vote.now ∷ [])
     votes c.in_ok-orders.orders.items t.masters t.intruded
     (ready-run c.self.inside.sizes.n c.self.inside.sizes.f few votes c.args.vote.now c.self.inside.masters
-    c.self.inside.settled c.self.inside.count c.in_ok-masters.masters (nat_lt c.self.inside.sizes.f c.len.result)
-    c.in_ok-orders.orders.items t.tally c.in_ok-masters.ensures (ap (nat_lt c.self.inside.sizes.f) c.len.ensures)
+    c.self.inside.settled c.self.inside.count c.masters_with-masters.result (nat_lt c.self.inside.sizes.f c.len.result)
+    c.in_ok-orders.orders.items t.tally c.masters_with-masters.ensures (ap (nat_lt c.self.inside.sizes.f) c.len.ensures)
     fits next both.1 c.in_ok-orders.ensures.each c.in_ok-orders.ensures.end)

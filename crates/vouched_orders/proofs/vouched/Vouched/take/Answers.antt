@@ -7,7 +7,7 @@ use Rattle.quorum_sets.proofs.Numbered.{masters_few}
 use Rattle.vouched_orders.proofs.vouched.Vouched.take.Goals as goal
 
 pub returns-in_err-note-clause-err : goal.returns-in_err-note-clause-err
-returns-in_err-note-clause-err c = on_err c.from_residual-in_err-note.result (λ n f votes is.
+returns-in_err-note-clause-err c = on_err c.from_residual.result (λ n f votes is.
     let t = subst (λ (v : Tally). IsTallyOf n f votes v) (sym c.self.view_is) is in
     record {
       masters = t.masters;
@@ -27,8 +27,8 @@ returns-clause-ok c = λ n f votes is.
       masters = t.masters;
       intruded = t.intruded;
       tally = tally-push c.self.inside.sizes.n c.self.inside.sizes.f few votes c.args.vote c.self.inside.masters
-          c.self.inside.settled c.self.inside.count c.in_ok-masters.masters (nat_lt c.self.inside.sizes.f c.len.result)
-          c.note.new.masters c.note.new.settled c.end_of_run-self-inside.result t.tally c.in_ok-masters.ensures
+          c.self.inside.settled c.self.inside.count c.masters_with-masters.result (nat_lt c.self.inside.sizes.f c.len.result)
+          c.note.new.masters c.note.new.settled c.end_of_run-self-inside.result t.tally c.masters_with-masters.ensures
           (ap (nat_lt c.self.inside.sizes.f) c.len.ensures) fits
           c.in_ok-note.ensures.masters c.in_ok-note.ensures.settled e.from e.run e.end;
     }
