@@ -13,8 +13,8 @@ use Rattle.kept_lines.specs.Lines.{kept_file}
 use Rattle.station_lives.specs.Saying.{word_lines}
 
 -- a scenario as the owner of one key reads it: whatever stands for the seed, and the keys that are held
-abbrev pub without_seed : Contents → List ℕ → HeldKeys → Contents
-without_seed c other held = record c { settings = record c.settings { seed = other }; held = Some held }
+abbrev pub with_key_alone : Contents → List ℕ → HeldKeys → Contents
+with_key_alone c other held = record c { settings = record c.settings { seed = other }; held = Some held }
 
 -- What is held is the ring of all actors' public keys of a scenario with its seed, and one actor's own key in it.
 pub record Owns (c : Contents) (actor : ℕ) (held : HeldKeys) : Type 0 where
@@ -26,16 +26,16 @@ pub record Owns (c : Contents) (actor : ℕ) (held : HeldKeys) : Type 0 where
 abbrev pub OwnersAreStations : Type 0
 OwnersAreStations =
     (c : Contents) (actor : ℕ) (held : HeldKeys) (other : List ℕ) (list : List Entry) → Owns c actor held →
-    IsStation (without_seed c other held) actor list → IsStation c actor list
+    IsStation (with_key_alone c other held) actor list → IsStation c actor list
 
 -- An owner's file is, byte for byte, the one that is kept under the scenario with its seed.
 abbrev pub OwnersKeepTheSame : Type 0
 OwnersKeepTheSame =
     (c : Contents) (actor : ℕ) (held : HeldKeys) (other : List ℕ) (list : List Entry) → Owns c actor held →
-    acts_alone actor list ≡ true → kept_file (without_seed c other held) list ≡ kept_file c list
+    acts_alone actor list ≡ true → kept_file (with_key_alone c other held) list ≡ kept_file c list
 
 -- An owner's words are, byte for byte, those that its actor says under the scenario with its seed.
 abbrev pub OwnersSayTheSame : Type 0
 OwnersSayTheSame =
     (c : Contents) (held : HeldKeys) (other : List ℕ) (before : List Entry) (e : Entry) → Owns c e.actor held →
-    word_lines (without_seed c other held) before e ≡ word_lines c before e
+    word_lines (with_key_alone c other held) before e ≡ word_lines c before e

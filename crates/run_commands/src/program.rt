@@ -109,6 +109,6 @@ fn unposed_text<R: Runs, F: Files>(
             files,
         ),
         Asked::Merge { scenario, keeps } => merge(alloc, runs, scenario, keeps.as_slice(), files),
-        _ => Err(Refusal::Usage),
+        _ => unreachable!(),
     }
 }
