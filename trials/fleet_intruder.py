@@ -1,8 +1,9 @@
 #!/usr/bin/env python3
 """An intruded master's station, for trials/fleet: it does what a correct one does, and tampers with what that says. Words go to
 some of those that they are for, or to nobody; beside others it says a contradicting word of its own, which stands, since it has the
-key; and it says words in other masters' names and altered ones, which don't. To each client it vouches for an order that nobody gave,
-before the others vouch for one of that number. All else it says is about RATE words a second, and beyond that it is silent.
+key; and it says words in other masters' names and altered ones, which don't. To each client it vouches for orders that nobody
+gave, before the others vouch for one of that number: up to about three such words for each other word. These others are some RATE
+words a second, and beyond that it is silent. (What it says stands in a merge by its bytes, and `replay` reads 16 MiB.)
 
     trials/fleet_intruder.py station SCENARIO ACTOR KEEP [RING KEY]
     DEALER: the scenario with its seed, where SCENARIO has none (of it this uses its own key alone). CORRECT: the program whose station it runs (trials/reference/stations.py)"""
@@ -28,7 +29,7 @@ class Intruder:
         self.key, self.draw = scenario.key(actor), random.Random(actor)
         # (from the last leaf down, in whatever life: what an intruder signs twice is its own affair)
         self.leaf = self.key.total - 1 - int(time.time()) % 1000 * 8
-        self.words, self.since = 0, time.monotonic()
+        self.words, self.vouched, self.since = 0, 0, time.monotonic()
 
     def line(self, to, frame):
         self.words += len(to)
@@ -58,12 +59,14 @@ class Intruder:
         """What is said in a line's place."""
         _, names, text = line.decode().split()
         names, frame, ahead = names.split(','), second.read_frame(bytes.fromhex(text)), b''
-        if frame.body.kind == second.VOUCHER:
+        due = RATE * (time.monotonic() - self.since) + 10
+        if frame.body.kind == second.VOUCHER and self.vouched <= 3 * due:
             # before anybody's vouchers of the next number, one for an order that nobody gave
             client, number, _ = frame.body.a
             order = self.other(frame.body).a[2]
+            self.vouched += 1
             ahead = self.line(names, self.signed(second.Body(second.VOUCHER, client, number + 1, order)))
-        if self.words > RATE * (time.monotonic() - self.since) + 10:
+        if self.words > due:
             return ahead
         return ahead + self.tampered(line, names, frame)
 
